@@ -1,0 +1,13 @@
+pub mod Examples
+pub mod Fit
+pub mod Strings
+pub mod Shape
+pub mod Entries
+pub mod Writes
+pub mod Content
+pub mod Codes
+pub mod Step
+pub mod Body
+pub mod Stream
+pub mod Good
+pub mod Claims

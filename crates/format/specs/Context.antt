@@ -1,0 +1,89 @@
+-- Everything that the events before leave behind: state, string tables, learned productions and element grammars. One definition
+-- says what an event leaves, for the strict form, the reader and the writer.
+use mathlib.Core.Bool.{Bool, true, false, cond}
+use mathlib.Core.List.{List, [], _∷_, _++_}
+use mathlib.Core.Option.{Option, none, some}
+use Rattle.text.specs.Text.{Text}
+use Rattle.format.specs.Event.{QName, Event, startDocument, endDocument, endElement, startElement, attribute, characters, comment, instruction}
+use Rattle.format.specs.Settings.{Settings}
+use Rattle.format.specs.Tables.{Tables, Role, uri, local, value, target, plain, Form, partitionsOf, strictForm, tablesAfter, startTables}
+use Rattle.format.specs.Grammar.{Production, State, document, docContent, docEnd, finished, startTag, elementContent, Learned, Code, levels, codeOf, taught, learnedAfter, grammarsAfter, stateAfter}
+
+pub record Context : Type 0 where
+  pub state : State
+  pub tables : Tables
+  pub learned : List Learned
+  -- the names of the elements that have a grammar
+  pub grammars : List (QName Text)
+
+unfoldable pub start : Context
+start = record { state = document; tables = startTables; learned = []; grammars = [] }
+
+unfoldable pub codesIn : Settings → Context → List (List Production)
+codesIn s c = levels s (c .learned) (c .state)
+
+-- ---- the strings of an event
+
+-- A string of an event: where it stands, and whether it is written: a learned production carries the name of its events.
+pub record Item : Type 0 where
+  pub role : Role
+  pub written : Bool
+  pub text : Text
+
+unfoldable pub item : Role → Text → Item
+item r x = record { role = r; written = true; text = x }
+
+-- Characters stand inside an element alone, and are values of its name.
+unfoldable pub characterRole : State → Role
+characterRole document = plain
+characterRole docContent = plain
+characterRole docEnd = plain
+characterRole finished = plain
+characterRole (startTag q outer) = value q
+characterRole (elementContent q outer) = value q
+
+-- SE(*) and AT(*) carry no name.
+unfoldable pub isWildcard : Option (QName Text) → Bool
+isWildcard none = true
+isWildcard (some q) = false
+
+unfoldable pub nameItems : Production → Bool → QName Text → List Item
+nameItems p attr q =
+    record { role = uri; written = isWildcard (p .qname); text = q .uri }
+    ∷ record { role = local attr (q .uri); written = isWildcard (p .qname); text = q .local }
+    ∷ []
+
+unfoldable pub items : State → Production → Event Text → List Item
+items st p startDocument = []
+items st p endDocument = []
+items st p endElement = []
+items st p (startElement q) = nameItems p false q
+items st p (attribute q v) = nameItems p true q ++ (item (value q) v ∷ [])
+items st p (characters v) = item (characterRole st) v ∷ []
+items st p (comment x) = item plain x ∷ []
+items st p (instruction x y) = item target x ∷ item plain y ∷ []
+
+unfoldable pub afterItem : Tables → Item → Tables
+afterItem t i = cond (i .written) (tablesAfter t (i .role) (strictForm (partitionsOf t (i .role)) (i .text)) (i .text)) t
+
+unfoldable pub afterItems : Tables → List Item → Tables
+afterItems t [] = t
+afterItems t (i ∷ is) = afterItems (afterItem t i) is
+
+-- ---- what an event with a code leaves
+unfoldable pub after : Context → Code → Event Text → Context
+after c x e =
+    record {
+      state = stateAfter (c .state) e;
+      tables = afterItems (c .tables) (items (c .state) (x .production) e);
+      learned = learnedAfter (c .state) (taught (x .parts) e) (c .learned);
+      grammars = grammarsAfter (c .grammars) e
+    }
+
+unfoldable pub afterCode : Context → Option Code → Event Text → Context
+afterCode c none e = c
+afterCode c (some x) e = after c x e
+
+-- An event that no production fits stands in no well-formed list, and leaves nothing.
+unfoldable pub next : Settings → Context → Event Text → Context
+next s c e = afterCode c (codeOf (codesIn s c) e) e

@@ -1,0 +1,12 @@
+pub mod Sizes
+pub mod Settings
+pub mod Event
+pub mod Tables
+pub mod Grammar
+pub mod Context
+pub mod Strict
+pub mod Lists
+pub mod Reader
+pub mod Writer
+pub mod Examples
+pub mod Claims

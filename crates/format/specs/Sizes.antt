@@ -1,0 +1,56 @@
+-- The sizes (scope, "Sizes"), each named here and nowhere else.
+use Prim.Native.Nat.{ℕ, _*_}
+
+-- octets of a stream
+unfoldable pub maxStream : ℕ
+maxStream = 16384
+
+unfoldable pub maxEvents : ℕ
+maxEvents = 4096
+
+-- elements open at once
+unfoldable pub maxOpen : ℕ
+maxOpen = 100
+
+unfoldable pub maxUris : ℕ
+maxUris = 16
+
+-- local names over all URIs
+unfoldable pub maxNames : ℕ
+maxNames = 128
+
+-- distinct non-empty values
+unfoldable pub maxValues : ℕ
+maxValues = 512
+
+-- element grammars
+unfoldable pub maxGrammars : ℕ
+maxGrammars = 64
+
+-- learned productions in all
+unfoldable pub maxLearned : ℕ
+maxLearned = 512
+
+-- code points of one string
+unfoldable pub maxString : ℕ
+maxString = 1024
+
+-- code points of the text store
+unfoldable pub maxStore : ℕ
+maxStore = 16384
+
+-- ---- what is lent, in cells of 32 bits (ours: docs/MEMORY.md)
+
+unfoldable pub cellsPerEvent : ℕ
+cellsPerEvent = 7
+
+unfoldable pub eventCells : ℕ
+unfolding cellsPerEvent maxEvents
+eventCells = cellsPerEvent * maxEvents
+
+-- work memory of the reader, and of the writer, which has a text store in it
+unfoldable pub readerWork : ℕ
+readerWork = 8192
+
+unfoldable pub writerWork : ℕ
+writerWork = 24576

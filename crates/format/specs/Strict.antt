@@ -1,0 +1,37 @@
+-- The strict form of a list (scope, "Grammars"; ours): the header, then each event's code and content in list order, by the tables and
+-- grammars as everything before has left them.
+use mathlib.Core.Bool.{cond}
+use mathlib.Core.List.{List, [], _∷_, _++_}
+use mathlib.Core.Option.{Option, none, some}
+use Prim.Native.Nat.{ℕ}
+use Rattle.fields.specs.Bits.{Bits, unpack, pack}
+use Rattle.fields.specs.Field.{Alignment}
+use Rattle.text.specs.Text.{Text}
+use Rattle.format.specs.Event.{Event}
+use Rattle.format.specs.Settings.{Settings, headerOf}
+use Rattle.format.specs.Tables.{Tables, partitionsOf, strictForm, formBits}
+use Rattle.format.specs.Grammar.{Code, codeOf, codeBits}
+use Rattle.format.specs.Context.{Context, start, codesIn, Item, items, afterItem, next}
+
+unfoldable pub itemBits : Alignment → Tables → Item → Bits
+itemBits a t i = cond (i .written) (formBits a (partitionsOf t (i .role)) (strictForm (partitionsOf t (i .role)) (i .text)) (i .text)) []
+
+unfoldable pub itemsBits : Alignment → Tables → List Item → Bits
+itemsBits a t [] = []
+itemsBits a t (i ∷ is) = itemBits a t i ++ itemsBits a (afterItem t i) is
+
+unfoldable pub codedBits : Settings → Context → Option Code → Event Text → Bits
+codedBits s c none e = []
+codedBits s c (some x) e =
+    codeBits (s .alignment) (codesIn s c) (x .parts)
+    ++ itemsBits (s .alignment) (c .tables) (items (c .state) (x .production) e)
+
+unfoldable pub eventBits : Settings → Context → Event Text → Bits
+eventBits s c e = codedBits s c (codeOf (codesIn s c) e) e
+
+unfoldable pub listBits : Settings → Context → List (Event Text) → Bits
+listBits s c [] = []
+listBits s c (e ∷ l) = eventBits s c e ++ listBits s (next s c e) l
+
+unfoldable pub strict : Settings → List (Event Text) → List ℕ
+strict s l = pack (unpack (headerOf s) ++ listBits s start l)

@@ -1,0 +1,50 @@
+-- Texts: lists of code points. Strings in a text store: a place and a length in it (scope, "What is bought").
+use Prim.Native.Nat.{ℕ, zero, suc, _+_}
+use Prim.Native.Char.{code}
+use Prim.Native.String.{String}
+use mathlib.Core.Bool.{Bool, true, false, cond, _&&_, _||_}
+use mathlib.Core.List.{List, [], _∷_}
+use lib.ListN.{length, take, drop}
+use lib.Dec.{eqb, leb}
+
+abbrev pub Text : Type 0
+Text = List ℕ
+
+-- The code points of a literal.
+unfoldable pub text : String → Text
+text String.[] = []
+text (String._∷_ c s) = code c ∷ text s
+
+unfoldable pub eqText : Text → Text → Bool
+eqText [] [] = true
+eqText [] (y ∷ ys) = false
+eqText (x ∷ xs) [] = false
+eqText (x ∷ xs) (y ∷ ys) = eqb x y && eqText xs ys
+
+unfoldable pub isEmpty : Text → Bool
+isEmpty [] = true
+isEmpty (x ∷ xs) = false
+
+-- XML 1.0 Char (scope, "Fields")
+unfoldable pub isChar : ℕ → Bool
+isChar p =
+    eqb p 9 || eqb p 10 || eqb p 13
+    || (leb 32 p && leb p 55295)
+    || (leb 57344 p && leb p 65533)
+    || (leb 65536 p && leb p 1114111)
+
+unfoldable pub allChars : Text → Bool
+allChars [] = true
+allChars (p ∷ ps) = isChar p && allChars ps
+
+-- A string in a store.
+pub record Span : Type 0 where
+  pub place : ℕ
+  pub size : ℕ
+
+unfoldable pub inside : Text → Span → Bool
+inside store x = leb (x .place + x .size) (length store)
+
+-- That part of the store, or the empty part where the string lies outside it.
+unfoldable pub part : Text → Span → Text
+part store x = cond (inside store x) (take (x .size) (drop (x .place) store)) []
