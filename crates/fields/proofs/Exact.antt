@@ -1,7 +1,6 @@
 -- What it means that a parser reads exactly: `Reads p R` says that p gives a value a and the rest just where bits w with `R a w` stand
 -- before the rest. The laws below put such parsers together.
 use mathlib.Core.Path.{_≡_, refl, sym, _∙_, ap, subst}
-use mathlib.Core.Logic.{_⊎_, inl, inr, ⊎-elim}
 use mathlib.Core.List.{List, [], _∷_, _++_, append-assoc, append-nil}
 use mathlib.Core.Bool.{Bool, true, false, cond, not}
 use mathlib.Core.Option.{Option, none, some, Option·none-ne-some}
@@ -31,11 +30,11 @@ module _ {A : Type 0} where
 
   -- The same parser, by an equivalent relation.
   pub reads-as : {p : Parser A} {R S : A → Bits → Type 0} → Reads p R → ((a : A) (w : Bits) → R a w → S a w)
-    → ((a : A) (w : Bits) → S a w → R a w) → Reads p S
+      → ((a : A) (w : Bits) → S a w → R a w) → Reads p S
   reads-as h to from =
       record {
         sound = λ bs a rest e. let (w, r, q) = h .sound bs a rest e in (w, to a w r, q);
-        complete = λ a w rest x. h .complete a w rest (from a w x)
+        complete = λ a w rest x. h .complete a w rest (from a w x);
       }
 
   -- Reads nothing and gives a.
@@ -48,7 +47,7 @@ module _ {A : Type 0} where
   reads-return a =
       record {
         sound = λ bs x rest e. ([], record { is = sym (got-value e); empty = refl }, got-rest e);
-        complete = λ x w rest h. let e : _≡_ {A = Result A} (got a (w ++ rest)) (got x rest) = cc (h .is, h .empty) in e
+        complete = λ x w rest h. let e : _≡_ {A = Result A} (got a (w ++ rest)) (got x rest) = cc (h .is, h .empty) in e;
       }
 
   pub reads-fail : (k : Refusal) → Reads (fail k) (λ (x : A) w. ⊥)
@@ -80,7 +79,7 @@ module _ {A B : Type 0} where
     pub joined : w ≡ front ++ back
 
   pub reads-then : {p : Parser A} {f : A → Parser B} {R : A → Bits → Type 0} {S : A → B → Bits → Type 0} → Reads p R
-    → ((a : A) (u : Bits) → R a u → Reads (f a) (S a)) → Reads (p >>= f) (Then R S)
+      → ((a : A) (u : Bits) → R a u → Reads (f a) (S a)) → Reads (p >>= f) (Then R S)
   unfolding _>>=_ andThen
   reads-then {p} {f} {R} {S} h k = record { sound = λ bs b rest e. after bs b rest (p bs) refl e; complete = there }
     where
@@ -112,32 +111,42 @@ module _ {A B : Type 0} where
       (λ b w x. record {
         from = x .first;
         by = subst (R (x .first)) (sym (x .joined ∙ ap (λ v. x .front ++ v) (x .two .empty) ∙ append-nil (x .front))) (x .one);
-        is = x .two .is
+        is = x .two .is;
       })
       (λ b w x. record {
-        first = x .from; front = w; back = []; one = x .by; two = record { is = x .is; empty = refl }; joined = sym (append-nil w)
+        first = x .from;
+        front = w;
+        back = [];
+        one = x .by;
+        two = record { is = x .is; empty = refl };
+        joined = sym (append-nil w);
       })
 
 -- A test before a parser.
 pub reads-guard : {A : Type 0} {p : Parser A} {R : A → Bits → Type 0} (b : Bool) (k : Refusal) → (T b → Reads p R)
-  → Reads (need b k >> p) (λ a w. T b × R a w)
+    → Reads (need b k >> p) (λ a w. T b × R a w)
 unfolding need _>>_ _>>=_ andThen return fail
 reads-guard true k h = reads-as (h tt) (λ a w r. (tt, r)) (λ a w r. r .1)
 reads-guard false k h = record { sound = λ bs a rest e. not-got e; complete = λ a w rest r. absurd (r .0) }
 
 -- A value by R that passes a test.
 pub reads-checked : {A : Type 0} {p : Parser A} {R : A → Bits → Type 0} → Reads p R → (f : A → Bool) (k : Refusal)
-  → Reads (p >>= λ a. need (f a) k >> return a) (λ a w. R a w × T (f a))
+    → Reads (p >>= λ a. need (f a) k >> return a) (λ a w. R a w × T (f a))
 reads-checked {p} {R} h f k =
     reads-as (reads-then h (λ a u r. reads-guard (f a) k (λ t. reads-return a)))
     (λ a w x.
-      let i : x .first ≡ a = sym (x .two .1 .is) in
-      let j : x .front ≡ w = sym (x .joined ∙ ap (λ v. x .front ++ v) (x .two .1 .empty) ∙ append-nil (x .front)) in
-      (subst (λ b. R b w) i (subst (R (x .first)) j (x .one)), subst (λ b. T (f b)) i (x .two .0)))
+    let i : x .first ≡ a = sym (x .two .1 .is) in
+    let j : x .front ≡ w = sym (x .joined ∙ ap (λ v. x .front ++ v) (x .two .1 .empty) ∙ append-nil (x .front)) in
+    (subst (λ b. R b w) i (subst (R (x .first)) j (x .one)), subst (λ b. T (f b)) i (x .two .0)))
     (λ a w x.
-      record {
-        first = a; front = w; back = []; one = x .0; two = (x .1, record { is = refl; empty = refl }); joined = sym (append-nil w)
-      })
+    record {
+      first = a;
+      front = w;
+      back = [];
+      one = x .0;
+      two = (x .1, record { is = refl; empty = refl });
+      joined = sym (append-nil w);
+    })
 
 -- ---- n values, each with its own bits
 
@@ -148,7 +157,7 @@ module _ {A : Type 0} where
   Every Ok (a ∷ l) = Ok a × Every Ok l
 
   pub reads-times : {p : Parser A} {Ok : A → Type 0} {bits : A → Bits} (n : ℕ) → Reads p (λ a w. Ok a × (w ≡ bits a))
-    → Reads (times n p) (λ l w. (length l ≡ n) × Every Ok l × (w ≡ each bits l))
+      → Reads (times n p) (λ l w. (length l ≡ n) × Every Ok l × (w ≡ each bits l))
   unfolding times each
   reads-times {p} {Ok} {bits} zero h = reads-as (reads-return []) (λ l w x. rw (x .is) (refl, tt, x .empty)) from
     where
@@ -161,7 +170,7 @@ module _ {A : Type 0} where
       from
     where
       from : (l : List A) (w : Bits) → (length l ≡ suc n) × Every Ok l × (w ≡ each bits l)
-        → Then (λ a v. Ok a × (v ≡ bits a)) (λ a. Mapped (λ m v. (length m ≡ n) × Every Ok m × (v ≡ each bits m)) (λ m. a ∷ m)) l w
+          → Then (λ a v. Ok a × (v ≡ bits a)) (λ a. Mapped (λ m v. (length m ≡ n) × Every Ok m × (v ≡ each bits m)) (λ m. a ∷ m)) l w
       from [] w x = absurd (omega arith)
       from (a ∷ l) w x =
           record {
@@ -170,5 +179,5 @@ module _ {A : Type 0} where
             back = each bits l;
             one = (x .1 .0, refl);
             two = record { from = l; by = (omega arith, x .1 .1, refl); is = refl };
-            joined = x .2
+            joined = x .2;
           }

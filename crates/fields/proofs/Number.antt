@@ -1,22 +1,22 @@
 -- The fields are read exactly: each parser gives a number and the rest just where the number's bits stand before the rest.
 use mathlib.Core.Path.{_≡_, refl, sym, _∙_, ap, subst}
 use mathlib.Core.List.{List, [], _∷_, _++_, append-nil}
-use mathlib.Core.Bool.{Bool, true, false, cond, not}
-use mathlib.Core.Option.{Option, none, some, Option·none-ne-some}
+use mathlib.Core.Bool.{Bool, true, false, cond}
+use mathlib.Core.Option.{some, Option·none-ne-some}
 use mathlib.Core.Logic.{⊎-elim}
 use Prim.Native.Nat.{ℕ, zero, suc, _+_, _*_, _-_, _/_, _%_, _^_, _≤_, _<_, zero-le, suc-le-suc}
-use native.Mathlib.Nat.{pow-suc, add-zero, zero-add, add-suc, suc-add, lt-of-lt-of-le, eq-or-lt-of-le, mod-lt, mod-eq-of-lt, one-le-pow, zero-mul, one-mul, div-lt-iff-lt-mul, mul-comm}
+use native.Mathlib.Nat.{pow-suc, add-zero, zero-add, add-suc, suc-add, lt-of-lt-of-le, eq-or-lt-of-le, mod-lt, one-le-pow, zero-mul, one-mul, div-lt-iff-lt-mul, mul-comm}
 use native.Mathlib.Omega.{arith}
-use lib.ListN.{length, getElem?, length-append}
+use lib.ListN.{length, getElem?}
 use lib.Dec.{T, leb, ltb, eqb, ltb→lt, nltb→le, lt→ltb, leb→le, le→leb}
 use lib.Pow.{pow-pos, pow-add, pow-mono, high, low, split as recomposed}
 use borrow.Author.Tests.{leb-true, leb-false, ltb-true, ltb-false, lt-ltb, le-ltb}
 use Rattle.fields.specs.Bits.{Bits, bitsOf, valueOf, each, unpack, octetsFor}
-use Rattle.fields.specs.Refusal.{Refusal, ended, number}
-use Rattle.fields.specs.Parser.{Result, bad, got, Parser, return, fail, present, need, _>>=_, _>>_, times}
+use Rattle.fields.specs.Refusal.{Refusal, number}
+use Rattle.fields.specs.Parser.{got, return, need, _>>=_, _>>_, times}
 use Rattle.fields.specs.Field.{Alignment, bitPacked, byteAligned, bit, octet, littleEndian, littleValue, numberBits, numberField, widthFrom, width, choiceBits, choice, maxOctets, maxUnsigned, groups, unsignedBits, grouped, unsigned}
-use Rattle.fields.proofs.Tests.{T-is, is-T, either, split}
-use Rattle.fields.proofs.Exact.{Reads, Returned, Then, reads-as, reads-return, reads-fail, reads-present, reads-cond, reads-need, reads-then, reads-map, reads-guard, reads-checked, reads-times, Mapped, Every, got-value, got-rest, not-got}
+use Rattle.fields.proofs.Tests.{split}
+use Rattle.fields.proofs.Exact.{Reads, Returned, Then, reads-as, reads-return, reads-fail, reads-present, reads-cond, reads-then, reads-map, reads-guard, reads-checked, reads-times, Every, not-got}
 
 -- ---- bits and the number that they stand for
 
@@ -80,13 +80,14 @@ bits-reads : (n : ℕ) → Reads (times n bit >>= λ bs. return (valueOf bs)) (�
 bits-reads n =
     reads-as (reads-map (reads-times n bit-reads) valueOf)
     (λ v w h.
-      let bs = h .from in
-      let e : w ≡ bs = h .by .2 ∙ each-bit bs in
-      (rw (h .is) (subst (λ k. valueOf bs < 2 ^ k) (h .by .0) (value-bound bs)),
-      e ∙ sym (bits-of-value bs) ∙ ap (λ k. bitsOf k (valueOf bs)) (h .by .0) ∙ ap (bitsOf n) (sym (h .is))))
+    let bs = h .from in
+    let e : w ≡ bs = h .by .2 ∙ each-bit bs in (
+      rw (h .is) (subst (λ k. valueOf bs < 2 ^ k) (h .by .0) (value-bound bs)),
+      e ∙ sym (bits-of-value bs) ∙ ap (λ k. bitsOf k (valueOf bs)) (h .by .0) ∙ ap (bitsOf n) (sym (h .is)),
+    ))
     (λ v w h.
-      let bs = bitsOf n v in
-      record { from = bs; by = (length-bits n v, each-true bs, h .1 ∙ sym (each-bit bs)); is = sym (value-of-bits n v (h .0)) })
+    let bs = bitsOf n v in
+    record { from = bs; by = (length-bits n v, each-true bs, h .1 ∙ sym (each-bit bs)); is = sym (value-of-bits n v (h .0)) })
 
 abbrev pub IsOctet : ℕ → Type 0
 IsOctet o = o < 256
@@ -131,12 +132,13 @@ unfolding unpack
 little-reads k =
     reads-as (reads-map (reads-times k octet-reads) littleValue)
     (λ v w h.
-      let os = h .from in
-      let l = h .by .0 in
-      (rw (h .is) (subst (λ n. littleValue os < 256 ^ n) l (little-bound os (h .by .1))),
-      h .by .2 ∙ ap (each (bitsOf 8)) (sym (little-of-value os (h .by .1)) ∙ ap (λ n. littleEndian n (littleValue os)) l ∙ ap (littleEndian k) (sym (h .is)))))
+    let os = h .from in
+    let l = h .by .0 in (
+      rw (h .is) (subst (λ n. littleValue os < 256 ^ n) l (little-bound os (h .by .1))),
+      h .by .2 ∙ ap (each (bitsOf 8)) (sym (little-of-value os (h .by .1)) ∙ ap (λ n. littleEndian n (littleValue os)) l ∙ ap (littleEndian k) (sym (h .is))),
+    ))
     (λ v w h.
-      record { from = littleEndian k v; by = (length-little k v, little-octets k v, h .1); is = sym (value-of-little k v (h .0)) })
+    record { from = littleEndian k v; by = (length-little k v, little-octets k v, h .1); is = sym (value-of-little k v (h .0)) })
 
 -- The numbers that a field of n bits can hold.
 abbrev pub bound : Alignment → ℕ → ℕ
@@ -207,19 +209,19 @@ unfolding choice choiceBits
 choice-reads a k l =
     reads-as (reads-then (number-reads a (width (length l))) (λ v u h. reads-map (reads-present k (getElem? l v)) (λ x. (v, x))))
     (λ x w h.
-      record {
-        names = rw (h .two .is) (h .two .by .0);
-        bits = h .joined ∙ ap (λ v. h .front ++ v) (h .two .by .1) ∙ append-nil (h .front) ∙ h .one .1 ∙ ap (λ y. numberBits a (width (length l)) (y .0)) (sym (h .two .is))
-      })
+    record {
+      names = rw (h .two .is) (h .two .by .0);
+      bits = h .joined ∙ ap (λ v. h .front ++ v) (h .two .by .1) ∙ append-nil (h .front) ∙ h .one .1 ∙ ap (λ y. numberBits a (width (length l)) (y .0)) (sym (h .two .is));
+    })
     (λ x w h.
-      record {
-        first = x .0;
-        front = w;
-        back = [];
-        one = (in-bound a (width (length l)) (lt-of-lt-of-le (member-below l (x .0) (h .names)) (width-enough (length l))), h .bits);
-        two = record { from = x .1; by = (h .names, refl); is = refl };
-        joined = sym (append-nil w)
-      })
+    record {
+      first = x .0;
+      front = w;
+      back = [];
+      one = (in-bound a (width (length l)) (lt-of-lt-of-le (member-below l (x .0) (h .names)) (width-enough (length l))), h .bits);
+      two = record { from = x .1; by = (h .names, refl); is = refl };
+      joined = sym (append-nil w);
+    })
 
 -- ---- Unsigned Integer
 
@@ -229,22 +231,22 @@ data Tail (k o v : ℕ) (w : Bits) : Type 0 where
   more : (high : ℕ) → 128 ≤ o → 0 < high → 0 < k → high < 128 ^ k → v ≡ (o - 128) + 128 * high → w ≡ unpack (groups k high) → Tail k o v w
 
 tail-reads : (k o : ℕ) → Reads (grouped k) (λ v w. (0 < k) × (v < 128 ^ k) × (w ≡ unpack (groups k v)))
-  → Reads (cond (ltb o 128) (return o) (grouped k >>= λ high. need (ltb 0 high) number >> return ((o - 128) + 128 * high))) (Tail k o)
+    → Reads (cond (ltb o 128) (return o) (grouped k >>= λ high. need (ltb 0 high) number >> return ((o - 128) + 128 * high))) (Tail k o)
 tail-reads k o h =
     reads-cond (ltb o 128)
     (λ t. reads-as (reads-return o) (λ v w x. last (ltb→lt o 128 t) (x .is) (x .empty))
-      (λ v w x. lone (ltb→lt o 128 t) v w x))
+    (λ v w x. lone (ltb→lt o 128 t) v w x))
     (λ t. reads-as (reads-then h (λ high u x. reads-guard (ltb 0 high) number (λ t. reads-return ((o - 128) + 128 * high))))
-      (λ v w x. more (x .first) (nltb→le o 128 t) (ltb→lt 0 (x .first) (x .two .0)) (x .one .0) (x .one .1) (x .two .1 .is)
-        (x .joined ∙ ap (λ b. x .front ++ b) (x .two .1 .empty) ∙ append-nil (x .front) ∙ x .one .2))
-      (λ v w x. higher (nltb→le o 128 t) v w x))
+    (λ v w x. more (x .first) (nltb→le o 128 t) (ltb→lt 0 (x .first) (x .two .0)) (x .one .0) (x .one .1) (x .two .1 .is)
+    (x .joined ∙ ap (λ b. x .front ++ b) (x .two .1 .empty) ∙ append-nil (x .front) ∙ x .one .2))
+    (λ v w x. higher (nltb→le o 128 t) v w x))
   where
     lone : o < 128 → (v : ℕ) (w : Bits) → Tail k o v w → Returned o v w
     lone l v w (last h₁ e e′) = record { is = e; empty = e′ }
     lone l v w (more high h₁ h₂ h₃ h₄ e e′) = absurd (omega arith)
 
     higher : 128 ≤ o → (v : ℕ) (w : Bits) → Tail k o v w
-      → Then (λ v w. (0 < k) × (v < 128 ^ k) × (w ≡ unpack (groups k v))) (λ high v w. T (ltb 0 high) × Returned ((o - 128) + 128 * high) v w) v w
+        → Then (λ v w. (0 < k) × (v < 128 ^ k) × (w ≡ unpack (groups k v))) (λ high v w. T (ltb 0 high) × Returned ((o - 128) + 128 * high) v w) v w
     higher l v w (last h₁ e e′) = absurd (omega arith)
     higher l v w (more high h₁ h₂ h₃ h₄ e e′) =
         record {
@@ -253,7 +255,7 @@ tail-reads k o h =
           back = [];
           one = (h₃, h₄, e′);
           two = (lt→ltb 0 high h₂, record { is = e; empty = refl });
-          joined = sym (append-nil w)
+          joined = sym (append-nil w);
         }
 
 pub grouped-reads : (k : ℕ) → Reads (grouped k) (λ v w. (0 < k) × (v < 128 ^ k) × (w ≡ unpack (groups k v)))
@@ -265,7 +267,7 @@ grouped-reads (suc k) =
     (λ v w h. split (ltb v 128) (small v w h) (large v w h))
   where
     to : (v : ℕ) (w : Bits) (o : ℕ) (u b : Bits) → IsOctet o × (u ≡ bitsOf 8 o) → Tail k o v b → w ≡ u ++ b
-      → (0 < suc k) × (v < 128 ^ suc k) × (w ≡ unpack (groups (suc k) v))
+        → (0 < suc k) × (v < 128 ^ suc k) × (w ≡ unpack (groups (suc k) v))
     to v w o u b h (last l e e′) j =
         let t : ltb v 128 ≡ true = lt-ltb v 128 (omega arith) in
         let i : w ≡ bitsOf 8 v ++ [] = cc in
@@ -278,7 +280,7 @@ grouped-reads (suc k) =
         (omega arith, rw (pow-suc 128 k) (omega arith), rw t i)
 
     small : (v : ℕ) (w : Bits) → (0 < suc k) × (v < 128 ^ suc k) × (w ≡ unpack (groups (suc k) v)) → ltb v 128 ≡ true
-      → Then (λ o u. IsOctet o × (u ≡ bitsOf 8 o)) (λ o. Tail k o) v w
+        → Then (λ o u. IsOctet o × (u ≡ bitsOf 8 o)) (λ o. Tail k o) v w
     small v w h e =
         let l = ltb-true v 128 e in
         record { first = v; front = bitsOf 8 v; back = []; one = (omega arith, refl); two = last l refl refl; joined = rw e at (h .2) }
@@ -288,7 +290,7 @@ grouped-reads (suc k) =
     some-left (suc k) l b = omega arith
 
     large : (v : ℕ) (w : Bits) → (0 < suc k) × (v < 128 ^ suc k) × (w ≡ unpack (groups (suc k) v)) → ltb v 128 ≡ false
-      → Then (λ o u. IsOctet o × (u ≡ bitsOf 8 o)) (λ o. Tail k o) v w
+        → Then (λ o u. IsOctet o × (u ≡ bitsOf 8 o)) (λ o. Tail k o) v w
     large v w h e =
         let l = ltb-false v 128 e in
         let b : v < 128 ^ k * 128 = rw (← pow-suc 128 k) (h .1) in
@@ -298,7 +300,7 @@ grouped-reads (suc k) =
           back = unpack (groups k (v / 128));
           one = (omega arith, refl);
           two = more (v / 128) (omega arith) (omega arith) (some-left k l b) (omega arith) (omega arith) refl;
-          joined = rw e at (h .2)
+          joined = rw e at (h .2);
         }
 
 pub unsigned-reads : Reads unsigned (λ v w. (v ≤ maxUnsigned) × (w ≡ unsignedBits v))
@@ -307,3 +309,8 @@ unsigned-reads =
     reads-as (reads-checked (grouped-reads 5) (λ v. leb v 2147483647) number)
     (λ v w h. (leb→le v 2147483647 (h .1), h .0 .2))
     (λ v w h. ((omega arith, omega arith, h .1), le→leb v 2147483647 (h .0)))
+
+-- The least significant octet comes first. (A reversal on both sides would leave every law above true.)
+pub octet-order : numberBits byteAligned 9 258 ≡ unpack (2 ∷ 1 ∷ [])
+unfolding numberBits littleEndian octetsFor unpack each bitsOf
+octet-order = refl

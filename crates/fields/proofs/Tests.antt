@@ -1,7 +1,7 @@
 -- Tests that hold or fail, as facts.
 use mathlib.Core.Path.{_≡_, refl, sym, subst}
 use mathlib.Core.Logic.{_⊎_, inl, inr}
-use mathlib.Core.Bool.{Bool, true, false, cond, _&&_, _||_, not}
+use mathlib.Core.Bool.{Bool, true, false, _&&_, not}
 use lib.Dec.{T}
 
 pub T-is : (b : Bool) → T b → b ≡ true

@@ -1,12 +1,12 @@
 -- The fields that streams are made of, each as its bits and as its parser.
 use Prim.Native.Nat.{ℕ, zero, suc, _+_, _*_, _-_, _/_, _%_, _^_}
-use mathlib.Core.Bool.{Bool, true, false, cond}
-use mathlib.Core.List.{List, [], _∷_, _++_}
+use mathlib.Core.Bool.{Bool, cond}
+use mathlib.Core.List.{List, [], _∷_}
 use lib.ListN.{length, getElem?}
-use lib.Dec.{eqb, leb, ltb}
+use lib.Dec.{leb, ltb}
 use Rattle.fields.specs.Bits.{Bits, bitsOf, valueOf, unpack, octetsFor}
 use Rattle.fields.specs.Refusal.{Refusal, ended, number}
-use Rattle.fields.specs.Parser.{Result, bad, got, Parser, return, fail, present, need, _>>=_, _>>_, times}
+use Rattle.fields.specs.Parser.{bad, got, Parser, return, fail, present, need, times, _>>=_, _>>_}
 
 pub data Alignment : Type 0 where
   bitPacked byteAligned : Alignment
@@ -47,6 +47,7 @@ numberField byteAligned n = do
 
 -- ---- a choice among m (scope, "Fields"): n bits, where n is the smallest with 2 ^ n at least m
 
+-- The first of n, n + 1, .. that is wide enough, at most k steps up.
 unfoldable pub widthFrom : ℕ → ℕ → ℕ → ℕ
 widthFrom zero n m = n
 widthFrom (suc k) n m = let wider = widthFrom k (suc n) m in cond (leb m (2 ^ n)) n wider
@@ -73,6 +74,7 @@ maxOctets = 5
 unfoldable pub maxUnsigned : ℕ
 maxUnsigned = 2147483647
 
+-- The octets of v, at most k: enough where v is below 128 ^ k.
 unfoldable pub groups : ℕ → ℕ → List ℕ
 groups zero v = []
 groups (suc k) v = let more = (v % 128 + 128) ∷ groups k (v / 128) in cond (ltb v 128) (v ∷ []) more

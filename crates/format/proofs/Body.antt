@@ -1,11 +1,11 @@
 -- The events of a stream are read exactly: what is accepted is a list that may come next, in its strict form and with padding after it; and
 -- such bits are accepted with that list.
-use mathlib.Core.Path.{_≡_, refl, sym, _∙_, ap, subst, subst⁻¹}
+use mathlib.Core.Path.{_≡_, refl, sym, _∙_, ap, subst⁻¹}
 use mathlib.Core.List.{List, [], _∷_, _++_, map, append-assoc}
-use mathlib.Core.Bool.{Bool, true, false, cond}
-use Prim.Native.Nat.{ℕ, zero, suc, _≤_, _<_, zero-le, suc-le-suc}
+use mathlib.Core.Bool.{cond}
+use Prim.Native.Nat.{ℕ, zero, suc, _≤_, zero-le, suc-le-suc}
 use native.Mathlib.Omega.{arith}
-use lib.ListN.{length, length-map}
+use lib.ListN.{length}
 use lib.Dec.{T}
 use Rattle.fields.specs.Bits.{Bits, isPadding}
 use Rattle.fields.specs.Refusal.{Refusal}
@@ -15,12 +15,13 @@ use Rattle.text.specs.Text.{Text}
 use Rattle.format.specs.Event.{Event}
 use Rattle.format.specs.Settings.{Settings}
 use Rattle.format.specs.Tables.{Placed}
-use Rattle.format.specs.Grammar.{finished}
 use Rattle.format.specs.Context.{Context, next}
 use Rattle.format.specs.Strict.{eventBits, listBits}
-use Rattle.format.specs.Reader.{Answer, refused, accepted, Reading, texts, step, following, isFinished, ending, onward, readEvents}
+use Rattle.format.specs.Answer.{Answer, refused, accepted}
+use Rattle.format.specs.Reader.{Reading, eventText, step, following, ending, onward, readEvents}
+use Rattle.format.specs.Grammar.{isFinished}
 use Rattle.format.proofs.Fit.{EventFit, ListFit, done, also}
-use Rattle.format.proofs.Step.{StepRead, step-reads, Sane, step-fit, StepFound, step-found, sane-next}
+use Rattle.format.proofs.Step.{step-reads, Sane, step-fit, step-found, sane-next}
 use Rattle.format.proofs.Writes.{is-finished, finished-is, finished-no-fit}
 
 pub not-accepted : {A X : Type 0} {k : Refusal} {i : ℕ} {a : A} → _≡_ {A = Answer A} (refused k i) (accepted a) → X
@@ -55,7 +56,7 @@ pub record Accepted (s : Settings) (c : Context) (n : ℕ) (bs : Bits) (l : List
 
 -- An event before what stands in accepted bits.
 before : (s : Settings) (c : Context) (n : ℕ) (bs w rest : Bits) (e : Event Text) (l : List (Event Text)) → EventFit s c e → bs ≡ w ++ rest
-  → w ≡ eventBits s c e → Accepted s (next s c e) n rest l → Accepted s c (suc n) bs (e ∷ l)
+    → w ≡ eventBits s c e → Accepted s (next s c e) n rest l → Accepted s c (suc n) bs (e ∷ l)
 unfolding listBits
 before s c n bs w rest e l fit j b h =
     record {
@@ -63,7 +64,7 @@ before s c n bs w rest e l fit j b h =
       few = suc-le-suc (h .few);
       padding = h .padding;
       bits = j ∙ cc (b, h .bits) ∙ sym (append-assoc (eventBits s c e) (listBits s (next s c e) l) (h .padding));
-      padded = h .padded
+      padded = h .padded;
     }
 
 -- The answer after an event: the end of the stream where the document is finished, and else more events.
@@ -71,41 +72,41 @@ abbrev Afterwards : ℕ → Settings → Context → Bits → Answer Reading
 Afterwards n s c rest = cond (isFinished (c .state)) (ending c rest) (readEvents n s c rest)
 
 pub read-fit : (n : ℕ) (s : Settings) (c : Context) (bs : Bits) (r : Reading) → Sane c → readEvents n s c bs ≡ accepted r
-  → Accepted s c n bs (map texts (r .events))
+    → Accepted s c n bs (map eventText (r .events))
 unfolding readEvents onward listBits
 read-fit zero s c bs r g q = not-accepted q
 read-fit (suc n) s c bs r g q = go (λ d b x. read-fit n s d b x) (step s c bs) refl q
   where
-    afterwards : ((d : Context) (b : Bits) (x : Reading) → Sane d → readEvents n s d b ≡ accepted x → Accepted s d n b (map texts (x .events)))
-      → (d : Context) (rest : Bits) (x : Reading) → Sane d → Afterwards n s d rest ≡ accepted x → Accepted s d n rest (map texts (x .events))
+    afterwards : ((d : Context) (b : Bits) (x : Reading) → Sane d → readEvents n s d b ≡ accepted x → Accepted s d n b (map eventText (x .events)))
+        → (d : Context) (rest : Bits) (x : Reading) → Sane d → Afterwards n s d rest ≡ accepted x → Accepted s d n rest (map eventText (x .events))
     afterwards rec d rest x g q =
         split (isFinished (d .state))
         (λ t. let (p, m) = ended d rest x (rw t at q) in
-          rw m (record { fit = done (is-finished (d .state) (is-T (isFinished (d .state)) t)); few = zero-le; padding = rest; bits = refl; padded = p }))
+        rw m (record { fit = done (is-finished (d .state) (is-T (isFinished (d .state)) t)); few = zero-le; padding = rest; bits = refl; padded = p }))
         (λ t. rec d rest x g (rw t at q))
 
-    go : ((d : Context) (b : Bits) (x : Reading) → Sane d → readEvents n s d b ≡ accepted x → Accepted s d n b (map texts (x .events)))
-      → (x : Result (Event Placed)) → step s c bs ≡ x → onward s c (λ d b. readEvents n s d b) x ≡ accepted r
-      → Accepted s c (suc n) bs (map texts (r .events))
+    go : ((d : Context) (b : Bits) (x : Reading) → Sane d → readEvents n s d b ≡ accepted x → Accepted s d n b (map eventText (x .events)))
+        → (x : Result (Event Placed)) → step s c bs ≡ x → onward s c (λ d b. readEvents n s d b) x ≡ accepted r
+        → Accepted s c (suc n) bs (map eventText (r .events))
     go rec (bad k) i q = not-accepted q
     go rec (got e rest) i q =
-        let d = next s c (texts e) in
+        let d = next s c (eventText e) in
         let f = followed e (Afterwards n s d rest) r q in
         let (w, h, j) = step-reads s c .sound bs e rest i in
         let (fit, b) = step-fit s c e w g h in
-        subst⁻¹ (λ (x : Reading). Accepted s c (suc n) bs (map texts (x .events))) (f .is)
-        (before s c n bs w rest (texts e) (map texts (f .rest .events)) fit j b
-        (afterwards rec d rest (f .rest) (sane-next s c (texts e) g fit) (f .inner)))
+        subst⁻¹ (λ (x : Reading). Accepted s c (suc n) bs (map eventText (x .events))) (f .is)
+        (before s c n bs w rest (eventText e) (map eventText (f .rest .events)) fit j b
+        (afterwards rec d rest (f .rest) (sane-next s c (eventText e) g fit) (f .inner)))
 
 -- A list that may come next is read.
 pub record ListFound (a : Answer Reading) (l : List (Event Text)) : Type 0 where
   pub reading : Reading
   pub answer : a ≡ accepted reading
-  pub is : map texts (reading .events) ≡ l
+  pub is : map eventText (reading .events) ≡ l
 
 -- An event that is read, before others.
 then-found : (n : ℕ) (s : Settings) (c : Context) (e : Event Text) (rest : Bits) (l : List (Event Text)) → EventFit s c e
-  → ListFound (Afterwards n s (next s c e) rest) l → ListFound (readEvents (suc n) s c (eventBits s c e ++ rest)) (e ∷ l)
+    → ListFound (Afterwards n s (next s c e) rest) l → ListFound (readEvents (suc n) s c (eventBits s c e ++ rest)) (e ∷ l)
 unfolding readEvents onward following
 then-found n s c e rest l fit h =
     let m = step-found s c e fit in
@@ -114,25 +115,25 @@ then-found n s c e rest l fit h =
     record {
       reading = record { events = x ∷ r .events; store = r .store };
       answer = ap (onward s c (λ d b. readEvents n s d b)) (step-reads s c .complete x (eventBits s c e) rest (m .read))
-        ∙ ap (λ y. following x (Afterwards n s (next s c y) rest)) (m .is) ∙ ap (following x) (h .answer);
-      is = cc (m .is, h .is)
+          ∙ ap (λ y. following x (Afterwards n s (next s c y) rest)) (m .is) ∙ ap (following x) (h .answer);
+      is = cc (m .is, h .is);
     }
 
 more : (s : Settings) (c : Context) (e : Event Text) (rest : Bits) (l : List (Event Text)) (n : ℕ) → suc (length l) ≤ n → EventFit s c e
-  → ((k : ℕ) → length l ≤ k → ListFound (Afterwards k s (next s c e) rest) l) → ListFound (readEvents n s c (eventBits s c e ++ rest)) (e ∷ l)
+    → ((k : ℕ) → length l ≤ k → ListFound (Afterwards k s (next s c e) rest) l) → ListFound (readEvents n s c (eventBits s c e ++ rest)) (e ∷ l)
 more s c e rest l zero m fit f = absurd (omega arith)
 more s c e rest l (suc k) m fit f = then-found k s c e rest l fit (f k (omega arith))
 
 pub read-found : (n : ℕ) (s : Settings) (c : Context) (l : List (Event Text)) (padding : Bits) → ListFit s c l → length l ≤ n → T (isPadding padding)
-  → ListFound (Afterwards n s c (listBits s c l ++ padding)) l
+    → ListFound (Afterwards n s c (listBits s c l ++ padding)) l
 unfolding listBits ending
 read-found n s c l padding (done f) m p =
     record {
       reading = record { events = []; store = c .tables .store };
       answer = rw (T-is (isFinished (c .state)) (finished-is (c .state) f), T-is (isPadding padding) p);
-      is = refl
+      is = refl;
     }
 read-found n s c l padding (also {l = k} e fit h) m p =
     split (isFinished (c .state)) (λ t. absurd (finished-no-fit s c e (is-finished (c .state) (is-T (isFinished (c .state)) t)) fit))
     (λ t. rw (t, append-assoc (eventBits s c e) (listBits s (next s c e) k) padding)
-      (more s c e (listBits s (next s c e) k ++ padding) k n m fit (λ j q. read-found j s (next s c e) k padding h q p)))
+    (more s c e (listBits s (next s c e) k ++ padding) k n m fit (λ j q. read-found j s (next s c e) k padding h q p)))

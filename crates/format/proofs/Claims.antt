@@ -1,34 +1,31 @@
 -- The claims of specs/Claims.antt, each proved.
-use mathlib.Core.Path.{_≡_, refl, sym, _∙_, ap, subst, subst⁻¹}
+use mathlib.Core.Path.{_≡_, refl, sym, _∙_, ap, subst}
 use mathlib.Core.Logic.{_↔_}
 use mathlib.Core.List.{List, [], _∷_, _++_, map, append-assoc, append-cancel-left}
-use mathlib.Core.Option.{Option, none, some, Option·some-injective}
-use mathlib.Core.Bool.{Bool, true, false, cond, _&&_, not}
-use Prim.Native.Nat.{ℕ, zero, suc, _+_, _*_, _≤_, _<_}
+use mathlib.Core.Option.{some, Option·some-injective}
+use Prim.Native.Nat.{ℕ, _≤_}
 use native.Mathlib.Omega.{arith}
 use lib.ListN.{length, length-append}
 use lib.Dec.{T, leb, ltb, leb→le, le→leb, ltb→lt, lt→ltb}
 use Rattle.fields.specs.Bits.{Bits, unpack, pack, isPadding, allZero}
 use Rattle.fields.specs.Refusal.{Refusal, numberOf, room, settings, long, header, ended, code, number, character, reference, loose, name, limit, tail, shape, place}
-use Rattle.fields.proofs.Tests.{T-is, is-T, both, left, right, split, either, not-is}
-use Rattle.fields.proofs.Exact.{Every}
-use Rattle.fields.proofs.Number.{IsOctet}
-use Rattle.fields.proofs.Pack.{Octets, pack-octets, unpack-append, length-unpack, unpack-pack}
+use Rattle.fields.proofs.Tests.{T-is, is-T, both, left, right, split}
+use Rattle.fields.proofs.Pack.{Octets, unpack-append, length-unpack, unpack-pack}
 use Rattle.text.specs.Text.{Text}
 use Rattle.format.specs.Event.{Event}
-use Rattle.format.specs.Settings.{Settings, Options, meaningful, settingsOf, headerOf}
+use Rattle.format.specs.Settings.{Settings, SettingNumbers, meaningful, settingsOf, headerOf}
 use Rattle.format.specs.Sizes.{maxStream, maxEvents}
-use Rattle.format.specs.Tables.{Placed}
 use Rattle.format.specs.Context.{start}
 use Rattle.format.specs.Strict.{listBits, strict}
-use Rattle.format.specs.Lists.{every, WellFormed, Inside}
-use Rattle.format.specs.Reader.{Answer, refused, accepted, Reading, ReaderRoom, enoughToRead, read, readStream, listOf, readReply, texts}
+use Rattle.format.specs.Lists.{every}
+use Rattle.format.specs.Answer.{Answer, refused, accepted}
+use Rattle.format.specs.Reader.{Reading, ReaderRoom, enoughToRead, read, readStream, listOf, readReply, eventText}
 use Rattle.format.specs.Writer.{Stored, WriterRoom, enoughToWrite, write, writeList, writeEvents, asOctets}
-use Rattle.format.specs.Claims.{AreOctets, Good, Accepts, Demand3, Demand2, Lookup, storedOf, meant, WorkedExamples, FurtherExamples}
+use Rattle.format.specs.Claims.{AreOctets, Good, Accepts, Demand3, Demand2, Lookup, storedOf, meant}
 use Rattle.format.proofs.Fit.{ListFit}
-use Rattle.format.proofs.Good.{Meets, fit-of-good, good-of-fit}
-use Rattle.format.proofs.Body.{not-accepted, accepted-same, ListFound}
-use Rattle.format.proofs.Stream.{Stream, stream-fit, stream-found, Same, prefix-free}
+use Rattle.format.proofs.Good.{fit-of-good, good-of-fit}
+use Rattle.format.proofs.Body.{not-accepted, accepted-same}
+use Rattle.format.proofs.Stream.{stream-fit, stream-found, prefix-free}
 use Rattle.format.proofs.Writes.{write-sound, write-complete}
 
 -- ---- good lists are those that may come after the start
@@ -48,7 +45,7 @@ good-of s l h m o =
     let g = good-of-fit s l h in
     record {
       wellFormed = record { shape = g .shape; chars = g .chars; names = g .names };
-      inside = record { events = m; strings = g .strings; sizes = g .sizes; octets = o }
+      inside = record { events = m; strings = g .strings; sizes = g .sizes; octets = o };
     }
 
 fit-of : (s : Settings) (l : List (Event Text)) → Good s l → ListFit s start l
@@ -59,69 +56,82 @@ fit-of s l g =
       chars = g .wellFormed .chars;
       names = g .wellFormed .names;
       strings = g .inside .strings;
-      sizes = g .inside .sizes
+      sizes = g .inside .sizes;
     })
 
 -- ---- the reader
 
 -- What an accepting answer rests on.
-record Accepting (r : ReaderRoom) (o : Options) (stream : List ℕ) (x : Reading) : Type 0 where
+record Accepting (r : ReaderRoom) (o : SettingNumbers) (stream : List ℕ) (x : Reading) : Type 0 where
   enough : T (enoughToRead r)
   means : T (meaningful o)
   short : length stream ≤ maxStream
   answer : readStream (settingsOf o) stream ≡ accepted x
 
-accepting : (r : ReaderRoom) (o : Options) (stream : List ℕ) (x : Reading) → read r o stream ≡ accepted x → Accepting r o stream x
+accepting : (r : ReaderRoom) (o : SettingNumbers) (stream : List ℕ) (x : Reading) → read r o stream ≡ accepted x → Accepting r o stream x
 unfolding read
 accepting r o stream x q =
     split (enoughToRead r)
     (λ e. split (meaningful o)
-      (λ m. split (leb (length stream) maxStream)
-        (λ h. record {
-          enough = is-T (enoughToRead r) e;
-          means = is-T (meaningful o) m;
-          short = leb→le (length stream) maxStream (is-T (leb (length stream) maxStream) h);
-          answer = rw (e, m, h) at q
-        })
-        (λ h. not-accepted (rw (e, m, h) at q)))
-      (λ m. not-accepted (rw (e, m) at q)))
+    (λ m. split (leb (length stream) maxStream)
+    (λ h. record {
+      enough = is-T (enoughToRead r) e;
+      means = is-T (meaningful o) m;
+      short = leb→le (length stream) maxStream (is-T (leb (length stream) maxStream) h);
+      answer = rw (e, m, h) at q;
+    })
+    (λ h. not-accepted (rw (e, m, h) at q)))
+    (λ m. not-accepted (rw (e, m) at q)))
     (λ e. not-accepted (rw e at q))
 
-read-accepts : (r : ReaderRoom) (o : Options) (stream : List ℕ) → T (enoughToRead r) → T (meaningful o) → length stream ≤ maxStream
-  → read r o stream ≡ readStream (settingsOf o) stream
+read-accepts : (r : ReaderRoom) (o : SettingNumbers) (stream : List ℕ) → T (enoughToRead r) → T (meaningful o) → length stream ≤ maxStream
+    → read r o stream ≡ readStream (settingsOf o) stream
 unfolding read
 read-accepts r o stream e m h = rw (T-is (enoughToRead r) e, T-is (meaningful o) m, T-is (leb (length stream) maxStream) (le→leb (length stream) maxStream h))
 
 -- The reading behind a list.
-listed : (a : Answer Reading) (l : List (Event Text)) → listOf a ≡ accepted l → (x : Reading) × (a ≡ accepted x) × (map texts (x .events) ≡ l)
+listed : (a : Answer Reading) (l : List (Event Text)) → listOf a ≡ accepted l → (x : Reading) × (a ≡ accepted x) × (map eventText (x .events) ≡ l)
 unfolding listOf
 listed (refused k i) l q = not-accepted q
 listed (accepted x) l q = (x, refl, accepted-same q)
 
 number-positive : (k : Refusal) → numberOf k ≡ 0 → ⊥
 unfolding numberOf
-number-positive = elim [ room ↦ λ e. omega arith | settings ↦ λ e. omega arith | long ↦ λ e. omega arith | header ↦ λ e. omega arith
-  | ended ↦ λ e. omega arith | code ↦ λ e. omega arith | number ↦ λ e. omega arith | character ↦ λ e. omega arith | reference ↦ λ e. omega arith
-  | loose ↦ λ e. omega arith | name ↦ λ e. omega arith | limit ↦ λ e. omega arith | tail ↦ λ e. omega arith | shape ↦ λ e. omega arith
-  | place ↦ λ e. omega arith ]
+number-positive = elim [
+  | room ↦ λ e. omega arith
+  | settings ↦ λ e. omega arith
+  | long ↦ λ e. omega arith
+  | header ↦ λ e. omega arith
+  | ended ↦ λ e. omega arith
+  | code ↦ λ e. omega arith
+  | number ↦ λ e. omega arith
+  | character ↦ λ e. omega arith
+  | reference ↦ λ e. omega arith
+  | loose ↦ λ e. omega arith
+  | name ↦ λ e. omega arith
+  | limit ↦ λ e. omega arith
+  | tail ↦ λ e. omega arith
+  | shape ↦ λ e. omega arith
+  | place ↦ λ e. omega arith
+]
 
 zero-accepted : (a : Answer Reading) → (readReply a .number ≡ 0) ↔ ((l : List (Event Text)) × (listOf a ≡ accepted l))
 unfolding readReply listOf
 zero-accepted (refused k i) = (λ e. absurd (number-positive k e), λ h. not-accepted (h .1))
-zero-accepted (accepted x) = (λ e. (map texts (x .events), refl), λ h. refl)
+zero-accepted (accepted x) = (λ e. (map eventText (x .events), refl), λ h. refl)
 
-accepts-good : (r : ReaderRoom) (o : Options) (stream : List ℕ) (l : List (Event Text)) → AreOctets stream → Accepts r o stream l
-  → Good (settingsOf o) l × (stream ≡ strict (settingsOf o) l)
+accepts-good : (r : ReaderRoom) (o : SettingNumbers) (stream : List ℕ) (l : List (Event Text)) → AreOctets stream → Accepts r o stream l
+    → Good (settingsOf o) l × (stream ≡ strict (settingsOf o) l)
 accepts-good r o stream l h q =
     let (x, a, e) = listed (read r o stream) l q in
     let m = accepting r o stream x a in
     let s = settingsOf o in
     let f = stream-fit s stream x (octets-of stream h) (m .answer) in
     let i = f .is in
-    subst (λ k. Good s k × (stream ≡ strict s k)) e (good-of s (map texts (x .events)) (f .fit) (f .few) (subst (λ b. length b ≤ maxStream) i (m .short)), i)
+    subst (λ k. Good s k × (stream ≡ strict s k)) e (good-of s (map eventText (x .events)) (f .fit) (f .few) (subst (λ b. length b ≤ maxStream) i (m .short)), i)
 
-good-accepted : (r : ReaderRoom) (o : Options) (l : List (Event Text)) → T (enoughToRead r) → T (meaningful o) → Good (settingsOf o) l
-  → Accepts r o (strict (settingsOf o) l) l
+good-accepted : (r : ReaderRoom) (o : SettingNumbers) (l : List (Event Text)) → T (enoughToRead r) → T (meaningful o) → Good (settingsOf o) l
+    → Accepts r o (strict (settingsOf o) l) l
 unfolding listOf
 good-accepted r o l e m g =
     let s = settingsOf o in
@@ -133,7 +143,7 @@ good-one s l m g h e =
     let f = stream-found s l (fit-of s l g) (g .inside .events) in
     let k = stream-found s m (fit-of s m h) (h .inside .events) in
     let same : f .reading ≡ k .reading = accepted-same (sym (f .answer) ∙ ap (readStream s) e ∙ k .answer) in
-    sym (f .is) ∙ ap (λ (x : Reading). map texts (x .events)) same ∙ k .is
+    sym (f .is) ∙ ap (λ (x : Reading). map eventText (x .events)) same ∙ k .is
 
 front-octets : (a b : List ℕ) → Octets (a ++ b) → Octets a
 front-octets [] b h = tt
@@ -147,7 +157,7 @@ begins s l m b g h e =
     let (y, ey, py) = unpack-pack (hs ++ listBits s start l) in
     let (z, ez, pz) = unpack-pack (hs ++ listBits s start m) in
     let i : (hs ++ listBits s start l ++ y) ++ unpack b ≡ hs ++ listBits s start m ++ z
-          = ap (λ w. w ++ unpack b) (sym ey) ∙ sym (unpack-append (strict s l) b) ∙ ap unpack e ∙ ez in
+    = ap (λ w. w ++ unpack b) (sym ey) ∙ sym (unpack-append (strict s l) b) ∙ ap unpack e ∙ ez in
     let j : hs ++ (listBits s start l ++ (y ++ unpack b)) ≡ hs ++ (listBits s start m ++ z) = simp append-assoc at i in
     let k = append-cancel-left hs (listBits s start l ++ (y ++ unpack b)) (listBits s start m ++ z) j in
     let rests : y ++ unpack b ≡ z = prefix-free s start l m (y ++ unpack b) z (fit-of s l g) (fit-of s m h) k .rests in
@@ -165,30 +175,30 @@ demand-3 =
       one-list = good-one;
       one-stream = λ r o a b l ha hb qa qb. accepts-good r o a l ha qa .1 ∙ sym (accepts-good r o b l hb qb .1);
       no-prefix = λ r o a b l m h qa qb.
-        let (g, i) = accepts-good r o a l (are-octets a (front-octets a b (octets-of (a ++ b) h))) qa in
-        let (k, j) = accepts-good r o (a ++ b) m h qb in
-        begins (settingsOf o) l m b g k (ap (λ x. x ++ b) (sym i) ∙ j)
+          let (g, i) = accepts-good r o a l (are-octets a (front-octets a b (octets-of (a ++ b) h))) qa in
+          let (k, j) = accepts-good r o (a ++ b) m h qb in
+          begins (settingsOf o) l m b g k (ap (λ x. x ++ b) (sym i) ∙ j);
     }
 
 -- ---- the writer
 
 -- What an accepting answer rests on.
-record Writing (r : WriterRoom) (o : Options) (xs : List Stored) (store : Text) (stream : List ℕ) : Type 0 where
+record Writing (r : WriterRoom) (o : SettingNumbers) (xs : List Stored) (store : Text) (stream : List ℕ) : Type 0 where
   enough : T (enoughToWrite r)
   means : T (meaningful o)
   answer : writeList (settingsOf o) xs store ≡ accepted stream
 
-writing : (r : WriterRoom) (o : Options) (xs : List Stored) (store : Text) (stream : List ℕ) → write r o xs store ≡ accepted stream
-  → Writing r o xs store stream
+writing : (r : WriterRoom) (o : SettingNumbers) (xs : List Stored) (store : Text) (stream : List ℕ) → write r o xs store ≡ accepted stream
+    → Writing r o xs store stream
 unfolding write
 writing r o xs store stream q =
     split (enoughToWrite r)
     (λ e. split (meaningful o) (λ m. record { enough = is-T (enoughToWrite r) e; means = is-T (meaningful o) m; answer = rw (e, m) at q })
-      (λ m. not-accepted (rw (e, m) at q)))
+    (λ m. not-accepted (rw (e, m) at q)))
     (λ e. not-accepted (rw e at q))
 
-write-accepts : (r : WriterRoom) (o : Options) (xs : List Stored) (store : Text) → T (enoughToWrite r) → T (meaningful o)
-  → write r o xs store ≡ writeList (settingsOf o) xs store
+write-accepts : (r : WriterRoom) (o : SettingNumbers) (xs : List Stored) (store : Text) → T (enoughToWrite r) → T (meaningful o)
+    → write r o xs store ≡ writeList (settingsOf o) xs store
 unfolding write
 write-accepts r o xs store e m = rw (T-is (enoughToWrite r) e, T-is (meaningful o) m)
 
@@ -214,26 +224,28 @@ written-list s xs store stream q = go (writeEvents maxEvents s start store xs) r
           list = l;
           meaning = m;
           good = good-of s l f n (subst (λ b. length b ≤ maxStream) same (leb→le (length octets) maxStream (is-T (leb (length octets) maxStream) t)));
-          is = sym (accepted-same (rw t at q)) ∙ same
+          is = sym (accepted-same (rw t at q)) ∙ same;
         })
         (λ t. not-accepted (rw t at q))
 
 list-written : (s : Settings) (xs : List Stored) (store : Text) (l : List (Event Text)) → meant store xs ≡ some l → Good s l
-  → writeList s xs store ≡ accepted (strict s l)
+    → writeList s xs store ≡ accepted (strict s l)
 unfolding writeList asOctets strict
 list-written s xs store l m g =
-    rw (write-complete maxEvents s start store xs l m (fit-of s l g) (g .inside .events),
-      T-is (leb (length (strict s l)) maxStream) (le→leb (length (strict s l)) maxStream (g .inside .octets)))
+    rw (
+      write-complete maxEvents s start store xs l m (fit-of s l g) (g .inside .events),
+      T-is (leb (length (strict s l)) maxStream) (le→leb (length (strict s l)) maxStream (g .inside .octets)),
+    )
 
-behind : (r : WriterRoom) (o : Options) (xs : List Stored) (store : Text) (stream : List ℕ) → write r o xs store ≡ accepted stream
-  → Behind (settingsOf o) xs store stream
+behind : (r : WriterRoom) (o : SettingNumbers) (xs : List Stored) (store : Text) (stream : List ℕ) → write r o xs store ≡ accepted stream
+    → Behind (settingsOf o) xs store stream
 behind r o xs store stream q = written-list (settingsOf o) xs store stream (writing r o xs store stream q .answer)
 
-gives-back : Lookup → (r : WriterRoom) (p : ReaderRoom) (o : Options) (stream : List ℕ) (x : Reading) → T (enoughToWrite r) → AreOctets stream
-  → read p o stream ≡ accepted x → write r o (map storedOf (x .events)) (x .store) ≡ accepted stream
+gives-back : Lookup → (r : WriterRoom) (p : ReaderRoom) (o : SettingNumbers) (stream : List ℕ) (x : Reading) → T (enoughToWrite r) → AreOctets stream
+    → read p o stream ≡ accepted x → write r o (map storedOf (x .events)) (x .store) ≡ accepted stream
 unfolding listOf
 gives-back lookup r p o stream x e h q =
-    let l = map texts (x .events) in
+    let l = map eventText (x .events) in
     let (g, i) = accepts-good p o stream l h (ap listOf q) in
     let m = accepting p o stream x q .means in
     write-accepts r o (map storedOf (x .events)) (x .store) e m
@@ -243,13 +255,14 @@ gives-back lookup r p o stream x e h q =
 pub demand-2 : Lookup → Demand2
 demand-2 lookup =
     record {
-      written = λ r o xs store stream e m.
-        (λ q. let b = behind r o xs store stream q in (b .list, b .meaning, b .good, b .is),
-        λ g. write-accepts r o xs store e m ∙ list-written (settingsOf o) xs store (g .0) (g .1) (g .2) ∙ ap accepted (sym (g .3)));
+      written = λ r o xs store stream e m. (
+        λ q. let b = behind r o xs store stream q in (b .list, b .meaning, b .good, b .is),
+        λ g. write-accepts r o xs store e m ∙ list-written (settingsOf o) xs store (g .0) (g .1) (g .2) ∙ ap accepted (sym (g .3)),
+      );
       read-back = λ r p o xs store l stream e h q.
-        let b = behind r o xs store stream q in
-        let same : b .list ≡ l = Option·some-injective (b .list) l (sym (b .meaning) ∙ h) in
-        rw (b .is) (subst (Accepts p o (strict (settingsOf o) (b .list))) same
+          let b = behind r o xs store stream q in
+          let same : b .list ≡ l = Option·some-injective (b .list) l (sym (b .meaning) ∙ h) in
+          rw (b .is) (subst (Accepts p o (strict (settingsOf o) (b .list))) same
           (good-accepted p o (b .list) e (writing r o xs store stream q .means) (b .good)));
-      written-back = gives-back lookup
+      written-back = gives-back lookup;
     }

@@ -17,7 +17,7 @@ use Rattle.text.specs.Text.{Text, eqText}
 use Rattle.text.proofs.Equal.{eqText-refl, eqText-eq}
 use Rattle.format.specs.Event.{QName, Event, startDocument, endDocument, endElement, startElement, attribute, characters, comment, instruction, Kind, SD, ED, SE, AT, EE, CH, CM, PI, kindOf, nameOf, eqName}
 use Rattle.format.specs.Settings.{Settings}
-use Rattle.format.specs.Grammar.{Production, any, kindNumber, fitsName, fits, State, document, docContent, docEnd, finished, startTag, elementContent, Learned, learnedIn, kept, levels, allEmpty, choices, Code, atLevel, below, codeBits, raised, firstFit, codeOr, codeOf, learnable, taught, learn, learnedAfter}
+use Rattle.format.specs.Grammar.{Production, any, kindNumber, fitsName, fits, State, document, docContent, docEnd, finished, startTag, elementContent, Learned, learnedIn, kept, levels, allEmpty, choices, Code, atLevel, below, codeBits, raised, firstFit, codeOr, codeOf, teaches, productionFor, taught, learn, learnedAfter}
 use Rattle.format.specs.Reader.{readPart, readCode, sameCode}
 use Rattle.format.proofs.Shape.{allowed}
 
@@ -388,23 +388,9 @@ allowed-of-code s ls st e x ok h = let t : T (isSome (codeOf (levels s ls st) e)
     go (elementContent q outer) t = ok false q outer e t
 
 -- What is learned has the kind of the event.
-learnable-kind : (e : Event Text) → If-some (λ p. p .kind ≡ kindOf e) (learnable e)
-unfolding learnable kindOf any
-learnable-kind startDocument = tt
-learnable-kind endDocument = tt
-learnable-kind endElement = refl
-learnable-kind (startElement q) = refl
-learnable-kind (attribute q v) = refl
-learnable-kind (characters v) = refl
-learnable-kind (comment x) = tt
-learnable-kind (instruction x y) = tt
-
-taught-kind : (vs : List ℕ) (e : Event Text) → If-some (λ p. p .kind ≡ kindOf e) (taught vs e)
-unfolding taught
-taught-kind [] e = tt
-taught-kind (v ∷ []) e = tt
-taught-kind (v ∷ w ∷ []) e = learnable-kind e
-taught-kind (v ∷ w ∷ x ∷ vs) e = tt
+taught-kind : (x : Code) (e : Event Text) → If-some (λ p. p .kind ≡ kindOf e) (taught x e)
+unfolding taught productionFor
+taught-kind x e = split (teaches x (kindOf e)) (λ t. rw t refl) (λ t. rw t tt)
 
 module _ (s : Settings) (e : Event Text) (ls : List Learned) (ok : LearnedOk s ls) where
   -- In a tag, or in content, kind alone decides what is allowed.
@@ -434,12 +420,12 @@ module _ (s : Settings) (e : Event Text) (ls : List Learned) (ok : LearnedOk s l
           (λ g. allowed-alike tag′ tag p q around outer f (right here same (is-T (here && same) c)) (cc (fits-kind x f (is-T (fits x f) g))) t)
           (λ g. ok tag′ p around f (rw (c, g) at u))
 
-pub learned-ok-after : (s : Settings) (ls : List Learned) (st : State) (vs : List ℕ) (e : Event Text) → T (allowed s st e) → LearnedOk s ls
-    → LearnedOk s (learnedAfter st (taught vs e) ls)
+pub learned-ok-after : (s : Settings) (ls : List Learned) (st : State) (x : Code) (e : Event Text) → T (allowed s st e) → LearnedOk s ls
+    → LearnedOk s (learnedAfter st (taught x e) ls)
 unfolding learnedAfter within
 learned-ok-after s ls document vs e t ok = ok
 learned-ok-after s ls docContent vs e t ok = ok
 learned-ok-after s ls docEnd vs e t ok = ok
 learned-ok-after s ls finished vs e t ok = ok
-learned-ok-after s ls (startTag q outer) vs e t ok = learn-ok s e ls ok true q outer (taught vs e) t (taught-kind vs e)
-learned-ok-after s ls (elementContent q outer) vs e t ok = learn-ok s e ls ok false q outer (taught vs e) t (taught-kind vs e)
+learned-ok-after s ls (startTag q outer) x e t ok = learn-ok s e ls ok true q outer (taught x e) t (taught-kind x e)
+learned-ok-after s ls (elementContent q outer) x e t ok = learn-ok s e ls ok false q outer (taught x e) t (taught-kind x e)

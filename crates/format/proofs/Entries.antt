@@ -1,28 +1,27 @@
 -- The entries of the tables are strings that were good where they stood, so a hit is as good as a literal: a string that is read is a
 -- fit item, and a fit item is read.
-use mathlib.Core.Path.{_≡_, refl, sym, _∙_, ap, subst}
-use mathlib.Core.List.{List, [], _∷_, _++_, map, append-nil}
-use mathlib.Core.Bool.{Bool, true, false, cond, _&&_}
+use mathlib.Core.Path.{_≡_, refl, sym, subst}
+use mathlib.Core.List.{List, [], _∷_, _++_, map}
+use mathlib.Core.Bool.{Bool, _&&_}
 use mathlib.Core.Option.{Option, none, some, Option·none-ne-some, Option·some-injective, Option·map}
 use Prim.Native.Nat.{ℕ, zero, suc, _+_, _≤_}
-use native.Mathlib.Nat.{zero-add, add-suc, suc-add}
 use native.Mathlib.Omega.{arith}
 use lib.ListN.{length, getElem?, length-append}
 use lib.Dec.{T, leb, leb→le}
 use Rattle.fields.specs.Bits.{Bits}
 use Rattle.fields.specs.Field.{Alignment}
-use Rattle.fields.proofs.Tests.{split, is-T, left, right}
+use Rattle.fields.proofs.Tests.{split, is-T, right}
 use Rattle.fields.proofs.Exact.{Every}
 use Rattle.text.specs.Text.{Text, eqText, isEmpty, allChars}
 use Rattle.text.proofs.Equal.{eqText-eq}
 use Rattle.format.specs.Sizes.{maxUris, maxNames, maxValues, maxStore}
-use Rattle.format.specs.Tables.{Placed, Entry, Tables, partition, namesOf, valuesOf, allValues, indexOf, Role, uri, local, value, target, plain, Partitions, compact, literals, partitionsOf, Form, hit, literal, hitOr, firstHit, strictForm, formBits, newUri, newName, newValue, laid, added, tablesAfter, lawful}
+use Rattle.format.specs.Tables.{Placed, Entry, Tables, partition, namesOf, valuesOf, allValues, indexOf, Role, uri, local, value, target, plain, Partitions, compact, literals, partitionsOf, Form, hit, literal, hitOr, firstHit, formOf, newUri, newName, newValue, laid, added, tablesAfter}
 use Rattle.format.specs.Event.{eqName}
 use Rattle.format.specs.Context.{Item, item, afterItem, afterItems}
 use Rattle.format.specs.Strict.{itemBits}
 use Rattle.format.specs.Lists.{short, withinTables}
 use Rattle.format.proofs.Fit.{ItemFit, ItemsFit}
-use Rattle.format.proofs.Strings.{Writable, Hit, Means, aHit, aLiteral, partsOf, formIn, StringRead}
+use Rattle.format.proofs.Strings.{Hit, Means, aHit, aLiteral, partsOf, formIn, StringRead}
 
 -- ---- members of lists
 
@@ -80,7 +79,7 @@ index-means [] y i e = absurd (Option·none-ne-some i e)
 index-means (x ∷ es) y i e =
     split (eqText (x .text) y)
     (λ t. let z : 0 ≡ i = Option·some-injective 0 i (rw t at e) in
-      subst (Found (x ∷ es) y) z (record { entry = x; at = refl; is = eqText-eq (x .text) y (is-T (eqText (x .text) y) t) }))
+    subst (Found (x ∷ es) y) z (record { entry = x; at = refl; is = eqText-eq (x .text) y (is-T (eqText (x .text) y) t) }))
     (λ t. later (λ k. index-means es y k) (indexOf es y) refl (rw t at e))
   where
     later : ((k : ℕ) → indexOf es y ≡ some k → Found es y k) → (o : Option ℕ) → indexOf es y ≡ o → Option·map suc o ≡ some i → Found (x ∷ es) y i
@@ -105,7 +104,7 @@ first-means k [] y j i e = no-literal-hit e
 first-means k (es ∷ ess) y j i e = found (first-means (suc k) ess y j i) (indexOf es y) refl e
   where
     found : (firstHit (suc k) ess y ≡ hit j i → HitFor (suc k) ess y j i) → (o : Option ℕ) → indexOf es y ≡ o
-      → hitOr k o (firstHit (suc k) ess y) ≡ hit j i → HitFor k (es ∷ ess) y j i
+        → hitOr k o (firstHit (suc k) ess y) ≡ hit j i → HitFor k (es ∷ ess) y j i
     found f none q e =
         let m = f e in
         record {
@@ -113,7 +112,7 @@ first-means k (es ∷ ess) y j i e = found (first-means (suc k) ess y j i) (inde
           counted = omega (arith, m .counted);
           entry = m .entry;
           at = record { table = m .at .table; counted = m .at .counted; entry = m .at .entry };
-          is = m .is
+          is = m .is;
         }
     found f (some n) q e =
         let m = index-means es y n q in
@@ -124,11 +123,11 @@ first-means k (es ∷ ess) y j i e = found (first-means (suc k) ess y j i) (inde
           counted = omega arith;
           entry = m .entry;
           at = record { table = es; counted = refl; entry = subst (λ b. getElem? es b ≡ some (m .entry)) z (m .at) };
-          is = m .is
+          is = m .is;
         }
 
-strict-means : (ps : Partitions) (y : Text) (j i : ℕ) → strictForm ps y ≡ hit j i → HitFor 0 (partsOf ps) y j i
-unfolding strictForm
+strict-means : (ps : Partitions) (y : Text) (j i : ℕ) → formOf ps y ≡ hit j i → HitFor 0 (partsOf ps) y j i
+unfolding formOf
 strict-means (compact es) y j i e = first-means 0 (es ∷ []) y j i e
 strict-means (literals ess) y j i e = first-means 0 ess y j i e
 
@@ -149,14 +148,14 @@ read-good a t r z w g h = go (formIn t r (z .0 .text)) (h .means)
     go f (aLiteral y m e) = rw e (record { chars = m .chars; small = m .small })
 
 pub item-of-read : (a : Alignment) (t : Tables) (r : Role) (x : Placed) (t′ : Tables) (w : Bits) → GoodTables t → StringRead a t r (x, t′) w
-  → ReadItem a t r x t′ w
+    → ReadItem a t r x t′ w
 unfolding item afterItem itemBits
 item-of-read a t r x t′ w g h =
     let b = read-good a t r (x, t′) w g h in
     record {
       fit = record { chars = b .chars; small = b .small; named = h .named; room = rw (h .after) at (h .room) };
       bits = h .bits;
-      after = h .after
+      after = h .after;
     }
 
 pub store-within : (t : Tables) → T (withinTables t) → length (t .store) ≤ maxStore
@@ -189,8 +188,8 @@ read-of-item a t r y h = go (formIn t r y) refl
             named = rw e (h .named);
             after = rw e;
             room = h .room;
-            bits = rw e
-          }
+            bits = rw e;
+          };
         }
 
     go : (f : Form) → formIn t r y ≡ f → ItemRead a t r y
@@ -207,7 +206,7 @@ read-of-item a t r y h = go (formIn t r y) refl
 -- ---- the tables stay good
 
 string-append : {K : Type 0} (a b : List (Entry K)) → Every GoodString (map (λ x. x .string) a) → Every GoodString (map (λ x. x .string) b)
-  → Every GoodString (map (λ x. x .string) (a ++ b))
+    → Every GoodString (map (λ x. x .string) (a ++ b))
 string-append [] b h k = k
 string-append (x ∷ a) b h k = (h .0, string-append a b (h .1) k)
 
@@ -217,7 +216,7 @@ added-good t r y g c m =
     record {
       uris = every-append GoodString (t .uris) (newUri r (laid t y)) (g .uris) (uris r);
       names = string-append (t .names) (newName r (laid t y)) (g .names) (names r);
-      values = string-append (t .values) (newValue r (laid t y)) (g .values) (values r)
+      values = string-append (t .values) (newValue r (laid t y)) (g .values) (values r);
     }
   where
     here : GoodString (laid t y)

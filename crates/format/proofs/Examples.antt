@@ -1,5 +1,6 @@
 -- The worked examples hold, by computation.
 use mathlib.Core.Path.{refl}
+use Rattle.fields.specs.Refusal.{numberOf}
 use Rattle.fields.specs.Bits.{bitsOf, valueOf, each, unpack, octetsFrom, octetsFor, pack, allZero, isPadding}
 use Rattle.fields.specs.Parser.{return, fail, present, need, andThen, _>>=_, _>>_, times}
 use Rattle.fields.specs.Field.{bit, octet, littleEndian, littleValue, numberBits, numberField, widthFrom, width, choiceBits, choice, maxOctets, maxUnsigned, groups, unsignedBits, grouped, unsigned}
@@ -7,33 +8,37 @@ use Rattle.text.specs.Text.{text, eqText, isEmpty, isChar}
 use Rattle.format.specs.Sizes.{maxStream, maxEvents, maxOpen, maxUris, maxNames, maxValues, maxGrammars, maxLearned, maxString, maxStore, cellsPerEvent, eventCells, readerWork}
 use Rattle.format.specs.Settings.{meaningful, settingsOf, headerOf}
 use Rattle.format.specs.Event.{kindOf, nameOf, mapName, mapEvent, eqName}
-use Rattle.format.specs.Tables.{partition, namesOf, valuesOf, allValues, indexOf, partitionsOf, eqForm, hitOr, firstHit, strictForm, stringBits, formBits, newUri, newName, newValue, laid, added, tablesAfter, xmlUri, xsiUri, initialEntries, addedAll, startTables, lawful}
-use Rattle.format.specs.Grammar.{any, kindNumber, fitsName, fits, opened, learnedIn, kept, levels, allEmpty, choices, atLevel, below, codeBits, raised, firstFit, codeOr, codeOf, learnable, taught, learn, learnedAfter, hasName, grammarsAfter, inContent, closed, stateAfter}
-use Rattle.format.specs.Context.{start, codesIn, item, characterRole, isWildcard, nameItems, items, afterItem, afterItems, after, afterCode, next}
+use Rattle.format.specs.Tables.{spanOf, partition, namesOf, valuesOf, allValues, indexOf, partitionsOf, eqForm, hitOr, firstHit, formOf, stringBits, formBits, newUri, newName, newValue, laid, added, tablesAfter, xmlUri, xsiUri, initialEntries, addedAll, startTables, nameAllowed}
+use Rattle.format.specs.Grammar.{any, kindNumber, isWildcard, fitsName, fits, openElements, learnedIn, kept, levels, allEmpty, choices, atLevel, below, codeBits, raised, firstFit, codeOr, codeOf, teaches, productionFor, taught, learn, learnedAfter, hasName, grammarsAfter, inContent, closed, stateAfter, isFinished}
+use Rattle.format.specs.Context.{start, levelsIn, item, characterRole, nameItems, items, afterItem, afterItems, after, afterCode, next}
 use Rattle.format.specs.Strict.{itemBits, itemsBits, codedBits, eventBits, listBits, strict}
 use Rattle.format.specs.Lists.{withinTables, withinGrammars}
-use Rattle.format.specs.Reader.{readCharacter, readLiteral, readHit, readIn, readByLiterals, readEntry, readForm, readString, entryOf, carried, textsOf, readName, readContent, readPart, readCode, sameCode, texts, step, following, isFinished, ending, onward, readEvents, readHeader, readBody, readStream, enoughToRead, read, listOf}
-use Rattle.format.specs.Examples.{Hold, answerFor, strictOr, strictFor, inOctets, noNamespace, inBits, begin, attr, chars, end, whole, example, K, withCookie, withComments, withInstructions, beginIn, attrIn, remark, instruct, others}
+use Rattle.format.specs.Reader.{readCharacter, readLiteral, readHit, readIn, readByLiterals, readEntry, readForm, readString, entryOf, carried, nameText, readName, readContent, readPart, readCode, sameCode, eventText, step, following, ending, onward, readEvents, readHeader, readBody, readStream, enoughToRead, read, listOf, readReply}
+use Rattle.format.specs.Examples.{Hold, Lie, full, layoutOf, at, named, laidOut, answerFor, strictOr, strictFor, inOctets, noNamespace, inBits, begin, attr, chars, end, whole, example, K, withCookie, withComments, withInstructions, beginIn, attrIn, remark, instruct, others}
 
 -- Together, since both unfold the same definitions.
-computed : Hold K × Hold others
+computed : Hold K × Hold others × Lie laidOut
 unfolding bitsOf valueOf each unpack octetsFrom octetsFor pack allZero isPadding return fail present need andThen _>>=_ _>>_ times bit
     octet littleEndian littleValue numberBits numberField widthFrom width choiceBits choice maxOctets maxUnsigned groups unsignedBits
     grouped unsigned text eqText isEmpty isChar maxStream maxEvents maxOpen maxUris maxNames maxValues maxGrammars maxLearned maxString
     maxStore cellsPerEvent eventCells readerWork meaningful settingsOf headerOf kindOf nameOf mapName mapEvent eqName partition namesOf
-    valuesOf allValues indexOf partitionsOf eqForm hitOr firstHit strictForm stringBits formBits newUri newName newValue laid added
-    tablesAfter xmlUri xsiUri initialEntries addedAll startTables lawful any kindNumber fitsName fits opened learnedIn kept levels
-    allEmpty choices atLevel below codeBits raised firstFit codeOr codeOf learnable taught learn learnedAfter hasName grammarsAfter
-    inContent closed stateAfter start codesIn item characterRole isWildcard nameItems items afterItem afterItems after afterCode next
+    valuesOf allValues indexOf partitionsOf eqForm hitOr firstHit formOf stringBits formBits newUri newName newValue laid added
+    tablesAfter xmlUri xsiUri initialEntries addedAll startTables nameAllowed any kindNumber fitsName fits openElements learnedIn kept levels
+    allEmpty choices atLevel below codeBits raised firstFit codeOr codeOf teaches productionFor taught learn learnedAfter hasName grammarsAfter
+    inContent closed stateAfter start levelsIn item characterRole isWildcard nameItems items afterItem afterItems after afterCode next
     itemBits itemsBits codedBits eventBits listBits strict withinTables withinGrammars readCharacter readLiteral readHit readIn
-    readByLiterals readEntry readForm readString entryOf carried textsOf readName readContent readPart readCode sameCode texts step
+    readByLiterals readEntry readForm readString entryOf carried nameText readName readContent readPart readCode sameCode eventText step
     following isFinished ending onward readEvents readHeader readBody readStream enoughToRead read listOf answerFor strictOr strictFor
     inOctets noNamespace inBits begin attr chars end whole example K withCookie withComments withInstructions beginIn attrIn remark
-    instruct others
-computed = (record { answers = refl; strictForms = refl }, record { answers = refl; strictForms = refl })
+    instruct others full layoutOf at named laidOut spanOf readReply numberOf
+computed =
+    (record { answers = refl; strictForms = refl }, record { answers = refl; strictForms = refl }, record { layouts = refl; replies = refl })
 
 pub K-holds : Hold K
 K-holds = computed .0
 
 pub further-examples : Hold others
 further-examples = computed .1
+
+pub laid-out-examples : Lie laidOut
+laid-out-examples = computed .2

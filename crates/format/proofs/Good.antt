@@ -13,10 +13,10 @@ use Rattle.text.specs.Text.{Text, text, allChars}
 use Rattle.format.specs.Sizes.{maxUris, maxNames, maxValues, maxStore}
 use Rattle.format.specs.Event.{Event, startDocument, endDocument, endElement, startElement, attribute, characters, comment, instruction, stringsOf}
 use Rattle.format.specs.Settings.{Settings}
-use Rattle.format.specs.Tables.{Tables, Form, hit, literal, partitionsOf, strictForm, newUri, newName, newValue, laid, added, tablesAfter, xmlUri, xsiUri, initialEntries, addedAll, startTables, lawful}
+use Rattle.format.specs.Tables.{Tables, Form, hit, literal, partitionsOf, formOf, newUri, newName, newValue, laid, added, tablesAfter, xmlUri, xsiUri, initialEntries, addedAll, startTables, nameAllowed}
 use Rattle.format.specs.Grammar.{Production, State, document, docContent, docEnd, finished, startTag, elementContent, Code, codeOf, stateAfter}
-use Rattle.format.specs.Context.{Context, start, codesIn, Item, item, characterRole, nameItems, items, afterItem, afterItems, after, afterCode, next}
-use Rattle.format.specs.Lists.{every, Document, lawfulNames, charsOnly, withinTables, within, staysWithin, short, shortStrings}
+use Rattle.format.specs.Context.{Context, start, levelsIn, Item, item, characterRole, nameItems, items, afterItem, afterItems, after, afterCode, next}
+use Rattle.format.specs.Lists.{every, Document, namesAllowed, charsOnly, withinTables, within, staysWithin, short, shortStrings}
 use Rattle.format.proofs.Fit.{ItemsFit, EventFit, ListFit, done, also}
 use Rattle.format.proofs.Shape.{allowed, Run, stop, go, run-of-document, document-of-run}
 use Rattle.format.proofs.Codes.{LearnedOk, learned-ok-start, learned-ok-after, code-of-allowed, allowed-of-code}
@@ -28,7 +28,7 @@ prefix-fits l m n t = omega (arith, leb→le, le→leb, length-append l m)
 
 room-before : (t : Tables) (i : Item) → T (withinTables (afterItem t i)) → T (withinTables t)
 unfolding afterItem tablesAfter added withinTables
-room-before t i h = before (i .written) (strictForm (partitionsOf t (i .role)) (i .text)) h
+room-before t i h = before (i .written) (formOf (partitionsOf t (i .role)) (i .text)) h
   where
     before : (b : Bool) (f : Form) → T (withinTables (cond b (tablesAfter t (i .role) f (i .text)) t)) → T (withinTables t)
     before false f h = h
@@ -46,7 +46,7 @@ room-before-all t (i ∷ is) h = room-before t i (room-before-all (afterItem t i
 record StringsFit (t : Tables) (is : List Item) : Type 0 where
   chars : T (every (λ i. allChars (i .text)) is)
   small : T (every (λ i. short (i .text)) is)
-  named : T (every (λ i. lawful (i .role) (i .text)) is)
+  named : T (every (λ i. nameAllowed (i .role) (i .text)) is)
   room : T (withinTables (afterItems t is))
 
 items-of-strings : (t : Tables) (is : List Item) → StringsFit t is → ItemsFit t is
@@ -76,14 +76,14 @@ strings-are f st p =
       | instruction x y ↦ refl
     ]
 
-value-lawful : (st : State) (v : Text) → lawful (characterRole st) v ≡ true
-unfolding lawful characterRole
+value-lawful : (st : State) (v : Text) → nameAllowed (characterRole st) v ≡ true
+unfolding nameAllowed characterRole
 value-lawful st v =
     elim st [ document ↦ refl | docContent ↦ refl | docEnd ↦ refl | finished ↦ refl | startTag q outer ↦ refl | elementContent q outer ↦ refl ]
 
 -- Of its items only names and targets can be unlawful.
-names-are : (st : State) (p : Production) (e : Event Text) → every (λ i. lawful (i .role) (i .text)) (items st p e) ≡ lawfulNames e
-unfolding every items nameItems item lawful lawfulNames
+names-are : (st : State) (p : Production) (e : Event Text) → every (λ i. nameAllowed (i .role) (i .text)) (items st p e) ≡ namesAllowed e
+unfolding every items nameItems item nameAllowed namesAllowed
 names-are st p =
     elim [
       | startDocument ↦ refl
@@ -111,17 +111,17 @@ sound-start s = record { room = tt; learned = learned-ok-start s }
 record Meet (s : Settings) (c : Context) (e : Event Text) : Type 0 where
   shape : T (allowed s (c .state) e)
   chars : T (charsOnly e)
-  names : T (lawfulNames e)
+  names : T (namesAllowed e)
   strings : T (shortStrings e)
   sizes : T (within (next s c e))
 
 module _ (s : Settings) (c : Context) (e : Event Text) where
-  next-is : (x : Code) → codeOf (codesIn s c) e ≡ some x → next s c e ≡ after c x e
+  next-is : (x : Code) → codeOf (levelsIn s c) e ≡ some x → next s c e ≡ after c x e
   unfolding next afterCode
   next-is x h = rw h
 
   fit-of-meet : Meet s c e → EventFit s c e
-  unfolding codesIn charsOnly shortStrings within after
+  unfolding levelsIn charsOnly shortStrings within after
   fit-of-meet m =
       let (x, h) = code-of-allowed s (c .learned) (c .state) e (m .shape) in
       let room : T (withinTables (next s c e .tables)) = search left in
@@ -147,7 +147,7 @@ module _ (s : Settings) (c : Context) (e : Event Text) where
       strings-fit = strings-of-items _ _ (o .room) (f .strings)
 
       shape-fits : T (allowed s (c .state) e)
-      unfolding codesIn
+      unfolding levelsIn
       shape-fits = allowed-of-code s (c .learned) (c .state) e (f .code) (o .learned) (f .coded)
 
       sound-next : Sound s (next s c e)
@@ -155,7 +155,7 @@ module _ (s : Settings) (c : Context) (e : Event Text) where
       sound-next =
           rw (next-is (f .code) (f .coded)) (record {
             room = strings-fit .room;
-            learned = learned-ok-after s (c .learned) (c .state) (f .code .parts) e shape-fits (o .learned);
+            learned = learned-ok-after s (c .learned) (c .state) (f .code) e shape-fits (o .learned);
           })
 
       meet-of-fit : Meet s c e
@@ -174,7 +174,7 @@ module _ (s : Settings) (c : Context) (e : Event Text) where
 pub record Meets (s : Settings) (l : List (Event Text)) : Type 0 where
   pub shape : Document s l
   pub chars : T (every charsOnly l)
-  pub names : T (every lawfulNames l)
+  pub names : T (every namesAllowed l)
   pub strings : T (every shortStrings l)
   pub sizes : T (staysWithin s start l)
 
@@ -182,7 +182,7 @@ pub record Meets (s : Settings) (l : List (Event Text)) : Type 0 where
 record MeetsFrom (s : Settings) (c : Context) (l : List (Event Text)) : Type 0 where
   shape : Run s (c .state) l
   chars : T (every charsOnly l)
-  names : T (every lawfulNames l)
+  names : T (every namesAllowed l)
   strings : T (every shortStrings l)
   sizes : T (staysWithin s c l)
 

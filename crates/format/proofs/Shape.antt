@@ -5,7 +5,7 @@ use lib.Dec.{T}
 use Rattle.text.specs.Text.{Text}
 use Rattle.format.specs.Event.{QName, Event, startDocument, endDocument, endElement, startElement, attribute, characters, comment, instruction, SD, ED, SE, AT, EE, CH, CM, PI, kindOf}
 use Rattle.format.specs.Settings.{Settings}
-use Rattle.format.specs.Grammar.{State, document, docContent, docEnd, finished, startTag, elementContent, opened, closed, inContent, stateAfter}
+use Rattle.format.specs.Grammar.{State, document, docContent, docEnd, finished, startTag, elementContent, openElements, closed, inContent, stateAfter}
 use Rattle.format.specs.Lists.{Misc, Inner, anAttribute, noMore, Content, someCharacters, anElement, Document, aDocument}
 
 -- The events that a state has a production for, by kind alone.
@@ -48,7 +48,7 @@ module _ {s : Settings} where
   -- What is allowed in an element's content is so in its start tag, and leads to the same state.
   run-tag : {q : QName Text} {outer : List (QName Text)} {l : List (Event Text)} → Run s (elementContent q outer) l
       → Run s (startTag q outer) l
-  unfolding allowed stateAfter inContent opened
+  unfolding allowed stateAfter inContent openElements
   run-tag (go startDocument t r) = absurd t
   run-tag (go endDocument t r) = absurd t
   run-tag (go endElement t r) = go endElement t r
@@ -59,7 +59,7 @@ module _ {s : Settings} where
   run-tag (go (instruction x y) t r) = go (instruction x y) t r
 
   run-inner : {l : List (Event Text)} → Inner s l → Through s startTag l
-  unfolding allowed stateAfter inContent opened closed
+  unfolding allowed stateAfter inContent openElements closed
   run-inner i =
       elim i as (λ l x. Through s startTag l) (λ l x. Through s elementContent l) [
         | anAttribute p v (i → h) ↦ λ q outer r x. go (attribute p v) tt (h q outer r x)
@@ -72,7 +72,7 @@ module _ {s : Settings} where
       ]
 
 pub run-of-document : (s : Settings) (l : List (Event Text)) → Document s l → Run s document l
-unfolding allowed stateAfter inContent opened closed
+unfolding allowed stateAfter inContent openElements closed
 run-of-document s l (aDocument q m i n) =
     go startDocument tt (before m (go (startElement q) tt (run-inner i q [] _ (behind n (go endDocument tt stop)))))
   where
@@ -111,7 +111,7 @@ module _ {s : Settings} where
 
   -- One event more in front.
   extend : {l : List (Event Text)} (st : State) (e : Event Text) → T (allowed s st e) → Rest s (stateAfter st e) l → Rest s st (e ∷ l)
-  unfolding allowed stateAfter opened closed inContent
+  unfolding allowed stateAfter openElements closed inContent
   extend document startDocument t (before q m i n) = whole (aDocument q m i n)
   extend document endDocument t r = absurd t
   extend document endElement t r = absurd t

@@ -1,79 +1,78 @@
 -- One event is read exactly: what a step reads is an event that may come next, in its strict form; and such an event is read.
-use mathlib.Core.Path.{_≡_, refl, sym, _∙_, ap, subst, subst⁻¹}
-use mathlib.Core.List.{List, [], _∷_, _++_, append-assoc, append-nil}
-use mathlib.Core.Bool.{Bool, true, false, cond, _&&_, Bool·beq}
+use mathlib.Core.Path.{_≡_, refl, sym, _∙_, ap, subst⁻¹}
+use mathlib.Core.List.{List, [], _∷_, _++_, append-nil}
+use mathlib.Core.Bool.{Bool, true, false, _&&_, Bool·beq}
 use mathlib.Core.Option.{Option, none, some}
-use Prim.Native.Nat.{ℕ}
-use lib.Dec.{T}
+use lib.ListN.{length}
+use lib.Dec.{T, eqb}
 use Rattle.fields.specs.Bits.{Bits}
 use Rattle.fields.specs.Refusal.{loose, limit}
-use Rattle.fields.specs.Parser.{got, return, need, _>>=_, _>>_}
-use Rattle.fields.proofs.Tests.{split, is-T, both, left, right}
-use Rattle.fields.proofs.Exact.{Reads, Returned, Then, Every, reads-as, reads-return, reads-then, reads-guard, reads-checked}
+use Rattle.fields.proofs.Tests.{split}
+use Rattle.fields.proofs.Exact.{Reads, Every, reads-as, reads-return, reads-then, reads-guard}
 use Rattle.text.specs.Text.{Text, text, isEmpty, isChar, allChars}
-use Rattle.format.specs.Event.{QName, Event, startDocument, endDocument, endElement, startElement, attribute, characters, comment, instruction, eqName, Kind, SD, ED, SE, AT, EE, CH, CM, PI}
+use Rattle.format.specs.Event.{QName, Event, startDocument, endDocument, endElement, startElement, attribute, characters, comment, instruction, eqName, EE, kindOf, nameOf}
 use Rattle.format.specs.Settings.{Settings}
 use Rattle.format.specs.Tables.{Placed, Tables, value, newUri, newName, newValue, laid, added, xmlUri, xsiUri, initialEntries, addedAll, startTables}
-use Rattle.format.specs.Grammar.{Production, any, State, document, docContent, docEnd, finished, startTag, elementContent, Learned, learnedIn, kept, levels, Code, codeOf, codeBits, learnable, taught, learn, learnedAfter}
-use Rattle.format.specs.Context.{Context, start, codesIn, Item, item, nameItems, items, afterItem, afterItems, after, afterCode, next}
+use Rattle.format.specs.Grammar.{Production, any, State, document, docContent, docEnd, finished, startTag, elementContent, Learned, learnedIn, kept, levels, Code, codeOf, codeBits, isWildcard, teaches, productionFor, taught, learn, learnedAfter}
+use Rattle.format.specs.Context.{Context, start, levelsIn, Item, item, nameItems, items, afterItem, afterItems, after, afterCode, next}
 use Rattle.format.specs.Strict.{itemsBits, codedBits, eventBits}
 use Rattle.format.specs.Lists.{short, withinTables, withinGrammars}
 use Rattle.format.specs.Sizes.{maxString, maxUris, maxNames, maxValues, maxStore}
-use Rattle.format.specs.Reader.{readContent, readCode, sameCode, texts, step}
+use Rattle.format.specs.Reader.{sameCode, eventText, step}
 use Rattle.format.proofs.Fit.{ItemsFit, EventFit}
 use Rattle.format.proofs.Codes.{Valid, valid-same, valid-every, code-reads, code-of-valid, code-of-fits, same-code, code-same}
 use Rattle.format.proofs.Entries.{GoodString, GoodTables, every-append, items-good}
-use Rattle.format.proofs.Content.{NameOk, ProductionOk, ContentRead, content-reads, ContentFit, content-fit, ContentFound, content-found}
+use Rattle.format.proofs.Content.{NameOk, ProductionOk, ContentRead, content-reads, content-fit, content-found}
 
 -- ---- one step
 
 pub record StepRead (s : Settings) (c : Context) (e : Event Placed) (w : Bits) : Type 0 where
   pub code : Code
-  pub valid : Valid (codesIn s c) code
+  pub valid : Valid (levelsIn s c) code
   pub content : Bits
   pub read : ContentRead (s .alignment) (c .tables) (c .state) (code .production .qname) e content (code .production .kind)
-  pub same : T (sameCode (code .parts) (codeOf (codesIn s c) (texts e)))
-  pub grammars : T (withinGrammars (next s c (texts e)))
-  pub joined : w ≡ codeBits (s .alignment) (codesIn s c) (code .parts) ++ content
+  pub same : T (sameCode (code .parts) (codeOf (levelsIn s c) (eventText e)))
+  pub grammars : T (withinGrammars (next s c (eventText e)))
+  pub joined : w ≡ codeBits (s .alignment) (levelsIn s c) (code .parts) ++ content
 
 pub step-reads : (s : Settings) (c : Context) → Reads (step s c) (StepRead s c)
 unfolding step
 step-reads s c =
     reads-as
-    (reads-then (code-reads (s .alignment) (codesIn s c)) (λ x u h.
-      reads-then (content-reads (s .alignment) (c .tables) (c .state) (x .production .kind) (x .production .qname)) (λ e v k.
-      reads-guard (sameCode (x .parts) (codeOf (codesIn s c) (texts e))) loose (λ p.
-      reads-guard (withinGrammars (next s c (texts e))) limit (λ q. reads-return e)))))
+    (reads-then (code-reads (s .alignment) (levelsIn s c)) (λ x u h.
+    reads-then (content-reads (s .alignment) (c .tables) (c .state) (x .production .kind) (x .production .qname)) (λ e v k.
+    reads-guard (sameCode (x .parts) (codeOf (levelsIn s c) (eventText e))) loose (λ p.
+    reads-guard (withinGrammars (next s c (eventText e))) limit (λ q. reads-return e)))))
     (λ e w h.
-      let m = h .two in
-      let r = m .two .1 .1 in
-      rw (r .is)
-      (record {
-        code = h .first;
-        valid = h .one .0;
-        content = m .front;
-        read = m .one;
-        same = m .two .0;
-        grammars = m .two .1 .0;
-        joined = h .joined ∙ ap (λ b. h .front ++ b) (m .joined ∙ ap (λ b. m .front ++ b) (r .empty) ∙ append-nil (m .front))
-          ∙ ap (λ b. b ++ m .front) (h .one .1)
-      }))
+    let m = h .two in
+    let r = m .two .1 .1 in
+    rw (r .is)
+    (record {
+      code = h .first;
+      valid = h .one .0;
+      content = m .front;
+      read = m .one;
+      same = m .two .0;
+      grammars = m .two .1 .0;
+      joined = h .joined ∙ ap (λ b. h .front ++ b) (m .joined ∙ ap (λ b. m .front ++ b) (r .empty) ∙ append-nil (m .front))
+          ∙ ap (λ b. b ++ m .front) (h .one .1);
+    }))
     (λ e w h.
-      record {
-        first = h .code;
-        front = codeBits (s .alignment) (codesIn s c) (h .code .parts);
-        back = h .content;
-        one = (h .valid, refl);
-        two = record {
-          first = e;
-          front = h .content;
-          back = [];
-          one = h .read;
-          two = (h .same, (h .grammars, record { is = refl; empty = refl }));
-          joined = sym (append-nil (h .content))
-        };
-        joined = h .joined
-      })
+    record {
+      first = h .code;
+      front = codeBits (s .alignment) (levelsIn s c) (h .code .parts);
+      back = h .content;
+      one = (h .valid, refl);
+      two = record {
+        first = e;
+        front = h .content;
+        back = [];
+        one = h .read;
+        two = (h .same, (h .grammars, record { is = refl; empty = refl }));
+        joined = sym (append-nil (h .content));
+      };
+      joined = h .joined;
+    })
 
 -- ---- contexts that events can leave
 
@@ -110,21 +109,22 @@ levels-sound s ls (elementContent q outer) h =
 -- ---- what is read is fit, and what is fit is read
 
 pub step-fit : (s : Settings) (c : Context) (e : Event Placed) (w : Bits) → Sane c → StepRead s c e w
-  → EventFit s c (texts e) × (w ≡ eventBits s c (texts e))
-unfolding eventBits codedBits codesIn
+    → EventFit s c (eventText e) × (w ≡ eventBits s c (eventText e))
+unfolding eventBits codedBits levelsIn
 step-fit s c e w g h =
-    let (y, coded, parts) = same-code (h .code .parts) (codeOf (codesIn s c) (texts e)) (h .same) in
-    let same : y ≡ h .code = valid-same (codesIn s c) y (h .code) (code-of-valid (codesIn s c) (texts e) y coded) (h .valid) parts in
-    let sound = valid-every Sound (codesIn s c) (h .code) (levels-sound s (c .learned) (c .state) (g .learned)) (h .valid) in
+    let (y, coded, parts) = same-code (h .code .parts) (codeOf (levelsIn s c) (eventText e)) (h .same) in
+    let same : y ≡ h .code = valid-same (levelsIn s c) y (h .code) (code-of-valid (levelsIn s c) (eventText e) y coded) (h .valid) parts in
+    let sound = valid-every Sound (levelsIn s c) (h .code) (levels-sound s (c .learned) (c .state) (g .learned)) (h .valid) in
     let m = content-fit (s .alignment) (c .tables) (c .state) (h .code .production .kind) (h .code .production .qname) e (h .content) (g .tables)
-        (g .room) sound (h .read) in
-    let coded′ : codeOf (codesIn s c) (texts e) ≡ some (h .code) = coded ∙ ap some same in
-    (record { code = h .code; coded = coded′; strings = m .strings; grammars = h .grammars },
-    h .joined ∙ ap (λ b. codeBits (s .alignment) (codesIn s c) (h .code .parts) ++ b) (m .bits) ∙ ap (λ o. codedBits s c o (texts e)) (sym coded′))
+    (g .room) sound (h .read) in
+    let coded′ : codeOf (levelsIn s c) (eventText e) ≡ some (h .code) = coded ∙ ap some same in (
+      record { code = h .code; coded = coded′; strings = m .strings; grammars = h .grammars },
+      h .joined ∙ ap (λ b. codeBits (s .alignment) (levelsIn s c) (h .code .parts) ++ b) (m .bits) ∙ ap (λ o. codedBits s c o (eventText e)) (sym coded′),
+    )
 
 pub record StepFound (s : Settings) (c : Context) (e : Event Text) : Type 0 where
   pub event : Event Placed
-  pub is : texts event ≡ e
+  pub is : eventText event ≡ e
   pub read : StepRead s c event (eventBits s c e)
 
 pub step-found : (s : Settings) (c : Context) (e : Event Text) → EventFit s c e → StepFound s c e
@@ -132,19 +132,19 @@ unfolding eventBits codedBits
 step-found s c e h =
     let x = h .code in
     let m = content-found (s .alignment) (c .tables) (c .state) (x .production .kind) (x .production .qname) e
-        (code-of-fits (codesIn s c) e x (h .coded)) (h .strings) in
+    (code-of-fits (levelsIn s c) e x (h .coded)) (h .strings) in
     record {
       event = m .event;
       is = m .is;
       read = record {
         code = x;
-        valid = code-of-valid (codesIn s c) e x (h .coded);
+        valid = code-of-valid (levelsIn s c) e x (h .coded);
         content = itemsBits (s .alignment) (c .tables) (items (c .state) (x .production) e);
         read = m .read;
-        same = subst⁻¹ (λ d. T (sameCode (x .parts) (codeOf (codesIn s c) d))) (m .is) (code-same (x .parts) (codeOf (codesIn s c) e) x (h .coded) refl);
+        same = subst⁻¹ (λ d. T (sameCode (x .parts) (codeOf (levelsIn s c) d))) (m .is) (code-same (x .parts) (codeOf (levelsIn s c) e) x (h .coded) refl);
         grammars = rw (m .is) (h .grammars);
-        joined = ap (λ o. codedBits s c o e) (h .coded)
-      }
+        joined = ap (λ o. codedBits s c o e) (h .coded);
+      };
     }
 
 -- ---- an event that may come next leaves such a context
@@ -162,7 +162,7 @@ name-ok t p attr q is h =
       uriSmall = h .0 .small;
       localChars = h .1 .0 .chars;
       localSmall = h .1 .0 .small;
-      named = h .1 .0 .named
+      named = h .1 .0 .named;
     }
 
 abbrev SoundIf : Option Production → Type 0
@@ -170,26 +170,21 @@ SoundIf none = Unit {0}
 SoundIf (some p) = Sound p
 
 -- What an event teaches is sound.
-learnable-sound : (t : Tables) (st : State) (p : Production) (e : Event Text) → ItemsFit t (items st p e) → SoundIf (learnable e)
-unfolding learnable items any nameItems
-learnable-sound t st p startDocument h = tt
-learnable-sound t st p endDocument h = tt
-learnable-sound t st p endElement h = refl
-learnable-sound t st p (startElement q) h = name-ok t p false q [] h
-learnable-sound t st p (attribute q v) h = name-ok t p true q (item (value q) v ∷ []) h
-learnable-sound t st p (characters v) h = refl
-learnable-sound t st p (comment x) h = tt
-learnable-sound t st p (instruction x y) h = tt
-
-taught-sound : (vs : List ℕ) (e : Event Text) → SoundIf (learnable e) → SoundIf (taught vs e)
-unfolding taught
-taught-sound [] e h = tt
-taught-sound (v ∷ []) e h = tt
-taught-sound (v ∷ w ∷ []) e h = h
-taught-sound (v ∷ w ∷ x ∷ vs) e h = tt
+taught-sound : (t : Tables) (st : State) (x : Code) (e : Event Text) → ItemsFit t (items st (x .production) e) → SoundIf (taught x e)
+unfolding taught teaches productionFor kindOf nameOf items nameItems
+taught-sound t st x startDocument h = tt
+taught-sound t st x endDocument h = tt
+taught-sound t st x endElement h = split (eqb (length (x .parts)) 2) (λ e. rw e refl) (λ e. rw e tt)
+taught-sound t st x (startElement q) h =
+    split (isWildcard (x .production .qname)) (λ e. rw e (name-ok t (x .production) false q [] h)) (λ e. rw e tt)
+taught-sound t st x (attribute q v) h =
+    split (isWildcard (x .production .qname)) (λ e. rw e (name-ok t (x .production) true q (item (value q) v ∷ []) h)) (λ e. rw e tt)
+taught-sound t st x (characters v) h = split (eqb (length (x .parts)) 2) (λ e. rw e refl) (λ e. rw e tt)
+taught-sound t st x (comment v) h = tt
+taught-sound t st x (instruction v w) h = tt
 
 after-sound : (st : State) (o : Option Production) (ls : List Learned) → SoundIf o → Every (λ x. Sound (x .production)) ls
-  → Every (λ x. Sound (x .production)) (learnedAfter st o ls)
+    → Every (λ x. Sound (x .production)) (learnedAfter st o ls)
 unfolding learnedAfter learn
 after-sound document o ls h k = k
 after-sound docContent o ls h k = k
@@ -207,21 +202,20 @@ sane-next s c e g h =
     (record {
       tables = items-good (c .tables) (items (c .state) (h .code .production) e) (g .tables) (h .strings);
       room = items-room (c .tables) (items (c .state) (h .code .production) e) (g .room) (h .strings);
-      learned = after-sound (c .state) (taught (h .code .parts) e) (c .learned)
-        (taught-sound (h .code .parts) e (learnable-sound (c .tables) (c .state) (h .code .production) e (h .strings))) (g .learned)
+      learned = after-sound (c .state) (taught (h .code) e) (c .learned) (taught-sound (c .tables) (c .state) (h .code) e (h .strings)) (g .learned);
     })
 
 pub sane-start : Sane start
 unfolding start startTables addedAll initialEntries added newUri newName newValue laid xmlUri xsiUri text isEmpty allChars isChar short withinTables
-  maxString maxUris maxNames maxValues maxStore
+    maxString maxUris maxNames maxValues maxStore
 sane-start =
     let g : (x : Placed) → T (allChars (x .text)) → T (short (x .text)) → GoodString x = λ x c m. record { chars = c; small = m } in
     record {
       tables = record {
         uris = (g _ tt tt, (g _ tt tt, (g _ tt tt, tt)));
         names = (g _ tt tt, (g _ tt tt, (g _ tt tt, (g _ tt tt, (g _ tt tt, (g _ tt tt, tt))))));
-        values = tt
+        values = tt;
       };
       room = tt;
-      learned = tt
+      learned = tt;
     }

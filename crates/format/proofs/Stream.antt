@@ -1,30 +1,29 @@
 -- A whole stream: header, events and padding. `readStream` accepts just the strict forms of lists that may come after the start.
-use mathlib.Core.Path.{_≡_, refl, sym, _∙_, ap, subst, subst⁻¹}
+use mathlib.Core.Path.{_≡_, refl, sym, _∙_, ap, subst⁻¹}
 use mathlib.Core.List.{List, [], _∷_, _++_, map, append-assoc}
-use mathlib.Core.Bool.{Bool, true, false, cond}
-use Prim.Native.Nat.{ℕ, zero, suc, _≤_, _<_}
+use Prim.Native.Nat.{ℕ, _≤_}
 use native.Mathlib.Omega.{arith}
 use lib.ListN.{length}
-use lib.Dec.{T, eqb, eqb→eq, eqb-refl}
-use Rattle.fields.specs.Bits.{Bits, bitsOf, each, unpack, pack, isPadding}
-use Rattle.fields.specs.Refusal.{Refusal, header}
-use Rattle.fields.specs.Parser.{Result, bad, got, Parser, return, need, _>>=_, _>>_}
-use Rattle.fields.specs.Field.{octet}
+use lib.Dec.{eqb, eqb→eq, eqb-refl}
+use Rattle.fields.specs.Bits.{Bits, bitsOf, each, unpack}
+use Rattle.fields.specs.Refusal.{header}
+use Rattle.fields.specs.Parser.{Result, bad, got}
 use Rattle.fields.proofs.Tests.{split}
-use Rattle.fields.proofs.Exact.{Reads, Returned, Then, Every, reads-as, reads-return, reads-then, reads-guard, got-value, got-rest}
+use Rattle.fields.proofs.Exact.{Reads, Every, reads-as, reads-return, reads-then, reads-guard, got-value, got-rest}
 use Rattle.fields.proofs.Number.{IsOctet, octet-reads}
 use Rattle.fields.proofs.Pack.{Octets, unpack-pack, pack-unpack}
 use Rattle.text.specs.Text.{Text}
 use Rattle.format.specs.Event.{Event}
 use Rattle.format.specs.Settings.{Settings, headerOf}
 use Rattle.format.specs.Sizes.{maxEvents}
-use Rattle.format.specs.Tables.{Placed}
 use Rattle.format.specs.Context.{Context, start, next}
 use Rattle.format.specs.Strict.{eventBits, listBits, strict}
-use Rattle.format.specs.Reader.{Answer, refused, accepted, Reading, texts, step, isFinished, readEvents, readHeader, readBody, readStream}
-use Rattle.format.proofs.Fit.{EventFit, ListFit, done, also}
-use Rattle.format.proofs.Step.{StepRead, step-reads, sane-start, StepFound, step-found}
-use Rattle.format.proofs.Body.{not-accepted, Accepted, read-fit, ListFound, read-found}
+use Rattle.format.specs.Answer.{accepted}
+use Rattle.format.specs.Reader.{Reading, eventText, step, readHeader, readBody, readStream}
+use Rattle.format.specs.Grammar.{isFinished}
+use Rattle.format.proofs.Fit.{ListFit, done, also}
+use Rattle.format.proofs.Step.{step-reads, sane-start, step-found}
+use Rattle.format.proofs.Body.{not-accepted, read-fit, ListFound, read-found}
 use Rattle.format.proofs.Writes.{finished-no-fit}
 
 -- ---- the header
@@ -35,11 +34,11 @@ header-reads [] o = reads-as (reads-return tt) (λ x w h. h .empty) (λ x w h. r
 header-reads (h ∷ hs) o =
     reads-as (reads-then octet-reads (λ b u r. reads-guard (eqb b h) header (λ t. header-reads hs (o .1))))
     (λ x w m. let same = eqb→eq (m .first) h (m .two .0) in
-      let b = m .one .1 in
-      let c = m .two .1 in
-      m .joined ∙ cc)
+    let b = m .one .1 in
+    let c = m .two .1 in
+    m .joined ∙ cc)
     (λ x w m.
-      record { first = h; front = bitsOf 8 h; back = each (bitsOf 8) hs; one = (o .0, refl); two = (eqb-refl h, refl); joined = m })
+    record { first = h; front = bitsOf 8 h; back = each (bitsOf 8) hs; one = (o .0, refl); two = (eqb-refl h, refl); joined = m })
 
 header-octets : (s : Settings) → Every IsOctet (headerOf s)
 unfolding headerOf
@@ -53,23 +52,23 @@ pub record Stream (s : Settings) (stream : List ℕ) (l : List (Event Text)) : T
   pub is : stream ≡ strict s l
 
 pub stream-fit : (s : Settings) (stream : List ℕ) (r : Reading) → Octets stream → readStream s stream ≡ accepted r
-  → Stream s stream (map texts (r .events))
+    → Stream s stream (map eventText (r .events))
 unfolding readStream readBody strict
 stream-fit s stream r o q = go (readHeader (headerOf s) (unpack stream)) refl q
   where
-    go : (x : Result (Unit {0})) → readHeader (headerOf s) (unpack stream) ≡ x → readBody s x ≡ accepted r → Stream s stream (map texts (r .events))
+    go : (x : Result (Unit {0})) → readHeader (headerOf s) (unpack stream) ≡ x → readBody s x ≡ accepted r → Stream s stream (map eventText (r .events))
     go (bad k) i q = not-accepted q
     go (got u bs) i q =
         let (w, h, j) = header-reads (headerOf s) (header-octets s) .sound (unpack stream) u bs i in
         let a = read-fit maxEvents s start bs r sane-start q in
-        let l = map texts (r .events) in
+        let l = map eventText (r .events) in
         let b = a .bits in
         let e : unpack stream ≡ unpack (headerOf s) ++ (listBits s start l ++ a .padding) = cc in
         record {
           fit = a .fit;
           few = a .few;
           is = pack-unpack stream (unpack (headerOf s) ++ listBits s start l) (a .padding) o
-            (e ∙ sym (append-assoc (unpack (headerOf s)) (listBits s start l) (a .padding))) (a .padded)
+              (e ∙ sym (append-assoc (unpack (headerOf s)) (listBits s start l) (a .padding))) (a .padded);
         }
 
 pub stream-found : (s : Settings) (l : List (Event Text)) → ListFit s start l → length l ≤ maxEvents → ListFound (readStream s (strict s l)) l
@@ -81,8 +80,8 @@ stream-found s l h m =
     record {
       reading = f .reading;
       answer = ap (λ b. readBody s (readHeader hs b)) (e ∙ append-assoc (unpack hs) (listBits s start l) z)
-        ∙ ap (readBody s) (header-reads hs (header-octets s) .complete tt (unpack hs) (listBits s start l ++ z) refl) ∙ f .answer;
-      is = f .is
+          ∙ ap (readBody s) (header-reads hs (header-octets s) .complete tt (unpack hs) (listBits s start l ++ z) refl) ∙ f .answer;
+      is = f .is;
     }
 
 -- ---- no list's bits begin another's
@@ -92,7 +91,7 @@ pub record Same (l m : List (Event Text)) (x y : Bits) : Type 0 where
   pub rests : x ≡ y
 
 pub prefix-free : (s : Settings) (c : Context) (l m : List (Event Text)) (x y : Bits) → ListFit s c l → ListFit s c m
-  → listBits s c l ++ x ≡ listBits s c m ++ y → Same l m x y
+    → listBits s c l ++ x ≡ listBits s c m ++ y → Same l m x y
 unfolding listBits
 prefix-free s c l m x y (done f) (done g) e = record { lists = refl; rests = e }
 prefix-free s c l m x y (done f) (also d fit h) e = absurd (finished-no-fit s c d f fit)
@@ -104,9 +103,9 @@ prefix-free s c l m x y (also {l = l₁} d fit h) (also {l = m₁} b fit₁ h₁
     let v = listBits s (next s c b) m₁ ++ y in
     let i = sym (append-assoc (eventBits s c d) (listBits s (next s c d) l₁) x) ∙ e ∙ append-assoc (eventBits s c b) (listBits s (next s c b) m₁) y in
     let k = sym (step-reads s c .complete (p .event) (eventBits s c d) u (p .read)) ∙ ap (step s c) i
-        ∙ step-reads s c .complete (q .event) (eventBits s c b) v (q .read) in
-    let same : d ≡ b = sym (p .is) ∙ ap texts (got-value k) ∙ q .is in
+    ∙ step-reads s c .complete (q .event) (eventBits s c b) v (q .read) in
+    let same : d ≡ b = sym (p .is) ∙ ap eventText (got-value k) ∙ q .is in
     let r = prefix-free s (next s c d) l₁ m₁ x y h (subst⁻¹ (λ n. ListFit s (next s c n) m₁) same h₁)
-        (got-rest k ∙ ap (λ n. listBits s (next s c n) m₁ ++ y) (sym same)) in
+    (got-rest k ∙ ap (λ n. listBits s (next s c n) m₁ ++ y) (sym same)) in
     let lists = r .lists in
     record { lists = cc; rests = r .rests }

@@ -1,24 +1,22 @@
 -- Strings are read exactly: a form with the string that it means, and then the string with the tables after it.
 use mathlib.Core.Path.{_≡_, refl, sym, _∙_, ap, subst}
 use mathlib.Core.List.{List, [], _∷_, _++_, map, append-nil}
-use mathlib.Core.Bool.{Bool, true, false, cond, _&&_, _||_, not}
-use mathlib.Core.Option.{Option, none, some, Option·none-ne-some, Option·map}
+use mathlib.Core.Bool.{false}
+use mathlib.Core.Option.{Option, none, some, Option·none-ne-some}
 use Prim.Native.Nat.{ℕ, zero, suc, _+_, _-_, _≤_, _<_}
 use native.Mathlib.Omega.{arith}
-use lib.ListN.{length, getD, getElem?, length-append, length-map}
-use lib.Dec.{T, leb, leb→le, le→leb, eqb}
+use lib.ListN.{length, getD, getElem?, length-map}
+use lib.Dec.{T, leb, leb→le, le→leb, eqb, eqb→eq, eqb-refl}
 use borrow.Author.Tests.{ne-eqb, le-leb, lt-leb, leb-true, leb-false}
 use Rattle.fields.specs.Bits.{Bits, each}
-use Rattle.fields.specs.Refusal.{Refusal, limit, character, reference, loose, name}
-use Rattle.fields.specs.Parser.{Parser, return, need, _>>=_, _>>_, times}
-use Rattle.fields.specs.Field.{Alignment, choice, choiceBits, unsigned, unsignedBits, maxUnsigned}
-use Rattle.fields.proofs.Tests.{T-is, is-T, both, left, right, split}
+use Rattle.fields.specs.Refusal.{limit, character, reference, loose, name}
+use Rattle.fields.specs.Field.{Alignment, choiceBits, unsignedBits, maxUnsigned}
+use Rattle.fields.proofs.Tests.{both, left, right, split}
 use Rattle.fields.proofs.Exact.{Reads, Returned, Then, Mapped, Every, reads-as, reads-return, reads-then, reads-map, reads-guard, reads-checked, reads-times}
 use Rattle.fields.proofs.Number.{Chosen, choice-reads, unsigned-reads, member-below}
 use Rattle.text.specs.Text.{Text, isChar, allChars}
-use Rattle.text.proofs.Equal.{eqText-refl, eqText-eq}
 use Rattle.format.specs.Sizes.{maxString, maxStore}
-use Rattle.format.specs.Tables.{Placed, Tables, Role, uri, local, value, target, plain, Partitions, compact, literals, partitionsOf, Form, hit, literal, eqForm, strictForm, stringBits, formBits, laid, tablesAfter, lawful}
+use Rattle.format.specs.Tables.{Placed, Tables, Role, uri, local, value, target, plain, Partitions, compact, literals, partitionsOf, Form, hit, literal, eqForm, formOf, stringBits, formBits, laid, tablesAfter, nameAllowed}
 use Rattle.format.specs.Lists.{short, withinTables}
 use Rattle.format.specs.Reader.{readCharacter, readLiteral, readHit, readIn, readByLiterals, readEntry, readForm, readString}
 
@@ -31,8 +29,17 @@ char-small p t = split (leb p 1114111) (λ e. omega (arith, leb-true p 1114111 e
     large : leb p 1114111 ≡ false → ⊥
     large e =
         let l : 1114111 < p = leb-false p 1114111 e in
-        rw (ne-eqb p 9 (omega arith), ne-eqb p 10 (omega arith), ne-eqb p 13 (omega arith), le-leb 32 p (omega arith), lt-leb p 55295 (omega arith),
-          le-leb 57344 p (omega arith), lt-leb p 65533 (omega arith), le-leb 65536 p (omega arith), e) at t
+        rw (
+          ne-eqb p 9 (omega arith),
+          ne-eqb p 10 (omega arith),
+          ne-eqb p 13 (omega arith),
+          le-leb 32 p (omega arith),
+          lt-leb p 55295 (omega arith),
+          le-leb 57344 p (omega arith),
+          lt-leb p 65533 (omega arith),
+          le-leb 65536 p (omega arith),
+          e,
+        ) at t
 
 character-reads : Reads readCharacter (λ p w. T (isChar p) × (w ≡ unsignedBits p))
 unfolding readCharacter
@@ -72,25 +79,28 @@ unfolding readLiteral short
 literal-reads t n =
     reads-as
     (reads-guard (leb n maxString) limit (λ p. reads-guard (leb (length (t .store) + n) maxStore) limit (λ q.
-      reads-map (reads-times n character-reads) (λ x. (literal, laid t x)))))
+    reads-map (reads-times n character-reads) (λ x. (literal, laid t x)))))
     (λ y w h.
-      let m = h .1 .1 in
-      record {
-        text = m .from;
-        sized = m .by .0;
-        writable = record {
-          chars = all-chars (m .from) (m .by .1);
-          small = rw (m .by .0) (h .0);
-          fits = rw (m .by .0) (leb→le (length (t .store) + n) maxStore (h .1 .0))
-        };
-        is = m .is;
-        bits = m .by .2
-      })
+    let m = h .1 .1 in
+    record {
+      text = m .from;
+      sized = m .by .0;
+      writable = record {
+        chars = all-chars (m .from) (m .by .1);
+        small = rw (m .by .0) (h .0);
+        fits = rw (m .by .0) (leb→le (length (t .store) + n) maxStore (h .1 .0));
+      };
+      is = m .is;
+      bits = m .by .2;
+    })
     (λ y w h.
-      let e = h .sized in
-      (subst (λ k. T (leb k maxString)) e (h .writable .small),
-      (le→leb (length (t .store) + n) maxStore (subst (λ k. length (t .store) + k ≤ maxStore) e (h .writable .fits)),
-      record { from = h .text; by = (e, each-char (h .text) (h .writable .chars), h .bits); is = h .is })))
+    let e = h .sized in (
+      subst (λ k. T (leb k maxString)) e (h .writable .small),
+      (
+        le→leb (length (t .store) + n) maxStore (subst (λ k. length (t .store) + k ≤ maxStore) e (h .writable .fits)),
+        record { from = h .text; by = (e, each-char (h .text) (h .writable .chars), h .bits); is = h .is },
+      ),
+    ))
 
 -- ---- hits
 
@@ -136,7 +146,7 @@ data Rest (a : Alignment) (t : Tables) (ess : List (List Placed)) (v : ℕ) (y :
   literalRest : getElem? ess v ≡ none → Literal t (v - length ess) y w → Rest a t ess v y w
 
 in-reads : (a : Alignment) (t : Tables) (ess : List (List Placed)) (v : ℕ) (o : Option (List Placed)) → getElem? ess v ≡ o
-  → Reads (readIn a t (length ess) v o) (Rest a t ess v)
+    → Reads (readIn a t (length ess) v o) (Rest a t ess v)
 unfolding readIn readHit
 in-reads a t ess v none e = reads-as (literal-reads t (v - length ess)) (λ y w h. literalRest e h) from
   where
@@ -155,7 +165,7 @@ in-reads a t ess v (some es) e =
     from y w (literalRest e₁ h) = absurd (Option·none-ne-some es (sym e₁ ∙ e))
 
 by-literals-reads : (a : Alignment) (t : Tables) (ess : List (List Placed)) → length ess ≤ 2
-  → Reads (readByLiterals a t ess) (Formed a t (literals ess))
+    → Reads (readByLiterals a t ess) (Formed a t (literals ess))
 unfolding readByLiterals formBits stringBits maxUnsigned short maxString laid
 by-literals-reads a t ess few =
     reads-as (reads-then unsigned-reads (λ v u h. in-reads a t ess v (getElem? ess v) refl))
@@ -163,16 +173,16 @@ by-literals-reads a t ess few =
     (λ y w h. from y w (y .0) (y .1) refl (h .means) (h .bits))
   where
     to : (y : Form × Placed) (w : Bits) (v : ℕ) (u b : Bits) → u ≡ unsignedBits v → w ≡ u ++ b → Rest a t ess v y b → Formed a t (literals ess) y w
-    to y w v u b e j (hitRest i x h e₁ e₂) = 
+    to y w v u b e j (hitRest i x h e₁ e₂) =
         let d = member-default ess v (h .table) [] (h .counted) in
         rw e₁ (record { means = aHit v i h; bits = rw d (cc) })
-    to y w v u b e j (literalRest e₁ h) = 
+    to y w v u b e j (literalRest e₁ h) =
         let l : length (h .text) + length ess ≡ v = omega (arith, none-beyond ess v e₁, h .sized) in
         let b′ = h .bits in
         rw (h .is) (record { means = aLiteral (h .text) (h .writable) refl; bits = rw l (cc) })
 
     from : (y : Form × Placed) (w : Bits) (f : Form) (x : Placed) → y ≡ (f, x) → Means t (literals ess) x f → w ≡ formBits a (literals ess) f (x .text)
-      → Then (λ v u. (v ≤ 2147483647) × (u ≡ unsignedBits v)) (λ v. Rest a t ess v) y w
+        → Then (λ v u. (v ≤ 2147483647) × (u ≡ unsignedBits v)) (λ v. Rest a t ess v) y w
     from y w f x i (aHit l k h) e =
         let d = member-default ess l (h .table) [] (h .counted) in
         record {
@@ -181,7 +191,7 @@ by-literals-reads a t ess few =
           back = choiceBits a (length (h .table)) k;
           one = (omega (arith, member-below ess l (h .counted)), refl);
           two = hitRest k x h i refl;
-          joined = rw d at e
+          joined = rw d at e;
         }
     from y w f x i (aLiteral z h p) e =
         let v = length z + length ess in
@@ -191,8 +201,8 @@ by-literals-reads a t ess few =
           back = each unsignedBits z;
           one = (omega (arith, leb→le (length z) 1024 (h .small)), refl);
           two = literalRest (member-none ess v (omega arith))
-            (record { text = z; sized = omega arith; writable = h; is = i ∙ ap (λ q. (literal, q)) p; bits = refl });
-          joined = rw p at e
+              (record { text = z; sized = omega arith; writable = h; is = i ∙ ap (λ q. (literal, q)) p; bits = refl });
+          joined = rw p at e;
         }
 
 -- ---- the forms of both kinds of partitions
@@ -233,12 +243,12 @@ entry-reads a t v (some x) = reads-return (hit 0 (v - 1), x)
 
 -- A String by no table is a literal.
 no-partition : (a : Alignment) (t : Tables) (y : Form × Placed) (b : Bits) → Formed a t (literals []) y b
-  → (z : Text) × Writable t z × (y ≡ (literal, laid t z)) × (b ≡ stringBits 0 z)
+    → (z : Text) × Writable t z × (y ≡ (literal, laid t z)) × (b ≡ stringBits 0 z)
 unfolding formBits laid
 no-partition a t y b h = go (y .0) (y .1) (h .means) (h .bits)
   where
     go : (f : Form) (x : Placed) → Means t (literals []) x f → b ≡ formBits a (literals []) f (x .text)
-      → (z : Text) × Writable t z × (_≡_ {A = Form × Placed} (f, x) (literal, laid t z)) × (b ≡ stringBits 0 z)
+        → (z : Text) × Writable t z × (_≡_ {A = Form × Placed} (f, x) (literal, laid t z)) × (b ≡ stringBits 0 z)
     go f x (aHit j i h) e = absurd (Option·none-ne-some _ (h .counted))
     go f x (aLiteral z h p) e = (z, h, ap (λ q. (literal, q)) p, rw p at e)
 
@@ -261,7 +271,7 @@ compact-reads a t es =
     values = none ∷ map some es
 
     to : (y : Form × Placed) (w : Bits) (v : ℕ) (o : Option Placed) (u b : Bits) → Chosen a values (v, o) u → w ≡ u ++ b → Onward a t v o y b
-      → Formed a t (compact es) y w
+        → Formed a t (compact es) y w
     to y w v none u b h j r =
         let (z, p, i, q) = no-partition a t y b r in
         let v0 = miss-first es v (h .names) in
@@ -277,7 +287,7 @@ compact-reads a t es =
         rw (r .is, p) (record { means = aHit 0 i (record { table = es; counted = refl; entry = m }); bits = cc })
 
     from : (y : Form × Placed) (w : Bits) (f : Form) (x : Placed) → y ≡ (f, x) → Means t (compact es) x f → w ≡ formBits a (compact es) f (x .text)
-      → Then (Chosen a values) (λ z. Onward a t (z .0) (z .1)) y w
+        → Then (Chosen a values) (λ z. Onward a t (z .0) (z .1)) y w
     from y w f x i (aHit j k h) e =
         let (j0, same) = only es j (h .table) (h .counted) in
         let l : length (map some es) ≡ length es = length-map es some in
@@ -287,7 +297,7 @@ compact-reads a t es =
           back = [];
           one = record { names = map-member es k x (rw same at (h .entry)); bits = rw l e };
           two = record { is = i ∙ rw (j0, suc-sub-one k); empty = refl };
-          joined = sym (append-nil w)
+          joined = sym (append-nil w);
         }
     from y w f x i (aLiteral z h p) e =
         let l : length (map some es) ≡ length es = length-map es some in
@@ -297,7 +307,7 @@ compact-reads a t es =
           back = stringBits 0 z;
           one = record { names = refl; bits = rw l };
           two = rw i (record { means = aLiteral z h p; bits = rw p });
-          joined = rw p at e
+          joined = rw p at e;
         }
 
 pub form-reads : (a : Alignment) (t : Tables) (ps : Partitions) → length (partsOf ps) ≤ 2 → Reads (readForm a t ps) (Formed a t ps)
@@ -309,14 +319,14 @@ form-reads a t (literals ess) few = by-literals-reads a t ess few
 
 pub same-form : (f g : Form) → T (eqForm f g) → f ≡ g
 unfolding eqForm
-same-form (hit j i) (hit l k) t = ap (λ v. hit (getD v 0 0) (getD v 1 0)) (eqText-eq (j ∷ i ∷ []) (l ∷ k ∷ []) t)
+same-form (hit j i) (hit l k) t = cc (eqb→eq j l (left (eqb j l) (eqb i k) t), eqb→eq i k (right (eqb j l) (eqb i k) t))
 same-form (hit j i) literal t = absurd t
 same-form literal (hit l k) t = absurd t
 same-form literal literal t = refl
 
 form-same : (f : Form) → T (eqForm f f)
 unfolding eqForm
-form-same (hit j i) = eqText-refl (j ∷ i ∷ [])
+form-same (hit j i) = both (eqb j j) (eqb i i) (eqb-refl j) (eqb-refl i)
 form-same literal = tt
 
 pub few-partitions : (t : Tables) (r : Role) → length (partsOf (partitionsOf t r)) ≤ 2
@@ -329,12 +339,12 @@ few-partitions t plain = omega arith
 
 -- The form that the strict form of a list has for a text.
 abbrev pub formIn : Tables → Role → Text → Form
-formIn t r x = strictForm (partitionsOf t r) x
+formIn t r x = formOf (partitionsOf t r) x
 
 -- A string in its strict form, with the tables after it.
 pub record StringRead (a : Alignment) (t : Tables) (r : Role) (z : Placed × Tables) (w : Bits) : Type 0 where
   pub means : Means t (partitionsOf t r) (z .0) (formIn t r (z .0 .text))
-  pub named : T (lawful r (z .0 .text))
+  pub named : T (nameAllowed r (z .0 .text))
   pub after : z .1 ≡ tablesAfter t r (formIn t r (z .0 .text)) (z .0 .text)
   pub room : T (withinTables (z .1))
   pub bits : w ≡ formBits a (partitionsOf t r) (formIn t r (z .0 .text)) (z .0 .text)
@@ -344,16 +354,16 @@ unfolding readString
 string-reads a t r =
     reads-as
     (reads-then (form-reads a t (partitionsOf t r) (few-partitions t r)) (λ y u h.
-      reads-guard (eqForm (y .0) (formIn t r (y .1 .text))) loose (λ p.
-      reads-guard (lawful r (y .1 .text)) name (λ q.
-      reads-guard (withinTables (tablesAfter t r (y .0) (y .1 .text))) limit (λ m.
-      reads-return (y .1, tablesAfter t r (y .0) (y .1 .text)))))))
+    reads-guard (eqForm (y .0) (formIn t r (y .1 .text))) loose (λ p.
+    reads-guard (nameAllowed r (y .1 .text)) name (λ q.
+    reads-guard (withinTables (tablesAfter t r (y .0) (y .1 .text))) limit (λ m.
+    reads-return (y .1, tablesAfter t r (y .0) (y .1 .text)))))))
     (λ z w h. to z w (h .first .0) (h .first .1) (h .front) (h .back) (h .one) (h .joined) (h .two .0) (h .two .1 .0) (h .two .1 .1 .0) (h .two .1 .1 .1))
     from
   where
     to : (z : Placed × Tables) (w : Bits) (f : Form) (x : Placed) (u b : Bits) → Formed a t (partitionsOf t r) (f, x) u → w ≡ u ++ b
-      → T (eqForm f (formIn t r (x .text))) → T (lawful r (x .text)) → T (withinTables (tablesAfter t r f (x .text)))
-      → Returned (x, tablesAfter t r f (x .text)) z b → StringRead a t r z w
+        → T (eqForm f (formIn t r (x .text))) → T (nameAllowed r (x .text)) → T (withinTables (tablesAfter t r f (x .text)))
+        → Returned (x, tablesAfter t r f (x .text)) z b → StringRead a t r z w
     to z w f x u b h j p q m y =
         let e = same-form f (formIn t r (x .text)) p in
         let i : w ≡ u = j ∙ ap (λ c. u ++ c) (y .empty) ∙ append-nil u in
@@ -363,15 +373,15 @@ string-reads a t r =
           named = q;
           after = ap (λ g. tablesAfter t r g (x .text)) e;
           room = m;
-          bits = i ∙ h .bits ∙ ap (λ g. formBits a (partitionsOf t r) g (x .text)) e
+          bits = i ∙ h .bits ∙ ap (λ g. formBits a (partitionsOf t r) g (x .text)) e;
         })
 
     from : (z : Placed × Tables) (w : Bits) → StringRead a t r z w
-      → Then (Formed a t (partitionsOf t r))
+        → Then (Formed a t (partitionsOf t r))
         (λ y z v.
-          T (eqForm (y .0) (formIn t r (y .1 .text)))
-          × (T (lawful r (y .1 .text))
-            × (T (withinTables (tablesAfter t r (y .0) (y .1 .text))) × Returned (y .1, tablesAfter t r (y .0) (y .1 .text)) z v)))
+        T (eqForm (y .0) (formIn t r (y .1 .text)))
+        × (T (nameAllowed r (y .1 .text))
+        × (T (withinTables (tablesAfter t r (y .0) (y .1 .text))) × Returned (y .1, tablesAfter t r (y .0) (y .1 .text)) z v)))
         z w
     from z w h =
         let f = formIn t r (z .0 .text) in
@@ -381,5 +391,5 @@ string-reads a t r =
           back = [];
           one = record { means = h .means; bits = h .bits };
           two = (form-same f, (h .named, (rw (h .after) at (h .room), record { is = ap (λ q. (z .0, q)) (h .after); empty = refl })));
-          joined = sym (append-nil w)
+          joined = sym (append-nil w);
         }

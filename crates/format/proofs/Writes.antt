@@ -16,11 +16,11 @@ use Rattle.format.specs.Event.{Event, mapEvent, stringsOf}
 use Rattle.format.specs.Settings.{Settings}
 use Rattle.format.specs.Sizes.{maxUris, maxNames, maxValues, maxStore}
 use Rattle.format.specs.Tables.{Tables}
-use Rattle.format.specs.Grammar.{State, document, docContent, docEnd, finished, startTag, elementContent, Learned, Code, levels, codeOf}
-use Rattle.format.specs.Context.{Context, codesIn, Item, afterItem, next}
+use Rattle.format.specs.Grammar.{State, document, docContent, docEnd, finished, startTag, elementContent, Learned, Code, levels, codeOf, isFinished}
+use Rattle.format.specs.Context.{Context, levelsIn, Item, afterItem, next}
 use Rattle.format.specs.Strict.{eventBits, listBits}
 use Rattle.format.specs.Lists.{every, withinTables}
-use Rattle.format.specs.Reader.{Answer, refused, accepted, isFinished}
+use Rattle.format.specs.Answer.{Answer, refused, accepted}
 use Rattle.format.specs.Writer.{Stored, Test, firstFailed, placeTests, stringTests, contentTests, eventTests, faultOf, prepended, unless, writeEvents}
 use Rattle.format.specs.Claims.{meantOne, together, meant}
 use Rattle.format.proofs.Fit.{ItemFit, ItemsFit, EventFit, ListFit, done, also}
@@ -79,7 +79,7 @@ content-passed t (i ∷ is) = simp (both-passed, string-passed, content-passed (
 
 module _ (s : Settings) (c : Context) (store : Text) (e : Event Span) where
   -- By the code that the event has here, if any.
-  event-passed : (o : Option Code) → codeOf (codesIn s c) (mapEvent (part store) e) ≡ o
+  event-passed : (o : Option Code) → codeOf (levelsIn s c) (mapEvent (part store) e) ≡ o
       → Passed (eventTests s c store e o) ↔ (T (every (inside store) (stringsOf e)) × EventFit s c (mapEvent (part store) e))
   unfolding eventTests
   event-passed none no-code =
@@ -122,7 +122,7 @@ finished-no-code s ls e = refl
 
 -- Nothing comes after the end.
 pub finished-no-fit : (s : Settings) (c : Context) (e : Event Text) → c .state ≡ finished → EventFit s c e → ⊥
-unfolding codesIn
+unfolding levelsIn
 finished-no-fit s c e end f = Option·none-ne-some (f .code) (cc (finished-no-code s (c .learned) e, f .coded))
 
 -- ---- the list

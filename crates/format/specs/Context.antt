@@ -6,8 +6,8 @@ use mathlib.Core.Option.{Option, none, some}
 use Rattle.text.specs.Text.{Text}
 use Rattle.format.specs.Event.{QName, Event, startDocument, endDocument, endElement, startElement, attribute, characters, comment, instruction}
 use Rattle.format.specs.Settings.{Settings}
-use Rattle.format.specs.Tables.{Tables, Role, uri, local, value, target, plain, Form, partitionsOf, strictForm, tablesAfter, startTables}
-use Rattle.format.specs.Grammar.{Production, State, document, docContent, docEnd, finished, startTag, elementContent, Learned, Code, levels, codeOf, taught, learnedAfter, grammarsAfter, stateAfter}
+use Rattle.format.specs.Tables.{Tables, Role, uri, local, value, target, plain, partitionsOf, formOf, tablesAfter, startTables}
+use Rattle.format.specs.Grammar.{Production, State, document, docContent, docEnd, finished, startTag, elementContent, Learned, Code, isWildcard, levels, codeOf, taught, learnedAfter, grammarsAfter, stateAfter}
 
 pub record Context : Type 0 where
   pub state : State
@@ -19,12 +19,12 @@ pub record Context : Type 0 where
 unfoldable pub start : Context
 start = record { state = document; tables = startTables; learned = []; grammars = [] }
 
-unfoldable pub codesIn : Settings → Context → List (List Production)
-codesIn s c = levels s (c .learned) (c .state)
+unfoldable pub levelsIn : Settings → Context → List (List Production)
+levelsIn s c = levels s (c .learned) (c .state)
 
 -- ---- the strings of an event
 
--- A string of an event: where it stands, and whether it is written: a learned production carries the name of its events.
+-- A content item (EXI 7): a string of an event, where it stands, and whether it is written. A name that a learned production carries is not.
 pub record Item : Type 0 where
   pub role : Role
   pub written : Bool
@@ -42,11 +42,7 @@ characterRole finished = plain
 characterRole (startTag q outer) = value q
 characterRole (elementContent q outer) = value q
 
--- SE(*) and AT(*) carry no name.
-unfoldable pub isWildcard : Option (QName Text) → Bool
-isWildcard none = true
-isWildcard (some q) = false
-
+-- The two parts of a QName (EXI 7.1.7; prefixes are not kept).
 unfoldable pub nameItems : Production → Bool → QName Text → List Item
 nameItems p attr q =
     record { role = uri; written = isWildcard (p .qname); text = q .uri }
@@ -64,7 +60,7 @@ items st p (comment x) = item plain x ∷ []
 items st p (instruction x y) = item target x ∷ item plain y ∷ []
 
 unfoldable pub afterItem : Tables → Item → Tables
-afterItem t i = cond (i .written) (tablesAfter t (i .role) (strictForm (partitionsOf t (i .role)) (i .text)) (i .text)) t
+afterItem t i = cond (i .written) (tablesAfter t (i .role) (formOf (partitionsOf t (i .role)) (i .text)) (i .text)) t
 
 unfoldable pub afterItems : Tables → List Item → Tables
 afterItems t [] = t
@@ -76,8 +72,8 @@ after c x e =
     record {
       state = stateAfter (c .state) e;
       tables = afterItems (c .tables) (items (c .state) (x .production) e);
-      learned = learnedAfter (c .state) (taught (x .parts) e) (c .learned);
-      grammars = grammarsAfter (c .grammars) e
+      learned = learnedAfter (c .state) (taught x e) (c .learned);
+      grammars = grammarsAfter (c .grammars) e;
     }
 
 unfoldable pub afterCode : Context → Option Code → Event Text → Context
@@ -86,4 +82,4 @@ afterCode c (some x) e = after c x e
 
 -- An event that no production fits stands in no well-formed list, and leaves nothing.
 unfoldable pub next : Settings → Context → Event Text → Context
-next s c e = afterCode c (codeOf (codesIn s c) e) e
+next s c e = afterCode c (codeOf (levelsIn s c) e) e

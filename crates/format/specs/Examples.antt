@@ -2,34 +2,39 @@
 -- show each of the scope's "mistakes that look right", and the settings.
 use Prim.Native.Nat.{ℕ}
 use Prim.Native.String.{String}
-use mathlib.Core.Bool.{Bool, true, false}
 use mathlib.Core.Path.{_≡_}
 use mathlib.Core.List.{List, [], _∷_, _++_, map}
-use Rattle.fields.specs.Refusal.{Refusal, header, ended, code, number, reference, loose, name, tail}
-use Rattle.text.specs.Text.{Text, text}
-use Rattle.format.specs.Event.{QName, Event, startDocument, endDocument, endElement, startElement, attribute, characters, comment, instruction}
-use Rattle.format.specs.Settings.{Options, settingsOf}
+use Rattle.fields.specs.Refusal.{header, ended, code, number, reference, loose, name, tail}
+use lib.ListN.{drop}
+use Rattle.text.specs.Text.{Span, Text, text}
+use Rattle.format.specs.Event.{QName, Event, mapEvent, startDocument, endDocument, endElement, startElement, attribute, characters, comment, instruction}
+use Rattle.format.specs.Settings.{SettingNumbers, settingsOf}
 use Rattle.format.specs.Sizes.{eventCells, maxStore, readerWork}
-use Rattle.format.specs.Tables.{xmlUri}
+use Rattle.format.specs.Tables.{spanOf, xmlUri}
 use Rattle.format.specs.Strict.{strict}
-use Rattle.format.specs.Reader.{Answer, refused, accepted, read, listOf}
+use Rattle.format.specs.Answer.{Answer, refused, accepted}
+use Rattle.format.specs.Reader.{Reading, ReaderRoom, ReadReply, readReply, read, listOf}
 
 -- A stream under options, and the answer for it: the list, or a refusal with its index.
 pub record Example : Type 0 where
-  pub options : Options
+  pub numbers : SettingNumbers
   pub stream : List ℕ
   pub answer : Answer (List (Event Text))
 
+-- Lent parts of just the sizes.
+unfoldable pub full : ReaderRoom
+full = record { events = eventCells; text = maxStore; work = readerWork }
+
 unfoldable pub answerFor : Example → Answer (List (Event Text))
-answerFor x = listOf (read (record { events = eventCells; text = maxStore; work = readerWork }) (x .options) (x .stream))
+answerFor x = listOf (read full (x .numbers) (x .stream))
 
 -- The strict form of the list, where there is one.
-unfoldable pub strictOr : Options → List ℕ → Answer (List (Event Text)) → List ℕ
+unfoldable pub strictOr : SettingNumbers → List ℕ → Answer (List (Event Text)) → List ℕ
 strictOr o stream (refused k i) = stream
 strictOr o stream (accepted l) = strict (settingsOf o) l
 
 unfoldable pub strictFor : Example → List ℕ
-strictFor x = strictOr (x .options) (x .stream) (x .answer)
+strictFor x = strictOr (x .numbers) (x .stream) (x .answer)
 
 -- The reader answers for each as it says, and each list has its stream as strict form.
 pub record Hold (xs : List Example) : Type 0 where
@@ -38,13 +43,13 @@ pub record Hold (xs : List Example) : Type 0 where
 
 -- ---- how examples are written
 
-unfoldable pub inOctets : Options
+unfoldable pub inOctets : SettingNumbers
 inOctets = record { alignment = 1; cookie = 0; comments = 0; instructions = 0 }
 
 unfoldable pub noNamespace : String → QName Text
 noNamespace n = record { uri = []; local = text n }
 
-unfoldable pub inBits : Options
+unfoldable pub inBits : SettingNumbers
 inBits = record { alignment = 0; cookie = 0; comments = 0; instructions = 0 }
 
 unfoldable pub begin : String → Event Text
@@ -63,8 +68,8 @@ end = endElement
 unfoldable pub whole : List (Event Text) → Answer (List (Event Text))
 whole l = accepted (startDocument ∷ (l ++ endDocument ∷ []))
 
-unfoldable pub example : Options → List ℕ → Answer (List (Event Text)) → Example
-example o stream a = record { options = o; stream = stream; answer = a }
+unfoldable pub example : SettingNumbers → List ℕ → Answer (List (Event Text)) → Example
+example o stream a = record { numbers = o; stream = stream; answer = a }
 
 -- K1 to K12 (scope, "Streams to check").
 unfoldable pub K : List Example
@@ -90,13 +95,13 @@ K =
 
 -- ---- further examples
 
-unfoldable pub withCookie : Options → Options
+unfoldable pub withCookie : SettingNumbers → SettingNumbers
 withCookie o = record { alignment = o .alignment; cookie = 1; comments = o .comments; instructions = o .instructions }
 
-unfoldable pub withComments : Options → Options
+unfoldable pub withComments : SettingNumbers → SettingNumbers
 withComments o = record { alignment = o .alignment; cookie = o .cookie; comments = 1; instructions = o .instructions }
 
-unfoldable pub withInstructions : Options → Options
+unfoldable pub withInstructions : SettingNumbers → SettingNumbers
 withInstructions o = record { alignment = o .alignment; cookie = o .cookie; comments = o .comments; instructions = 1 }
 
 unfoldable pub beginIn : Text → String → Event Text
@@ -185,4 +190,62 @@ others =
     ∷ example inOctets (0x80 ∷ 0x01 ∷ 0x01 ∷ []) (refused name 1)
     ∷ example inOctets (0x80 ∷ 0x01 ∷ 0x02 ∷ 0x61 ∷ 0x01 ∷ 0x03 ∷ 0x00 ∷ 0x01 ∷ []) (refused name 2)
     ∷ example inBits (0x80 ∷ 0x40 ∷ 0x98 ∷ 0x41 ∷ []) (refused tail 4)
+    ∷ []
+
+-- ---- where the strings lie, and the counts
+
+-- The events as they lie in memory, and the store behind the 99 code points of the initial entries.
+pub record Layout : Type 0 where
+  pub events : List (Event Span)
+  pub literals : Text
+
+pub record LaidOut : Type 0 where
+  pub numbers : SettingNumbers
+  pub stream : List ℕ
+  pub layout : Layout
+  pub reply : ReadReply
+
+unfoldable pub layoutOf : Answer Reading → Answer Layout
+layoutOf (refused k i) = refused k i
+layoutOf (accepted r) = accepted (record { events = map (mapEvent spanOf) (r .events); literals = drop 99 (r .store) })
+
+-- Each is laid out and counted as it says.
+pub record Lie (xs : List LaidOut) : Type 0 where
+  pub layouts : map (λ x. layoutOf (read full (x .numbers) (x .stream))) xs ≡ map (λ x. accepted (x .layout)) xs
+  pub replies : map (λ x. readReply (read full (x .numbers) (x .stream))) xs ≡ map (λ x. x .reply) xs
+
+unfoldable pub at : ℕ → ℕ → Span
+at place size = record { place = place; size = size }
+
+unfoldable pub named : ℕ → ℕ → QName Span
+named place size = record { uri = at 0 0; local = at place size }
+
+unfoldable pub laidOut : List LaidOut
+laidOut =
+    -- K1
+    record {
+      numbers = inOctets;
+      stream = 0x80 ∷ 0x01 ∷ 0x02 ∷ 0x61 ∷ 0x00 ∷ [];
+      layout = record { events = startDocument ∷ startElement (named 99 1) ∷ endElement ∷ endDocument ∷ []; literals = text "a" };
+      reply = record { number = 0; index = 0; events = 4; codePoints = 100 };
+    }
+    -- K7: the second p, t and 1 lie where the first do
+    ∷ record {
+      numbers = inOctets;
+      stream = 0x80 ∷ 0x01 ∷ 0x02 ∷ 0x72 ∷ 0x02 ∷ 0x01 ∷ 0x02 ∷ 0x70 ∷ 0x01 ∷ 0x01 ∷ 0x02 ∷ 0x74 ∷ 0x03 ∷ 0x31 ∷ 0x01 ∷ 0x00 ∷ 0x01 ∷ 0x00 ∷ 0x01 ∷ 0x00
+          ∷ 0x01 ∷ 0x01 ∷ 0x00 ∷ 0x00 ∷ 0x01 ∷ [];
+      layout = record {
+        events = startDocument ∷ startElement (named 99 1) ∷ startElement (named 100 1) ∷ attribute (named 101 1) (at 102 1) ∷ endElement
+            ∷ startElement (named 100 1) ∷ attribute (named 101 1) (at 102 1) ∷ endElement ∷ endElement ∷ endDocument ∷ [];
+        literals = text "rpt1";
+      };
+      reply = record { number = 0; index = 0; events = 10; codePoints = 103 };
+    }
+    -- an empty value lies at the end of the store so far
+    ∷ record {
+      numbers = inOctets;
+      stream = 0x80 ∷ 0x01 ∷ 0x02 ∷ 0x61 ∷ 0x03 ∷ 0x02 ∷ 0x00 ∷ [];
+      layout = record { events = startDocument ∷ startElement (named 99 1) ∷ characters (at 100 0) ∷ endElement ∷ endDocument ∷ []; literals = text "a" };
+      reply = record { number = 0; index = 0; events = 5; codePoints = 100 };
+    }
     ∷ []

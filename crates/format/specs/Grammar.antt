@@ -19,6 +19,7 @@ pub record Production : Type 0 where
 unfoldable pub any : Kind → Production
 any k = record { kind = k; qname = none }
 
+-- Only to compare kinds.
 unfoldable pub kindNumber : Kind → ℕ
 kindNumber SD = 0
 kindNumber ED = 1
@@ -28,6 +29,11 @@ kindNumber EE = 4
 kindNumber CH = 5
 kindNumber CM = 6
 kindNumber PI = 7
+
+-- SE(*) and AT(*): the production has no name, so the event's name is written.
+unfoldable pub isWildcard : Option (QName Text) → Bool
+isWildcard none = true
+isWildcard (some q) = false
 
 -- A production with a name fits events of that name alone.
 unfoldable pub fitsName : Option (QName Text) → Option (QName Text) → Bool
@@ -45,13 +51,13 @@ pub data State : Type 0 where
   startTag elementContent : QName Text → List (QName Text) → State
 
 -- The open elements, the innermost first.
-unfoldable pub opened : State → List (QName Text)
-opened document = []
-opened docContent = []
-opened docEnd = []
-opened finished = []
-opened (startTag q outer) = q ∷ outer
-opened (elementContent q outer) = q ∷ outer
+unfoldable pub openElements : State → List (QName Text)
+openElements document = []
+openElements docContent = []
+openElements docEnd = []
+openElements finished = []
+openElements (startTag q outer) = q ∷ outer
+openElements (elementContent q outer) = q ∷ outer
 
 -- ---- learned productions
 
@@ -100,7 +106,7 @@ pub record Code : Type 0 where
 unfoldable pub atLevel : ℕ → Production → Code
 atLevel v p = record { parts = v ∷ []; production = p }
 
--- The code one level up.
+-- A code of the next level, under the value v that leads there.
 unfoldable pub below : ℕ → Code → Code
 below v c = record { parts = v ∷ c .parts; production = c .production }
 
@@ -128,28 +134,30 @@ codeOf (l ∷ ls) e = let later = Option·map (below (length l)) (codeOf ls e) i
 
 -- ---- what an event leaves in the grammars
 
--- The production that an event with this code puts at 0 (EXI 8.4.3): SE(*), AT(*), CH and EE with a code of two parts. In document content
--- SE(*) has one part, and a comment or instruction is never learned.
-unfoldable pub learnable : Event Text → Option Production
-learnable startDocument = none
-learnable endDocument = none
-learnable endElement = some (any EE)
-learnable (startElement q) = some (record { kind = SE; qname = some q })
-learnable (attribute q v) = some (record { kind = AT; qname = some q })
-learnable (characters v) = some (any CH)
-learnable (comment x) = none
-learnable (instruction x y) = none
+-- Which kinds of event with this code put a production at 0 and raise the first part of the others (EXI 8.4.3): SE(*) and AT(*) do; CH and EE
+-- with a code of two parts do so too.
+unfoldable pub teaches : Code → Kind → Bool
+teaches x SD = false
+teaches x ED = false
+teaches x SE = isWildcard (x .production .qname)
+teaches x AT = isWildcard (x .production .qname)
+teaches x EE = eqb (length (x .parts)) 2
+teaches x CH = eqb (length (x .parts)) 2
+teaches x CM = false
+teaches x PI = false
 
-unfoldable pub taught : List ℕ → Event Text → Option Production
-taught [] e = none
-taught (v ∷ []) e = none
-taught (v ∷ w ∷ []) e = learnable e
-taught (v ∷ w ∷ x ∷ vs) e = none
+-- The production for an event.
+unfoldable pub productionFor : Event Text → Production
+productionFor e = record { kind = kindOf e; qname = nameOf e }
+
+unfoldable pub taught : Code → Event Text → Option Production
+taught x e = cond (teaches x (kindOf e)) (some (productionFor e)) none
 
 unfoldable pub learn : QName Text → Bool → Option Production → List Learned → List Learned
 learn q tag none ls = ls
 learn q tag (some p) ls = record { element = q; inTag = tag; production = p } ∷ ls
 
+-- Only the two states of an element's grammar learn.
 unfoldable pub learnedAfter : State → Option Production → List Learned → List Learned
 learnedAfter document p ls = ls
 learnedAfter docContent p ls = ls
@@ -191,9 +199,17 @@ closed (q ∷ p ∷ outer) = elementContent p outer
 unfoldable pub stateAfter : State → Event Text → State
 stateAfter st startDocument = docContent
 stateAfter st endDocument = finished
-stateAfter st endElement = closed (opened st)
-stateAfter st (startElement q) = startTag q (opened st)
+stateAfter st endElement = closed (openElements st)
+stateAfter st (startElement q) = startTag q (openElements st)
 stateAfter st (attribute q v) = st
 stateAfter st (characters v) = inContent st
 stateAfter st (comment x) = inContent st
 stateAfter st (instruction x y) = inContent st
+
+unfoldable pub isFinished : State → Bool
+isFinished document = false
+isFinished docContent = false
+isFinished docEnd = false
+isFinished finished = true
+isFinished (startTag q outer) = false
+isFinished (elementContent q outer) = false

@@ -1,6 +1,6 @@
 -- Which lists are well-formed and which are inside the limits (scope, "What is bought" and "Sizes"), by the lists themselves and their
 -- strict forms.
-use Prim.Native.Nat.{ℕ, _≤_}
+use Prim.Native.Nat.{_≤_}
 use mathlib.Core.Bool.{Bool, true, false, _&&_}
 use mathlib.Core.List.{List, [], _∷_, _++_}
 use lib.ListN.{length}
@@ -9,8 +9,8 @@ use Rattle.text.specs.Text.{Text, allChars}
 use Rattle.format.specs.Event.{QName, Event, startDocument, endDocument, endElement, startElement, attribute, characters, comment, instruction, stringsOf}
 use Rattle.format.specs.Settings.{Settings}
 use Rattle.format.specs.Sizes.{maxStream, maxEvents, maxOpen, maxUris, maxNames, maxValues, maxGrammars, maxLearned, maxString, maxStore}
-use Rattle.format.specs.Tables.{Tables, local, target, lawful}
-use Rattle.format.specs.Grammar.{opened}
+use Rattle.format.specs.Tables.{Tables, local, target, nameAllowed}
+use Rattle.format.specs.Grammar.{openElements}
 use Rattle.format.specs.Context.{Context, start, next}
 use Rattle.format.specs.Strict.{strict}
 
@@ -39,30 +39,32 @@ mutual
     aComment : {l : List (Event Text)} (x : Text) → T (s .comments) → Content s l → Content s (comment x ∷ l)
     anInstruction : {l : List (Event Text)} (x y : Text) → T (s .instructions) → Content s l → Content s (instruction x y ∷ l)
     anElement : {inner l : List (Event Text)} (q : QName Text) → Inner s inner → Content s l
-      → Content s (startElement q ∷ (inner ++ endElement ∷ l))
+        → Content s (startElement q ∷ (inner ++ endElement ∷ l))
 
 pub data Document (s : Settings) : List (Event Text) → Type 0 where
   aDocument : {before inner behind : List (Event Text)} (q : QName Text) → Misc s before → Inner s inner → Misc s behind
-    → Document s (startDocument ∷ (before ++ startElement q ∷ (inner ++ endElement ∷ (behind ++ endDocument ∷ []))))
+      → Document s (startDocument ∷ (before ++ startElement q ∷ (inner ++ endElement ∷ (behind ++ endDocument ∷ []))))
 
 -- No name that row 11 refuses.
-unfoldable pub lawfulNames : Event Text → Bool
-lawfulNames startDocument = true
-lawfulNames endDocument = true
-lawfulNames endElement = true
-lawfulNames (startElement q) = lawful (local false (q .uri)) (q .local)
-lawfulNames (attribute q v) = lawful (local true (q .uri)) (q .local)
-lawfulNames (characters v) = true
-lawfulNames (comment x) = true
-lawfulNames (instruction x y) = lawful target x
+unfoldable pub namesAllowed : Event Text → Bool
+namesAllowed startDocument = true
+namesAllowed endDocument = true
+namesAllowed endElement = true
+namesAllowed (startElement q) = nameAllowed (local false (q .uri)) (q .local)
+namesAllowed (attribute q v) = nameAllowed (local true (q .uri)) (q .local)
+namesAllowed (characters v) = true
+namesAllowed (comment x) = true
+namesAllowed (instruction x y) = nameAllowed target x
 
 unfoldable pub charsOnly : Event Text → Bool
 charsOnly e = every allChars (stringsOf e)
 
+-- The scope's "well-formed list", over the texts. (That no stored event is SHAPE by itself and every string lies inside its store is said by
+-- `meant`, in Claims.)
 pub record WellFormed (s : Settings) (l : List (Event Text)) : Type 0 where
   pub shape : Document s l
   pub chars : T (every charsOnly l)
-  pub names : T (every lawfulNames l)
+  pub names : T (every namesAllowed l)
 
 -- ---- inside the limits: the list and its strict form pass no size
 
@@ -73,7 +75,7 @@ withinTables t =
 
 unfoldable pub withinGrammars : Context → Bool
 withinGrammars c =
-    leb (length (opened (c .state))) maxOpen && leb (length (c .grammars)) maxGrammars && leb (length (c .learned)) maxLearned
+    leb (length (openElements (c .state))) maxOpen && leb (length (c .grammars)) maxGrammars && leb (length (c .learned)) maxLearned
 
 unfoldable pub within : Context → Bool
 within c = withinTables (c .tables) && withinGrammars c
@@ -89,7 +91,8 @@ short x = leb (length x) maxString
 unfoldable pub shortStrings : Event Text → Bool
 shortStrings e = every short (stringsOf e)
 
-pub record Inside (s : Settings) (l : List (Event Text)) : Type 0 where
+-- The scope's "inside the limits".
+pub record InsideLimits (s : Settings) (l : List (Event Text)) : Type 0 where
   pub events : length l ≤ maxEvents
   pub strings : T (every shortStrings l)
   pub sizes : T (staysWithin s start l)

@@ -1,21 +1,22 @@
 -- The reader's answer for any octets (scope, "Refusal numbers"): what it refuses, in order, or what it reads.
 use Prim.Native.Nat.{ℕ, zero, suc, _+_, _-_}
 use mathlib.Core.Bool.{Bool, true, false, cond, _&&_, not}
-use mathlib.Core.List.{List, [], _∷_, _++_, map}
+use mathlib.Core.List.{List, [], _∷_, map}
 use mathlib.Core.Option.{Option, none, some}
 use lib.ListN.{length, getElem?}
 use lib.Dec.{leb, eqb}
 use Rattle.fields.specs.Bits.{Bits, unpack, isPadding}
-use Rattle.fields.specs.Refusal.{Refusal, numberOf, room, settings, long, header, code, character, reference, loose, name, limit, tail}
-use Rattle.fields.specs.Parser.{Result, bad, got, Parser, return, fail, need, _>>=_, _>>_, times}
+use Rattle.fields.specs.Refusal.{numberOf, room, settings, long, header, code, character, reference, loose, name, limit, tail}
+use Rattle.fields.specs.Parser.{Result, bad, got, Parser, return, fail, need, times, _>>=_, _>>_}
 use Rattle.fields.specs.Field.{Alignment, octet, choice, unsigned}
 use Rattle.text.specs.Text.{Text, eqText, isChar}
 use Rattle.format.specs.Event.{QName, Event, startDocument, endDocument, endElement, startElement, attribute, characters, comment, instruction, Kind, SD, ED, SE, AT, EE, CH, CM, PI, mapName, mapEvent}
-use Rattle.format.specs.Settings.{Settings, Options, meaningful, settingsOf, headerOf}
+use Rattle.format.specs.Settings.{Settings, SettingNumbers, meaningful, settingsOf, headerOf}
 use Rattle.format.specs.Sizes.{maxStream, maxEvents, maxString, maxStore, eventCells, readerWork}
-use Rattle.format.specs.Tables.{Placed, Tables, Role, uri, local, value, target, plain, Partitions, compact, literals, partitionsOf, namesOf, Form, hit, literal, eqForm, strictForm, laid, tablesAfter, lawful}
-use Rattle.format.specs.Grammar.{Production, Code, State, document, docContent, docEnd, finished, startTag, elementContent, choices, atLevel, below, codeOf}
-use Rattle.format.specs.Context.{Context, start, codesIn, characterRole, next}
+use Rattle.format.specs.Tables.{Placed, Tables, Role, uri, local, value, target, plain, Partitions, compact, literals, partitionsOf, namesOf, Form, hit, literal, eqForm, formOf, laid, tablesAfter, nameAllowed}
+use Rattle.format.specs.Grammar.{Production, Code, State, isFinished, choices, atLevel, below, codeOf}
+use Rattle.format.specs.Context.{Context, start, levelsIn, characterRole, next}
+use Rattle.format.specs.Answer.{Answer, refused, accepted}
 use Rattle.format.specs.Lists.{withinTables, withinGrammars}
 
 -- ---- strings
@@ -65,24 +66,25 @@ readForm a t (literals ess) = readByLiterals a t ess
 unfoldable pub readString : Alignment → Tables → Role → Parser (Placed × Tables)
 readString a t r = do
   (f, x) ← readForm a t (partitionsOf t r)
-  need (eqForm f (strictForm (partitionsOf t r) (x .text))) loose
-  need (lawful r (x .text)) name
+  need (eqForm f (formOf (partitionsOf t r) (x .text))) loose
+  need (nameAllowed r (x .text)) name
   let t′ = tablesAfter t r f (x .text)
   need (withinTables t′) limit
   return (x, t′)
 
 -- ---- events
 
--- A name that a learned production carries lies where its entries lie.
+-- The first entry with this text. (A name that a learned production carries always has one: proofs/Places.antt.)
 unfoldable pub entryOf : List Placed → Text → Placed
 entryOf [] x = record { place = 0; text = x }
 entryOf (e ∷ es) x = cond (eqText (e .text) x) e (entryOf es x)
 
+-- A name that a learned production carries lies where its entries lie.
 unfoldable pub carried : Tables → QName Text → QName Placed
 carried t q = record { uri = entryOf (t .uris) (q .uri); local = entryOf (namesOf t (q .uri)) (q .local) }
 
-unfoldable pub textsOf : QName Placed → QName Text
-textsOf = mapName (λ x. x .text)
+unfoldable pub nameText : QName Placed → QName Text
+nameText = mapName (λ x. x .text)
 
 unfoldable pub readName : Alignment → Tables → Bool → Option (QName Text) → Parser (QName Placed × Tables)
 readName a t attr (some q) = return (carried t q, t)
@@ -100,7 +102,7 @@ readContent a t st SE n = do
   return (startElement q)
 readContent a t st AT n = do
   (q, t₁) ← readName a t true n
-  (v, t₂) ← readString a t₁ (value (textsOf q))
+  (v, t₂) ← readString a t₁ (value (nameText q))
   return (attribute q v)
 readContent a t st CH n = do
   (v, t₁) ← readString a t (characterRole st)
@@ -129,24 +131,19 @@ unfoldable pub sameCode : List ℕ → Option Code → Bool
 sameCode vs none = false
 sameCode vs (some x) = eqText vs (x .parts)
 
-unfoldable pub texts : Event Placed → Event Text
-texts = mapEvent (λ x. x .text)
+unfoldable pub eventText : Event Placed → Event Text
+eventText = mapEvent (λ x. x .text)
 
 -- One event: its code, its content, LOOSE for the production, then open elements, element grammars and learned productions.
 unfoldable pub step : Settings → Context → Parser (Event Placed)
 step s c = do
-  x ← readCode (s .alignment) (codesIn s c)
+  x ← readCode (s .alignment) (levelsIn s c)
   e ← readContent (s .alignment) (c .tables) (c .state) (x .production .kind) (x .production .qname)
-  need (sameCode (x .parts) (codeOf (codesIn s c) (texts e))) loose
-  need (withinGrammars (next s c (texts e))) limit
+  need (sameCode (x .parts) (codeOf (levelsIn s c) (eventText e))) loose
+  need (withinGrammars (next s c (eventText e))) limit
   return e
 
 -- ---- the whole stream
-
-pub data Answer (A : Type 0) : Type 0 where
-  -- the refusal, and the index of the event concerned
-  refused : Refusal → ℕ → Answer A
-  accepted : A → Answer A
 
 -- The list, each string with the place where it lies, and the text store.
 pub record Reading : Type 0 where
@@ -158,14 +155,6 @@ unfoldable pub following : Event Placed → Answer Reading → Answer Reading
 following e (refused k i) = refused k (suc i)
 following e (accepted r) = accepted (record { events = e ∷ r .events; store = r .store })
 
-unfoldable pub isFinished : State → Bool
-isFinished document = false
-isFinished docContent = false
-isFinished docEnd = false
-isFinished finished = true
-isFinished (startTag q outer) = false
-isFinished (elementContent q outer) = false
-
 unfoldable pub ending : Context → Bits → Answer Reading
 ending c rest = cond (isPadding rest) (accepted (record { events = []; store = c .tables .store })) (refused tail 0)
 
@@ -173,7 +162,7 @@ ending c rest = cond (isPadding rest) (accepted (record { events = []; store = c
 unfoldable pub onward : Settings → Context → (Context → Bits → Answer Reading) → Result (Event Placed) → Answer Reading
 onward s c rest (bad k) = refused k 0
 onward s c rest (got e bs) =
-    let c′ = next s c (texts e) in
+    let c′ = next s c (eventText e) in
     let more = rest c′ bs in
     following e (cond (isFinished (c′ .state)) (ending c′ bs) more)
 
@@ -207,7 +196,7 @@ unfoldable pub enoughToRead : ReaderRoom → Bool
 enoughToRead r = leb eventCells (r .events) && leb maxStore (r .text) && leb readerWork (r .work)
 
 -- The reader's answer: ROOM, SETTINGS, LONG, then in stream order.
-unfoldable pub read : ReaderRoom → Options → List ℕ → Answer Reading
+unfoldable pub read : ReaderRoom → SettingNumbers → List ℕ → Answer Reading
 read r o stream =
     cond (not (enoughToRead r)) (refused room 0)
     (cond (not (meaningful o)) (refused settings 0)
@@ -217,7 +206,7 @@ read r o stream =
 -- The list of an answer, without the places.
 unfoldable pub listOf : Answer Reading → Answer (List (Event Text))
 listOf (refused k i) = refused k i
-listOf (accepted r) = accepted (map texts (r .events))
+listOf (accepted r) = accepted (map eventText (r .events))
 
 -- The numbers of an answer: on success number and index are 0, after a refusal the counts are.
 pub record ReadReply : Type 0 where

@@ -9,29 +9,31 @@ use Rattle.fields.specs.Field.{Alignment}
 use Rattle.text.specs.Text.{Text}
 use Rattle.format.specs.Event.{Event}
 use Rattle.format.specs.Settings.{Settings, headerOf}
-use Rattle.format.specs.Tables.{Tables, partitionsOf, strictForm, formBits}
+use Rattle.format.specs.Tables.{Tables, partitionsOf, formOf, formBits}
 use Rattle.format.specs.Grammar.{Code, codeOf, codeBits}
-use Rattle.format.specs.Context.{Context, start, codesIn, Item, items, afterItem, next}
+use Rattle.format.specs.Context.{Context, start, levelsIn, Item, items, afterItem, next}
 
 unfoldable pub itemBits : Alignment → Tables → Item → Bits
-itemBits a t i = cond (i .written) (formBits a (partitionsOf t (i .role)) (strictForm (partitionsOf t (i .role)) (i .text)) (i .text)) []
+itemBits a t i = cond (i .written) (formBits a (partitionsOf t (i .role)) (formOf (partitionsOf t (i .role)) (i .text)) (i .text)) []
 
 unfoldable pub itemsBits : Alignment → Tables → List Item → Bits
 itemsBits a t [] = []
 itemsBits a t (i ∷ is) = itemBits a t i ++ itemsBits a (afterItem t i) is
 
+-- The code and the content. An event that no production fits stands in no well-formed list, and has no bits.
 unfoldable pub codedBits : Settings → Context → Option Code → Event Text → Bits
 codedBits s c none e = []
 codedBits s c (some x) e =
-    codeBits (s .alignment) (codesIn s c) (x .parts)
+    codeBits (s .alignment) (levelsIn s c) (x .parts)
     ++ itemsBits (s .alignment) (c .tables) (items (c .state) (x .production) e)
 
 unfoldable pub eventBits : Settings → Context → Event Text → Bits
-eventBits s c e = codedBits s c (codeOf (codesIn s c) e) e
+eventBits s c e = codedBits s c (codeOf (levelsIn s c) e) e
 
 unfoldable pub listBits : Settings → Context → List (Event Text) → Bits
 listBits s c [] = []
 listBits s c (e ∷ l) = eventBits s c e ++ listBits s (next s c e) l
 
+-- The scope's "strict form of a list".
 unfoldable pub strict : Settings → List (Event Text) → List ℕ
 strict s l = pack (unpack (headerOf s) ++ listBits s start l)

@@ -4,22 +4,27 @@ use mathlib.Core.Bool.{Bool, true, false, cond, _&&_, _||_, not}
 use mathlib.Core.List.{List, [], _∷_, _++_, map}
 use mathlib.Core.Option.{Option, none, some, Option·map}
 use lib.ListN.{length, getD}
+use lib.Dec.{eqb}
 use Rattle.fields.specs.Bits.{Bits, each}
 use Rattle.fields.specs.Field.{Alignment, choiceBits, unsignedBits}
-use Rattle.text.specs.Text.{Text, text, eqText, isEmpty}
+use Rattle.text.specs.Text.{Text, Span, text, eqText, isEmpty}
 use Rattle.format.specs.Event.{QName, eqName}
 
--- A text that lies in the reader's text store, and where it begins there.
+-- A text and where it begins in the text store.
 pub record Placed : Type 0 where
   pub place : ℕ
   pub text : Text
+
+unfoldable pub spanOf : Placed → Span
+spanOf x = record { place = x .place; size = length (x .text) }
 
 -- An entry of a table that is split into partitions by a key.
 pub record Entry (K : Type 0) : Type 0 where
   pub key : K
   pub string : Placed
 
--- The tables, in order of insertion, and the text store: the initial entries and then every literal, in stream order (scope, "Sizes").
+-- The tables, each in order of insertion, and the text store: the initial entries in table order, then every literal in stream order (scope,
+-- "Sizes").
 pub record Tables : Type 0 where
   pub uris : List Placed
   -- local names, by URI
@@ -83,7 +88,7 @@ pub data Form : Type 0 where
   literal : Form
 
 unfoldable pub eqForm : Form → Form → Bool
-eqForm (hit j i) (hit l k) = eqText (j ∷ i ∷ []) (l ∷ k ∷ [])
+eqForm (hit j i) (hit l k) = eqb j l && eqb i k
 eqForm (hit j i) literal = false
 eqForm literal (hit l k) = false
 eqForm literal literal = true
@@ -99,9 +104,9 @@ firstHit j [] x = literal
 firstHit j (es ∷ ess) x = let later = firstHit (suc j) ess x in hitOr j (indexOf es x) later
 
 -- The form in the strict form of a list (scope, "Grammars"): a table hit where one exists, local before global.
-unfoldable pub strictForm : Partitions → Text → Form
-strictForm (compact es) x = firstHit 0 (es ∷ []) x
-strictForm (literals ess) x = firstHit 0 ess x
+unfoldable pub formOf : Partitions → Text → Form
+formOf (compact es) x = firstHit 0 (es ∷ []) x
+formOf (literals ess) x = firstHit 0 ess x
 
 -- A String (EXI 7.1.10), its length raised by k.
 unfoldable pub stringBits : ℕ → Text → Bits
@@ -146,7 +151,7 @@ added t r x =
       uris = t .uris ++ newUri r (laid t x);
       names = t .names ++ newName r (laid t x);
       values = t .values ++ newValue r (laid t x);
-      store = t .store ++ x
+      store = t .store ++ x;
     }
 
 unfoldable pub tablesAfter : Tables → Role → Form → Text → Tables
@@ -184,9 +189,9 @@ startTables = addedAll (record { uris = []; names = []; values = []; store = [] 
 
 -- ---- names that are refused (scope, row 11): an empty local name or target; attribute nil or type in the XMLSchema-instance URI
 
-unfoldable pub lawful : Role → Text → Bool
-lawful uri x = true
-lawful (local attr u) x = not (isEmpty x) && not (attr && eqText u xsiUri && (eqText x (text "nil") || eqText x (text "type")))
-lawful (value q) x = true
-lawful target x = not (isEmpty x)
-lawful plain x = true
+unfoldable pub nameAllowed : Role → Text → Bool
+nameAllowed uri x = true
+nameAllowed (local attr u) x = not (isEmpty x) && not (attr && eqText u xsiUri && (eqText x (text "nil") || eqText x (text "type")))
+nameAllowed (value q) x = true
+nameAllowed target x = not (isEmpty x)
+nameAllowed plain x = true

@@ -1,7 +1,7 @@
 -- The writer's answer for any list (scope, "Refusal numbers"): what it refuses, in order, or the octets.
 use Prim.Native.Nat.{ℕ, zero, suc}
-use mathlib.Core.Bool.{Bool, true, false, cond, _&&_, not}
-use mathlib.Core.List.{List, [], _∷_, _++_, map}
+use mathlib.Core.Bool.{Bool, false, cond, _&&_, not}
+use mathlib.Core.List.{List, [], _∷_, _++_}
 use mathlib.Core.Option.{Option, none, some}
 use lib.ListN.{length}
 use lib.Dec.{leb}
@@ -9,14 +9,14 @@ use Rattle.fields.specs.Bits.{Bits, unpack, pack}
 use Rattle.fields.specs.Refusal.{Refusal, numberOf, room, settings, long, character, name, limit, shape, place}
 use Rattle.text.specs.Text.{Text, Span, inside, part, allChars}
 use Rattle.format.specs.Event.{Event, mapEvent, stringsOf}
-use Rattle.format.specs.Settings.{Settings, Options, meaningful, settingsOf, headerOf}
+use Rattle.format.specs.Settings.{Settings, SettingNumbers, meaningful, settingsOf, headerOf}
 use Rattle.format.specs.Sizes.{maxStream, maxEvents, maxStore, writerWork}
-use Rattle.format.specs.Tables.{Tables, lawful}
-use Rattle.format.specs.Grammar.{Code, codeOf}
-use Rattle.format.specs.Context.{Context, start, codesIn, Item, items, afterItem, next}
+use Rattle.format.specs.Tables.{Tables, nameAllowed}
+use Rattle.format.specs.Grammar.{Code, codeOf, isFinished}
+use Rattle.format.specs.Context.{Context, start, levelsIn, Item, items, afterItem, next}
 use Rattle.format.specs.Strict.{eventBits}
 use Rattle.format.specs.Lists.{short, withinTables, withinGrammars}
-use Rattle.format.specs.Reader.{Answer, refused, accepted, isFinished}
+use Rattle.format.specs.Answer.{Answer, refused, accepted}
 
 -- An event as it lies in memory; none is a stored event that is SHAPE by itself.
 abbrev pub Stored : Type 0
@@ -42,7 +42,7 @@ stringTests t i =
     (short (i .text), limit)
     ∷ (leb (length (afterItem t i .store)) maxStore, limit)
     ∷ (allChars (i .text), character)
-    ∷ (lawful (i .role) (i .text), name)
+    ∷ (nameAllowed (i .role) (i .text), name)
     ∷ (withinTables (afterItem t i), limit)
     ∷ []
 
@@ -59,7 +59,7 @@ eventTests s c store e (some x) =
     ++ ((withinGrammars (next s c (mapEvent (part store) e)), limit) ∷ [])
 
 unfoldable pub faultOf : Settings → Context → Text → Event Span → Option Refusal
-faultOf s c store e = firstFailed (eventTests s c store e (codeOf (codesIn s c) (mapEvent (part store) e)))
+faultOf s c store e = firstFailed (eventTests s c store e (codeOf (levelsIn s c) (mapEvent (part store) e)))
 
 -- ---- the list
 
@@ -101,7 +101,7 @@ unfoldable pub enoughToWrite : WriterRoom → Bool
 enoughToWrite r = leb maxStream (r .octets) && leb writerWork (r .work)
 
 -- The writer's answer for the events xs over this text store.
-unfoldable pub write : WriterRoom → Options → List Stored → Text → Answer (List ℕ)
+unfoldable pub write : WriterRoom → SettingNumbers → List Stored → Text → Answer (List ℕ)
 write r o xs store =
     cond (not (enoughToWrite r)) (refused room 0)
     (cond (not (meaningful o)) (refused settings 0)

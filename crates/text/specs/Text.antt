@@ -1,5 +1,5 @@
 -- Texts: lists of code points. Strings in a text store: a place and a length in it (scope, "What is bought").
-use Prim.Native.Nat.{ℕ, zero, suc, _+_}
+use Prim.Native.Nat.{ℕ, _+_}
 use Prim.Native.Char.{code}
 use Prim.Native.String.{String}
 use mathlib.Core.Bool.{Bool, true, false, cond, _&&_, _||_}
@@ -45,6 +45,6 @@ pub record Span : Type 0 where
 unfoldable pub inside : Text → Span → Bool
 inside store x = leb (x .place + x .size) (length store)
 
--- That part of the store, or the empty part where the string lies outside it.
+-- That part of the store, or the empty part at its start where the string lies outside it.
 unfoldable pub part : Text → Span → Text
 part store x = cond (inside store x) (take (x .size) (drop (x .place) store)) []
