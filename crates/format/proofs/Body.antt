@@ -1,6 +1,6 @@
 -- The events of a stream are read exactly: what is accepted is a list that may come next, in its strict form and with padding after it; and
 -- such bits are accepted with that list.
-use mathlib.Core.Path.{_≡_, refl, sym, _∙_, ap, subst⁻¹}
+use mathlib.Core.Path.{_≡_, refl, sym, _∙_, ap}
 use mathlib.Core.List.{List, [], _∷_, _++_, map, append-assoc}
 use mathlib.Core.Bool.{cond}
 use Prim.Native.Nat.{ℕ, zero, suc, _≤_, zero-le, suc-le-suc}
@@ -21,7 +21,7 @@ use Rattle.format.specs.Answer.{Answer, refused, accepted}
 use Rattle.format.specs.Reader.{Reading, eventText, step, following, ending, onward, readEvents}
 use Rattle.format.specs.Grammar.{isFinished}
 use Rattle.format.proofs.Fit.{EventFit, ListFit, done, also}
-use Rattle.format.proofs.Step.{step-reads, Sane, step-fit, step-found, sane-next}
+use Rattle.format.proofs.Step.{StepRead, step-reads, Sane, step-fit, step-found, sane-next}
 use Rattle.format.proofs.Writes.{is-finished, finished-is, finished-no-fit}
 
 pub not-accepted : {A X : Type 0} {k : Refusal} {i : ℕ} {a : A} → _≡_ {A = Answer A} (refused k i) (accepted a) → X
@@ -46,6 +46,36 @@ ended : (c : Context) (rest : Bits) (r : Reading) → ending c rest ≡ accepted
 unfolding ending
 ended c rest r q = split (isPadding rest) (λ e. (is-T (isPadding rest) e, sym (accepted-same (rw e at q)))) (λ e. not-accepted (rw e at q))
 
+-- The answer after an event: the end of the stream where the document is finished, and else more events.
+abbrev Afterwards : ℕ → Settings → Context → Bits → Answer Reading
+Afterwards n s c rest = cond (isFinished (c .state)) (ending c rest) (readEvents n s c rest)
+
+-- How accepted bits are read: event by event, up to the end of the document.
+pub data Run (s : Settings) : ℕ → Context → Bits → Reading → Type 0 where
+  ends : {n : ℕ} {c : Context} {bs : Bits} → T (isFinished (c .state)) → T (isPadding bs)
+      → Run s n c bs (record { events = []; store = c .tables .store })
+  goes : {n : ℕ} {c : Context} {bs : Bits} {r : Reading} (e : Event Placed) (w : Bits) → StepRead s c e w
+      → Run s n (next s c (eventText e)) bs r → Run s (suc n) c (w ++ bs) (record { events = e ∷ r .events; store = r .store })
+
+then-runs : (n : ℕ) (s : Settings) (c : Context) (bs : Bits) (r : Reading) → (readEvents n s c bs ≡ accepted r → Run s n c bs r)
+    → Afterwards n s c bs ≡ accepted r → Run s n c bs r
+then-runs n s c bs r f q =
+    split (isFinished (c .state)) (λ t. let (p, m) = ended c bs r (rw t at q) in rw m (ends (is-T (isFinished (c .state)) t) p)) (λ t. f (rw t at q))
+
+pub read-runs : (n : ℕ) (s : Settings) (c : Context) (bs : Bits) (r : Reading) → readEvents n s c bs ≡ accepted r → Run s n c bs r
+unfolding readEvents onward
+read-runs zero s c bs r q = not-accepted q
+read-runs (suc n) s c bs r q = go (λ d b x. read-runs n s d b x) (step s c bs) refl q
+  where
+    go : ((d : Context) (b : Bits) (x : Reading) → readEvents n s d b ≡ accepted x → Run s n d b x)
+        → (x : Result (Event Placed)) → step s c bs ≡ x → onward s c (λ d b. readEvents n s d b) x ≡ accepted r → Run s (suc n) c bs r
+    go rec (bad k) i q = not-accepted q
+    go rec (got e rest) i q =
+        let d = next s c (eventText e) in
+        let f = followed e (Afterwards n s d rest) r q in
+        let (w, h, j) = step-reads s c .sound bs e rest i in
+        rw (f .is, j) (goes e w h (then-runs n s d rest (f .rest) (rec d rest (f .rest)) (f .inner)))
+
 -- What stands in accepted bits.
 pub record Accepted (s : Settings) (c : Context) (n : ℕ) (bs : Bits) (l : List (Event Text)) : Type 0 where
   pub fit : ListFit s c l
@@ -54,49 +84,25 @@ pub record Accepted (s : Settings) (c : Context) (n : ℕ) (bs : Bits) (l : List
   pub bits : bs ≡ listBits s c l ++ padding
   pub padded : T (isPadding padding)
 
--- An event before what stands in accepted bits.
-before : (s : Settings) (c : Context) (n : ℕ) (bs w rest : Bits) (e : Event Text) (l : List (Event Text)) → EventFit s c e → bs ≡ w ++ rest
-    → w ≡ eventBits s c e → Accepted s (next s c e) n rest l → Accepted s c (suc n) bs (e ∷ l)
+run-fit : {s : Settings} {n : ℕ} {c : Context} {bs : Bits} {r : Reading} → Sane c → Run s n c bs r → Accepted s c n bs (map eventText (r .events))
 unfolding listBits
-before s c n bs w rest e l fit j b h =
+run-fit {c} {bs} g (ends f p) =
+    record { fit = done (is-finished (c .state) f); few = zero-le; padding = bs; bits = refl; padded = p }
+run-fit {s} {c} g (goes {r} e w h k) =
+    let (fit, b) = step-fit s c e w g h in
+    let d = next s c (eventText e) in
+    let m = run-fit (sane-next s c (eventText e) g fit) k in
     record {
-      fit = also e fit (h .fit);
-      few = suc-le-suc (h .few);
-      padding = h .padding;
-      bits = j ∙ cc (b, h .bits) ∙ sym (append-assoc (eventBits s c e) (listBits s (next s c e) l) (h .padding));
-      padded = h .padded;
+      fit = also (eventText e) fit (m .fit);
+      few = suc-le-suc (m .few);
+      padding = m .padding;
+      bits = cc (b, m .bits) ∙ sym (append-assoc (eventBits s c (eventText e)) (listBits s d (map eventText (r .events))) (m .padding));
+      padded = m .padded;
     }
-
--- The answer after an event: the end of the stream where the document is finished, and else more events.
-abbrev Afterwards : ℕ → Settings → Context → Bits → Answer Reading
-Afterwards n s c rest = cond (isFinished (c .state)) (ending c rest) (readEvents n s c rest)
 
 pub read-fit : (n : ℕ) (s : Settings) (c : Context) (bs : Bits) (r : Reading) → Sane c → readEvents n s c bs ≡ accepted r
     → Accepted s c n bs (map eventText (r .events))
-unfolding readEvents onward listBits
-read-fit zero s c bs r g q = not-accepted q
-read-fit (suc n) s c bs r g q = go (λ d b x. read-fit n s d b x) (step s c bs) refl q
-  where
-    afterwards : ((d : Context) (b : Bits) (x : Reading) → Sane d → readEvents n s d b ≡ accepted x → Accepted s d n b (map eventText (x .events)))
-        → (d : Context) (rest : Bits) (x : Reading) → Sane d → Afterwards n s d rest ≡ accepted x → Accepted s d n rest (map eventText (x .events))
-    afterwards rec d rest x g q =
-        split (isFinished (d .state))
-        (λ t. let (p, m) = ended d rest x (rw t at q) in
-        rw m (record { fit = done (is-finished (d .state) (is-T (isFinished (d .state)) t)); few = zero-le; padding = rest; bits = refl; padded = p }))
-        (λ t. rec d rest x g (rw t at q))
-
-    go : ((d : Context) (b : Bits) (x : Reading) → Sane d → readEvents n s d b ≡ accepted x → Accepted s d n b (map eventText (x .events)))
-        → (x : Result (Event Placed)) → step s c bs ≡ x → onward s c (λ d b. readEvents n s d b) x ≡ accepted r
-        → Accepted s c (suc n) bs (map eventText (r .events))
-    go rec (bad k) i q = not-accepted q
-    go rec (got e rest) i q =
-        let d = next s c (eventText e) in
-        let f = followed e (Afterwards n s d rest) r q in
-        let (w, h, j) = step-reads s c .sound bs e rest i in
-        let (fit, b) = step-fit s c e w g h in
-        subst⁻¹ (λ (x : Reading). Accepted s c (suc n) bs (map eventText (x .events))) (f .is)
-        (before s c n bs w rest (eventText e) (map eventText (f .rest .events)) fit j b
-        (afterwards rec d rest (f .rest) (sane-next s c (eventText e) g fit) (f .inner)))
+read-fit n s c bs r g q = run-fit g (read-runs n s c bs r q)
 
 -- A list that may come next is read.
 pub record ListFound (a : Answer Reading) (l : List (Event Text)) : Type 0 where

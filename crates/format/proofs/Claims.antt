@@ -8,6 +8,7 @@ use native.Mathlib.Omega.{arith}
 use lib.ListN.{length, length-append}
 use lib.Dec.{T, leb, ltb, leb→le, le→leb, ltb→lt, lt→ltb}
 use Rattle.fields.specs.Bits.{Bits, unpack, pack, isPadding, allZero}
+use Rattle.fields.specs.Parser.{Result, bad, got}
 use Rattle.fields.specs.Refusal.{Refusal, numberOf, room, settings, long, header, ended, code, number, character, reference, loose, name, limit, tail, shape, place}
 use Rattle.fields.proofs.Tests.{T-is, is-T, both, left, right, split}
 use Rattle.fields.proofs.Pack.{Octets, unpack-append, length-unpack, unpack-pack}
@@ -19,13 +20,16 @@ use Rattle.format.specs.Context.{start}
 use Rattle.format.specs.Strict.{listBits, strict}
 use Rattle.format.specs.Lists.{every}
 use Rattle.format.specs.Answer.{Answer, refused, accepted}
-use Rattle.format.specs.Reader.{Reading, ReaderRoom, enoughToRead, read, readStream, listOf, readReply, eventText}
+use Rattle.format.specs.Reader.{Reading, ReaderRoom, enoughToRead, read, readHeader, readBody, readStream, listOf, readReply, eventText}
 use Rattle.format.specs.Writer.{Stored, WriterRoom, enoughToWrite, write, writeList, writeEvents, asOctets}
-use Rattle.format.specs.Claims.{AreOctets, Good, Accepts, Demand3, Demand2, Lookup, storedOf, meant}
+use Rattle.format.specs.Claims.{AreOctets, Good, Accepts, Demand3, Demand2, Lookup, storedOf, meant, WorkedExamples, FurtherExamples, LaidOutExamples}
 use Rattle.format.proofs.Fit.{ListFit}
 use Rattle.format.proofs.Good.{fit-of-good, good-of-fit}
 use Rattle.format.proofs.Body.{not-accepted, accepted-same}
 use Rattle.format.proofs.Stream.{stream-fit, stream-found, prefix-free}
+use Rattle.format.proofs.Step.{sane-start}
+use Rattle.format.proofs.Places.{settled-start, read-places}
+use Rattle.format.proofs.Examples.{K-holds, further-examples as others-hold, laid-out-examples as laid-out}
 use Rattle.format.proofs.Writes.{write-sound, write-complete}
 
 -- ---- good lists are those that may come after the start
@@ -180,6 +184,20 @@ demand-3 =
           begins (settingsOf o) l m b g k (ap (λ x. x ++ b) (sym i) ∙ j);
     }
 
+-- ---- where the strings lie
+
+stream-places : (s : Settings) (stream : List ℕ) (r : Reading) → readStream s stream ≡ accepted r
+    → meant (r .store) (map storedOf (r .events)) ≡ some (map eventText (r .events))
+unfolding readStream readBody
+stream-places s stream r q = go (readHeader (headerOf s) (unpack stream)) q
+  where
+    go : (x : Result (Unit {0})) → readBody s x ≡ accepted r → meant (r .store) (map storedOf (r .events)) ≡ some (map eventText (r .events))
+    go (bad k) q = not-accepted q
+    go (got u bs) q = read-places maxEvents s start bs r sane-start settled-start q
+
+pub lookup : Lookup
+lookup r o stream x q = stream-places (settingsOf o) stream x (accepting r o stream x q .answer)
+
 -- ---- the writer
 
 -- What an accepting answer rests on.
@@ -241,10 +259,10 @@ behind : (r : WriterRoom) (o : SettingNumbers) (xs : List Stored) (store : Text)
     → Behind (settingsOf o) xs store stream
 behind r o xs store stream q = written-list (settingsOf o) xs store stream (writing r o xs store stream q .answer)
 
-gives-back : Lookup → (r : WriterRoom) (p : ReaderRoom) (o : SettingNumbers) (stream : List ℕ) (x : Reading) → T (enoughToWrite r) → AreOctets stream
+gives-back : (r : WriterRoom) (p : ReaderRoom) (o : SettingNumbers) (stream : List ℕ) (x : Reading) → T (enoughToWrite r) → AreOctets stream
     → read p o stream ≡ accepted x → write r o (map storedOf (x .events)) (x .store) ≡ accepted stream
 unfolding listOf
-gives-back lookup r p o stream x e h q =
+gives-back r p o stream x e h q =
     let l = map eventText (x .events) in
     let (g, i) = accepts-good p o stream l h (ap listOf q) in
     let m = accepting p o stream x q .means in
@@ -252,8 +270,8 @@ gives-back lookup r p o stream x e h q =
     ∙ list-written (settingsOf o) (map storedOf (x .events)) (x .store) l (lookup p o stream x q) g
     ∙ ap accepted (sym i)
 
-pub demand-2 : Lookup → Demand2
-demand-2 lookup =
+pub demand-2 : Demand2
+demand-2 =
     record {
       written = λ r o xs store stream e m. (
         λ q. let b = behind r o xs store stream q in (b .list, b .meaning, b .good, b .is),
@@ -264,5 +282,16 @@ demand-2 lookup =
           let same : b .list ≡ l = Option·some-injective (b .list) l (sym (b .meaning) ∙ h) in
           rw (b .is) (subst (Accepts p o (strict (settingsOf o) (b .list))) same
           (good-accepted p o (b .list) e (writing r o xs store stream q .means) (b .good)));
-      written-back = gives-back lookup;
+      written-back = gives-back;
     }
+
+-- ---- the worked examples
+
+pub worked-examples : WorkedExamples
+worked-examples = K-holds
+
+pub further-examples : FurtherExamples
+further-examples = others-hold
+
+pub laid-out-examples : LaidOutExamples
+laid-out-examples = laid-out

@@ -23,7 +23,7 @@ use Rattle.format.proofs.Shape.{allowed}
 
 module _ {A : Type 0} where
   -- P holds of the value, where there is one.
-  abbrev If-some : (A → Type 0) → Option A → Type 0
+  abbrev pub If-some : (A → Type 0) → Option A → Type 0
   If-some P none = Unit {0}
   If-some P (some a) = P a
 

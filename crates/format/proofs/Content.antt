@@ -144,7 +144,7 @@ entry-text [] x = refl
 entry-text (e ∷ es) x =
     split (eqText (e .text) x) (λ t. rw t (eqText-eq (e .text) x (is-T (eqText (e .text) x) t))) (λ t. rw t (entry-text es x))
 
-carried-texts : (t : Tables) (q : QName Text) → nameText (carried t q) ≡ q
+pub carried-texts : (t : Tables) (q : QName Text) → nameText (carried t q) ≡ q
 unfolding nameText mapName carried
 carried-texts t q = rw (entry-text (t .uris) (q .uri), entry-text (namesOf t (q .uri)) (q .local))
 
@@ -196,7 +196,7 @@ name-fit a t attr n k z is t′ u v g room ok (writtenName x y b c h l i j) f =
     (tt, string-fit a t uri x _ t′ b (c ++ v) g h (λ g₁. string-fit a (x .1) (local attr (x .0 .text)) y is t′ c v g₁ l (λ g₂. rw i at (f (rw i g₂)))))
 
 -- The tables after what is read.
-pub endTables : {a : Alignment} {t : Tables} {st : State} {n : Option (QName Text)} {e : Event Placed} {w : Bits} {k : Kind} → ContentRead a t st n e w k → Tables
+unfoldable pub endTables : {a : Alignment} {t : Tables} {st : State} {n : Option (QName Text)} {e : Event Placed} {w : Bits} {k : Kind} → ContentRead a t st n e w k → Tables
 endTables {t} (anSD i j) = t
 endTables {t} (anED i j) = t
 endTables {t} (anEE i j) = t

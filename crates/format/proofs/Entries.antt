@@ -35,36 +35,75 @@ module _ {A : Type 0} (P : A → Type 0) where
   every-member (a ∷ l) zero x h e = let same : a ≡ x = cc in subst P same (h .0)
   every-member (a ∷ l) (suc i) x h e = every-member l i x (h .1) e
 
--- ---- good entries
+-- ---- entries
+
+module _ (P : Placed → Type 0) where
+  -- P holds of every entry.
+  pub record AllEntries (t : Tables) : Type 0 where
+    pub uris : Every P (t .uris)
+    pub names : Every P (map (λ x. x .string) (t .names))
+    pub values : Every P (map (λ x. x .string) (t .values))
+
+  pub partition-all : {K : Type 0} (has : K → Bool) (l : List (Entry K)) → Every P (map (λ x. x .string) l) → Every P (partition has l)
+  unfolding partition
+  partition-all has [] h = tt
+  partition-all has (x ∷ l) h =
+      split (has (x .key)) (λ e. rw e (h .0, partition-all has l (h .1))) (λ e. rw e (partition-all has l (h .1)))
+
+  -- A hit is an entry.
+  pub hit-all : (t : Tables) (r : Role) (j i : ℕ) (x : Placed) → AllEntries t → Hit (partsOf (partitionsOf t r)) j i x → P x
+  unfolding partitionsOf namesOf valuesOf allValues
+  hit-all t r j i x g h =
+      every-member P (h .table) i x (every-member (Every P) (partsOf (partitionsOf t r)) j (h .table) (tables r) (h .counted)) (h .entry)
+    where
+      tables : (r : Role) → Every (Every P) (partsOf (partitionsOf t r))
+      tables uri = (g .uris, tt)
+      tables (local attr u) = (partition-all (eqText u) (t .names) (g .names), tt)
+      tables (value q) = (partition-all (eqName q) (t .values) (g .values), (g .values, tt))
+      tables target = tt
+      tables plain = tt
+
+  string-append : {K : Type 0} (a b : List (Entry K)) → Every P (map (λ x. x .string) a) → Every P (map (λ x. x .string) b)
+      → Every P (map (λ x. x .string) (a ++ b))
+  string-append [] b h k = k
+  string-append (x ∷ a) b h k = (h .0, string-append a b (h .1) k)
+
+  pub added-all : (t : Tables) (r : Role) (y : Text) → AllEntries t → P (laid t y) → AllEntries (added t r y)
+  unfolding added laid newUri newName newValue
+  added-all t r y g p =
+      record {
+        uris = every-append P (t .uris) (newUri r (laid t y)) (g .uris) (uris r);
+        names = string-append (t .names) (newName r (laid t y)) (g .names) (names r);
+        values = string-append (t .values) (newValue r (laid t y)) (g .values) (values r);
+      }
+    where
+      uris : (r : Role) → Every P (newUri r (laid t y))
+      uris uri = (p, tt)
+      uris (local attr u) = tt
+      uris (value q) = tt
+      uris target = tt
+      uris plain = tt
+
+      names : (r : Role) → Every P (map (λ x. x .string) (newName r (laid t y)))
+      names uri = tt
+      names (local attr u) = (p, tt)
+      names (value q) = tt
+      names target = tt
+      names plain = tt
+
+      values : (r : Role) → Every P (map (λ x. x .string) (newValue r (laid t y)))
+      values uri = tt
+      values (local attr u) = tt
+      values (value q) = split (isEmpty y) (λ e. rw e tt) (λ e. rw e (p, tt))
+      values target = tt
+      values plain = tt
 
 pub record GoodString (x : Placed) : Type 0 where
   pub chars : T (allChars (x .text))
   pub small : T (short (x .text))
 
-pub record GoodTables (t : Tables) : Type 0 where
-  pub uris : Every GoodString (t .uris)
-  pub names : Every GoodString (map (λ x. x .string) (t .names))
-  pub values : Every GoodString (map (λ x. x .string) (t .values))
-
-partition-good : {K : Type 0} (has : K → Bool) (l : List (Entry K)) → Every GoodString (map (λ x. x .string) l) → Every GoodString (partition has l)
-unfolding partition
-partition-good has [] h = tt
-partition-good has (x ∷ l) h =
-    split (has (x .key)) (λ e. rw e (h .0, partition-good has l (h .1))) (λ e. rw e (partition-good has l (h .1)))
-
--- A hit is an entry.
-hit-good : (t : Tables) (r : Role) (j i : ℕ) (x : Placed) → GoodTables t → Hit (partsOf (partitionsOf t r)) j i x → GoodString x
-unfolding partitionsOf namesOf valuesOf allValues
-hit-good t r j i x g h =
-    every-member GoodString (h .table) i x
-    (every-member (Every GoodString) (partsOf (partitionsOf t r)) j (h .table) (tables r) (h .counted)) (h .entry)
-  where
-    tables : (r : Role) → Every (Every GoodString) (partsOf (partitionsOf t r))
-    tables uri = (g .uris, tt)
-    tables (local attr u) = (partition-good (eqText u) (t .names) (g .names), tt)
-    tables (value q) = (partition-good (eqName q) (t .values) (g .values), (g .values, tt))
-    tables target = tt
-    tables plain = tt
+abbrev pub GoodTables : Tables → Type 0
+GoodTables = AllEntries GoodString
 
 -- ---- the strict form of a text means that text
 
@@ -144,7 +183,7 @@ unfolding laid
 read-good a t r z w g h = go (formIn t r (z .0 .text)) (h .means)
   where
     go : (f : Form) → Means t (partitionsOf t r) (z .0) f → GoodString (z .0)
-    go f (aHit j i m) = hit-good t r j i (z .0) g m
+    go f (aHit j i m) = hit-all GoodString t r j i (z .0) g m
     go f (aLiteral y m e) = rw e (record { chars = m .chars; small = m .small })
 
 pub item-of-read : (a : Alignment) (t : Tables) (r : Role) (x : Placed) (t′ : Tables) (w : Bits) → GoodTables t → StringRead a t r (x, t′) w
@@ -205,51 +244,13 @@ read-of-item a t r y h = go (formIn t r y) refl
 
 -- ---- the tables stay good
 
-string-append : {K : Type 0} (a b : List (Entry K)) → Every GoodString (map (λ x. x .string) a) → Every GoodString (map (λ x. x .string) b)
-    → Every GoodString (map (λ x. x .string) (a ++ b))
-string-append [] b h k = k
-string-append (x ∷ a) b h k = (h .0, string-append a b (h .1) k)
-
-added-good : (t : Tables) (r : Role) (y : Text) → GoodTables t → T (allChars y) → T (short y) → GoodTables (added t r y)
-unfolding added laid newUri newName newValue
-added-good t r y g c m =
-    record {
-      uris = every-append GoodString (t .uris) (newUri r (laid t y)) (g .uris) (uris r);
-      names = string-append (t .names) (newName r (laid t y)) (g .names) (names r);
-      values = string-append (t .values) (newValue r (laid t y)) (g .values) (values r);
-    }
-  where
-    here : GoodString (laid t y)
-    here = record { chars = c; small = m }
-
-    uris : (r : Role) → Every GoodString (newUri r (laid t y))
-    uris uri = (here, tt)
-    uris (local attr u) = tt
-    uris (value q) = tt
-    uris target = tt
-    uris plain = tt
-
-    names : (r : Role) → Every GoodString (map (λ x. x .string) (newName r (laid t y)))
-    names uri = tt
-    names (local attr u) = (here, tt)
-    names (value q) = tt
-    names target = tt
-    names plain = tt
-
-    values : (r : Role) → Every GoodString (map (λ x. x .string) (newValue r (laid t y)))
-    values uri = tt
-    values (local attr u) = tt
-    values (value q) = split (isEmpty y) (λ e. rw e tt) (λ e. rw e (here, tt))
-    values target = tt
-    values plain = tt
-
 pub item-good : (t : Tables) (i : Item) → GoodTables t → ItemFit t i → GoodTables (afterItem t i)
-unfolding afterItem tablesAfter
+unfolding afterItem tablesAfter laid
 item-good t i g h = split (i .written) (λ e. rw e (form (formIn t (i .role) (i .text)))) (λ e. rw e g)
   where
     form : (f : Form) → GoodTables (tablesAfter t (i .role) f (i .text))
     form (hit j k) = g
-    form literal = added-good t (i .role) (i .text) g (h .chars) (h .small)
+    form literal = added-all GoodString t (i .role) (i .text) g (record { chars = h .chars; small = h .small })
 
 pub items-good : (t : Tables) (is : List Item) → GoodTables t → ItemsFit t is → GoodTables (afterItems t is)
 unfolding afterItems

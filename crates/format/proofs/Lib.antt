@@ -11,3 +11,4 @@ pub mod Body
 pub mod Stream
 pub mod Good
 pub mod Claims
+pub mod Places

@@ -10,7 +10,7 @@ use Rattle.fields.specs.Refusal.{loose, limit}
 use Rattle.fields.proofs.Tests.{split}
 use Rattle.fields.proofs.Exact.{Reads, Every, reads-as, reads-return, reads-then, reads-guard}
 use Rattle.text.specs.Text.{Text, text, isEmpty, isChar, allChars}
-use Rattle.format.specs.Event.{QName, Event, startDocument, endDocument, endElement, startElement, attribute, characters, comment, instruction, eqName, EE, kindOf, nameOf}
+use Rattle.format.specs.Event.{QName, Event, startDocument, endDocument, endElement, startElement, attribute, characters, comment, instruction, eqName, Kind, SD, ED, SE, AT, EE, CH, CM, PI, kindOf, nameOf}
 use Rattle.format.specs.Settings.{Settings}
 use Rattle.format.specs.Tables.{Placed, Tables, value, newUri, newName, newValue, laid, added, xmlUri, xsiUri, initialEntries, addedAll, startTables}
 use Rattle.format.specs.Grammar.{Production, any, State, document, docContent, docEnd, finished, startTag, elementContent, Learned, learnedIn, kept, levels, Code, codeOf, codeBits, isWildcard, teaches, productionFor, taught, learn, learnedAfter}
@@ -20,9 +20,9 @@ use Rattle.format.specs.Lists.{short, withinTables, withinGrammars}
 use Rattle.format.specs.Sizes.{maxString, maxUris, maxNames, maxValues, maxStore}
 use Rattle.format.specs.Reader.{sameCode, eventText, step}
 use Rattle.format.proofs.Fit.{ItemsFit, EventFit}
-use Rattle.format.proofs.Codes.{Valid, valid-same, valid-every, code-reads, code-of-valid, code-of-fits, same-code, code-same}
+use Rattle.format.proofs.Codes.{If-some, Valid, valid-same, valid-every, code-reads, code-of-valid, code-of-fits, same-code, code-same}
 use Rattle.format.proofs.Entries.{GoodString, GoodTables, every-append, items-good}
-use Rattle.format.proofs.Content.{NameOk, ProductionOk, ContentRead, content-reads, content-fit, content-found}
+use Rattle.format.proofs.Content.{NameOk, ProductionOk, ContentRead, content-reads, endTables, ContentFit, content-fit, content-found}
 
 -- ---- one step
 
@@ -84,42 +84,60 @@ pub record Sane (c : Context) : Type 0 where
   pub room : T (withinTables (c .tables))
   pub learned : Every (λ x. Sound (x .production)) (c .learned)
 
-learned-sound : (q : QName Text) (tag : Bool) (ls : List Learned) → Every (λ x. Sound (x .production)) ls → Every Sound (learnedIn q tag ls)
-unfolding learnedIn
-learned-sound q tag [] h = tt
-learned-sound q tag (x ∷ ls) h =
-    split (eqName q (x .element) && Bool·beq tag (x .inTag)) (λ e. rw e (h .0, learned-sound q tag ls (h .1)))
-    (λ e. rw e (learned-sound q tag ls (h .1)))
+-- What holds of every learned production and of those without a name holds of every production of the levels.
+module _ (P : Production → Type 0) where
+  learned-every : (q : QName Text) (tag : Bool) (ls : List Learned) → Every (λ x. P (x .production)) ls → Every P (learnedIn q tag ls)
+  unfolding learnedIn
+  learned-every q tag [] h = tt
+  learned-every q tag (x ∷ ls) h =
+      split (eqName q (x .element) && Bool·beq tag (x .inTag)) (λ e. rw e (h .0, learned-every q tag ls (h .1)))
+      (λ e. rw e (learned-every q tag ls (h .1)))
 
-kept-sound : (s : Settings) → Every Sound (kept s)
-unfolding kept any
-kept-sound s = split (s .comments) (λ e. split (s .instructions) (λ f. rw (e, f) (refl, (refl, tt))) (λ f. rw (e, f) (refl, tt)))
-    (λ e. split (s .instructions) (λ f. rw (e, f) (refl, tt)) (λ f. rw (e, f) tt))
+  pub levels-every : ((k : Kind) → P (any k)) → (s : Settings) (ls : List Learned) (st : State) → Every (λ x. P (x .production)) ls
+      → Every (Every P) (levels s ls st)
+  unfolding levels kept
+  levels-every p s ls st h = go st
+    where
+      others : Every P (kept s)
+      others = split (s .comments) (λ e. split (s .instructions) (λ f. rw (e, f) (p CM, (p PI, tt))) (λ f. rw (e, f) (p CM, tt)))
+          (λ e. split (s .instructions) (λ f. rw (e, f) (p PI, tt)) (λ f. rw (e, f) tt))
 
-levels-sound : (s : Settings) (ls : List Learned) (st : State) → Every (λ x. Sound (x .production)) ls → Every (Every Sound) (levels s ls st)
-unfolding levels any
-levels-sound s ls document h = ((refl, tt), tt)
-levels-sound s ls docContent h = ((tt, tt), (kept-sound s, tt))
-levels-sound s ls docEnd h = ((refl, tt), (kept-sound s, tt))
-levels-sound s ls finished h = tt
-levels-sound s ls (startTag q outer) h = (learned-sound q true ls h, ((refl, (tt, (tt, (refl, tt)))), (kept-sound s, tt)))
-levels-sound s ls (elementContent q outer) h =
-    (every-append Sound (learnedIn q false ls) (any EE ∷ []) (learned-sound q false ls h) (refl, tt), ((tt, (refl, tt)), (kept-sound s, tt)))
+      go : (st : State) → Every (Every P) (levels s ls st)
+      go document = ((p SD, tt), tt)
+      go docContent = ((p SE, tt), (others, tt))
+      go docEnd = ((p ED, tt), (others, tt))
+      go finished = tt
+      go (startTag q outer) = (learned-every q true ls h, ((p EE, (p AT, (p SE, (p CH, tt)))), (others, tt)))
+      go (elementContent q outer) =
+          (every-append P (learnedIn q false ls) (any EE ∷ []) (learned-every q false ls h) (p EE, tt), ((p SE, (p CH, tt)), (others, tt)))
+
+any-sound : (k : Kind) → Sound (any k)
+unfolding any
+any-sound = elim [ SD ↦ refl | ED ↦ refl | SE ↦ tt | AT ↦ tt | EE ↦ refl | CH ↦ refl | CM ↦ refl | PI ↦ refl ]
 
 -- ---- what is read is fit, and what is fit is read
 
-pub step-fit : (s : Settings) (c : Context) (e : Event Placed) (w : Bits) → Sane c → StepRead s c e w
-    → EventFit s c (eventText e) × (w ≡ eventBits s c (eventText e))
-unfolding eventBits codedBits levelsIn
-step-fit s c e w g h =
+-- What is read is the event's own code, and then content that its production fits.
+pub step-content : (s : Settings) (c : Context) (e : Event Placed) (w : Bits) → Sane c → (h : StepRead s c e w)
+    → (codeOf (levelsIn s c) (eventText e) ≡ some (h .code))
+    × ContentFit (s .alignment) (c .tables) (c .state) (h .code .production) (eventText e) (endTables (h .read)) (h .content)
+unfolding levelsIn
+step-content s c e w g h =
     let (y, coded, parts) = same-code (h .code .parts) (codeOf (levelsIn s c) (eventText e)) (h .same) in
     let same : y ≡ h .code = valid-same (levelsIn s c) y (h .code) (code-of-valid (levelsIn s c) (eventText e) y coded) (h .valid) parts in
-    let sound = valid-every Sound (levelsIn s c) (h .code) (levels-sound s (c .learned) (c .state) (g .learned)) (h .valid) in
-    let m = content-fit (s .alignment) (c .tables) (c .state) (h .code .production .kind) (h .code .production .qname) e (h .content) (g .tables)
-    (g .room) sound (h .read) in
-    let coded′ : codeOf (levelsIn s c) (eventText e) ≡ some (h .code) = coded ∙ ap some same in (
-      record { code = h .code; coded = coded′; strings = m .strings; grammars = h .grammars },
-      h .joined ∙ ap (λ b. codeBits (s .alignment) (levelsIn s c) (h .code .parts) ++ b) (m .bits) ∙ ap (λ o. codedBits s c o (eventText e)) (sym coded′),
+    let sound = valid-every Sound (levelsIn s c) (h .code) (levels-every Sound any-sound s (c .learned) (c .state) (g .learned)) (h .valid) in (
+      coded ∙ ap some same,
+      content-fit (s .alignment) (c .tables) (c .state) (h .code .production .kind) (h .code .production .qname) e (h .content) (g .tables) (g .room)
+          sound (h .read),
+    )
+
+pub step-fit : (s : Settings) (c : Context) (e : Event Placed) (w : Bits) → Sane c → StepRead s c e w
+    → EventFit s c (eventText e) × (w ≡ eventBits s c (eventText e))
+unfolding eventBits codedBits
+step-fit s c e w g h =
+    let (coded, m) = step-content s c e w g h in (
+      record { code = h .code; coded = coded; strings = m .strings; grammars = h .grammars },
+      h .joined ∙ ap (λ b. codeBits (s .alignment) (levelsIn s c) (h .code .parts) ++ b) (m .bits) ∙ ap (λ o. codedBits s c o (eventText e)) (sym coded),
     )
 
 pub record StepFound (s : Settings) (c : Context) (e : Event Text) : Type 0 where
@@ -165,12 +183,8 @@ name-ok t p attr q is h =
       named = h .1 .0 .named;
     }
 
-abbrev SoundIf : Option Production → Type 0
-SoundIf none = Unit {0}
-SoundIf (some p) = Sound p
-
 -- What an event teaches is sound.
-taught-sound : (t : Tables) (st : State) (x : Code) (e : Event Text) → ItemsFit t (items st (x .production) e) → SoundIf (taught x e)
+taught-sound : (t : Tables) (st : State) (x : Code) (e : Event Text) → ItemsFit t (items st (x .production) e) → If-some Sound (taught x e)
 unfolding taught teaches productionFor kindOf nameOf items nameItems
 taught-sound t st x startDocument h = tt
 taught-sound t st x endDocument h = tt
@@ -183,17 +197,18 @@ taught-sound t st x (characters v) h = split (eqb (length (x .parts)) 2) (λ e. 
 taught-sound t st x (comment v) h = tt
 taught-sound t st x (instruction v w) h = tt
 
-after-sound : (st : State) (o : Option Production) (ls : List Learned) → SoundIf o → Every (λ x. Sound (x .production)) ls
-    → Every (λ x. Sound (x .production)) (learnedAfter st o ls)
+-- What holds of every learned production, and of the one that an event teaches, holds of all that are learned after it.
+pub after-every : (P : Production → Type 0) (st : State) (o : Option Production) (ls : List Learned) → If-some P o
+    → Every (λ x. P (x .production)) ls → Every (λ x. P (x .production)) (learnedAfter st o ls)
 unfolding learnedAfter learn
-after-sound document o ls h k = k
-after-sound docContent o ls h k = k
-after-sound docEnd o ls h k = k
-after-sound finished o ls h k = k
-after-sound (startTag q outer) none ls h k = k
-after-sound (startTag q outer) (some p) ls h k = (h, k)
-after-sound (elementContent q outer) none ls h k = k
-after-sound (elementContent q outer) (some p) ls h k = (h, k)
+after-every P document o ls h k = k
+after-every P docContent o ls h k = k
+after-every P docEnd o ls h k = k
+after-every P finished o ls h k = k
+after-every P (startTag q outer) none ls h k = k
+after-every P (startTag q outer) (some p) ls h k = (h, k)
+after-every P (elementContent q outer) none ls h k = k
+after-every P (elementContent q outer) (some p) ls h k = (h, k)
 
 pub sane-next : (s : Settings) (c : Context) (e : Event Text) → Sane c → EventFit s c e → Sane (next s c e)
 unfolding next afterCode after
@@ -202,7 +217,7 @@ sane-next s c e g h =
     (record {
       tables = items-good (c .tables) (items (c .state) (h .code .production) e) (g .tables) (h .strings);
       room = items-room (c .tables) (items (c .state) (h .code .production) e) (g .room) (h .strings);
-      learned = after-sound (c .state) (taught (h .code) e) (c .learned) (taught-sound (c .tables) (c .state) (h .code) e (h .strings)) (g .learned);
+      learned = after-every Sound (c .state) (taught (h .code) e) (c .learned) (taught-sound (c .tables) (c .state) (h .code) e (h .strings)) (g .learned);
     })
 
 pub sane-start : Sane start
