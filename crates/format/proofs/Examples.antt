@@ -1,5 +1,9 @@
 -- The worked examples hold, by computation.
-use mathlib.Core.Path.{refl}
+use mathlib.Core.Path.{_≡_, refl}
+use mathlib.Core.List.{List, [], _∷_, map}
+use lib.Dec.{T}
+use Rattle.fields.proofs.Tests.{left, right}
+use Rattle.text.proofs.Equal.{eqText-eq}
 use Rattle.fields.specs.Refusal.{numberOf}
 use Rattle.fields.specs.Bits.{bitsOf, valueOf, each, unpack, octetsFrom, octetsFor, pack, allZero, isPadding}
 use Rattle.fields.specs.Parser.{return, fail, present, need, andThen, _>>=_, _>>_, times}
@@ -12,11 +16,20 @@ use Rattle.format.specs.Tables.{spanOf, partition, namesOf, valuesOf, al
 use Rattle.format.specs.Grammar.{any, kindNumber, isWildcard, fitsName, fits, openElements, learnedIn, kept, levels, allEmpty, choices, atLevel, below, codeBits, raised, firstFit, codeOr, codeOf, teaches, productionFor, taught, learn, learnedAfter, hasName, grammarsAfter, inContent, closed, stateAfter, isFinished}
 use Rattle.format.specs.Context.{start, levelsIn, item, characterRole, nameItems, items, afterItem, afterItems, after, afterCode, next}
 use Rattle.format.specs.Strict.{itemBits, itemsBits, codedBits, eventBits, listBits, strict}
-use Rattle.format.specs.Lists.{withinTables, withinGrammars}
+use Rattle.format.specs.Lists.{every, withinTables, withinGrammars}
 use Rattle.format.specs.Reader.{readCharacter, readLiteral, readHit, readIn, readByLiterals, readEntry, readForm, readString, entryOf, carried, nameText, readName, readContent, readPart, readCode, sameCode, eventText, step, following, ending, onward, readEvents, readHeader, readBody, readStream, enoughToRead, read, listOf, readReply}
-use Rattle.format.specs.Examples.{Hold, Lie, full, layoutOf, at, named, laidOut, answerFor, strictOr, strictFor, inOctets, noNamespace, inBits, begin, attr, chars, end, whole, example, K, withCookie, withComments, withInstructions, beginIn, attrIn, remark, instruct, others}
+use Rattle.format.specs.Examples.{Example, Hold, Lie, full, layoutOf, answerTo, countsOf, at, named, laidOut, answerFor, strictOr, strictFor, inOctets, numbers, inBits, begin, attr, chars, end, whole, example, K, hex, digit, beginIn, attrIn, remark, instruct, others}
 
--- Together, since both unfold the same definitions.
+-- Streams that a test finds equal are equal. (The test computes each stream once.)
+same-streams : (xs : List Example) → T (every (λ x. eqText (strictFor x) (x .stream)) xs) → map strictFor xs ≡ map (λ x. x .stream) xs
+unfolding every
+same-streams [] t = refl
+same-streams (x ∷ xs) t =
+    let test = eqText (strictFor x) (x .stream) in
+    let others = every (λ y. eqText (strictFor y) (y .stream)) xs in
+    cc (eqText-eq (strictFor x) (x .stream) (left test others t), same-streams xs (right test others t))
+
+-- Together, since all unfold the same definitions.
 computed : Hold K × Hold others × Lie laidOut
 unfolding bitsOf valueOf each unpack octetsFrom octetsFor pack allZero isPadding return fail present need andThen _>>=_ _>>_ times bit
     octet littleEndian littleValue numberBits numberField widthFrom width choiceBits choice maxOctets maxUnsigned groups unsignedBits
@@ -29,10 +42,13 @@ unfolding bitsOf valueOf each unpack octetsFrom octetsFor pack allZero isPadding
     itemBits itemsBits codedBits eventBits listBits strict withinTables withinGrammars readCharacter readLiteral readHit readIn
     readByLiterals readEntry readForm readString entryOf carried nameText readName readContent readPart readCode sameCode eventText step
     following isFinished ending onward readEvents readHeader readBody readStream enoughToRead read listOf answerFor strictOr strictFor
-    inOctets noNamespace inBits begin attr chars end whole example K withCookie withComments withInstructions beginIn attrIn remark
-    instruct others full layoutOf at named laidOut spanOf readReply numberOf
-computed =
-    (record { answers = refl; strictForms = refl }, record { answers = refl; strictForms = refl }, record { layouts = refl; replies = refl })
+    inOctets numbers inBits begin attr chars end whole example K hex digit beginIn attrIn remark
+    instruct others every full layoutOf answerTo countsOf at named laidOut spanOf readReply numberOf
+computed = (
+  record { answers = refl; strictForms = same-streams K tt },
+  record { answers = refl; strictForms = same-streams others tt },
+  record { layouts = refl; replies = refl },
+)
 
 pub K-holds : Hold K
 K-holds = computed .0
