@@ -20,3 +20,9 @@ numberOf limit = 12
 numberOf tail = 13
 numberOf shape = 14
 numberOf place = 15
+
+-- What reader and writer answer.
+pub data Answer (A : Type 0) : Type 0 where
+  -- the refusal, and the index of the event concerned
+  refused : Refusal → ℕ → Answer A
+  accepted : A → Answer A

@@ -8,7 +8,7 @@ use native.Mathlib.Omega.{arith}
 use lib.ListN.{length}
 use lib.Dec.{T}
 use Rattle.fields.specs.Bits.{Bits, isPadding}
-use Rattle.fields.specs.Refusal.{Refusal}
+use Rattle.fields.specs.Refusal.{Refusal, Answer, refused, accepted}
 use Rattle.fields.specs.Parser.{Result, bad, got}
 use Rattle.fields.proofs.Tests.{split, is-T, T-is}
 use Rattle.text.specs.Text.{Text}
@@ -17,7 +17,6 @@ use Rattle.format.specs.Settings.{Settings}
 use Rattle.format.specs.Tables.{Placed}
 use Rattle.format.specs.Context.{Context, next}
 use Rattle.format.specs.Strict.{eventBits, listBits}
-use Rattle.format.specs.Answer.{Answer, refused, accepted}
 use Rattle.format.specs.Reader.{Reading, eventText, step, following, ending, onward, readEvents}
 use Rattle.format.specs.Grammar.{isFinished}
 use Rattle.format.proofs.Fit.{EventFit, ListFit, done, also}

@@ -9,7 +9,7 @@ use lib.ListN.{length, length-append}
 use lib.Dec.{T, leb, ltb, leb→le, le→leb, ltb→lt, lt→ltb}
 use Rattle.fields.specs.Bits.{Bits, unpack, pack, isPadding, allZero}
 use Rattle.fields.specs.Parser.{Result, bad, got}
-use Rattle.fields.specs.Refusal.{Refusal, numberOf, room, settings, long, header, ended, code, number, character, reference, loose, name, limit, tail, shape, place}
+use Rattle.fields.specs.Refusal.{Refusal, numberOf, room, settings, long, header, ended, code, number, character, reference, loose, name, limit, tail, shape, place, Answer, refused, accepted}
 use Rattle.fields.proofs.Tests.{T-is, is-T, both, left, right, split}
 use Rattle.fields.proofs.Pack.{Octets, unpack-append, length-unpack, unpack-pack}
 use Rattle.text.specs.Text.{Text}
@@ -19,7 +19,6 @@ use Rattle.format.specs.Sizes.{maxStream, maxEvents}
 use Rattle.format.specs.Context.{start}
 use Rattle.format.specs.Strict.{listBits, strict}
 use Rattle.format.specs.Lists.{every}
-use Rattle.format.specs.Answer.{Answer, refused, accepted}
 use Rattle.format.specs.Reader.{Reading, ReaderRoom, enoughToRead, read, readHeader, readBody, readStream, listOf, readReply, eventText}
 use Rattle.format.specs.Writer.{Stored, WriterRoom, enoughToWrite, write, writeList, writeEvents, asOctets}
 use Rattle.format.specs.Claims.{AreOctets, Good, Accepts, Demand3, Demand2, Lookup, storedOf, meant, WorkedExamples, FurtherExamples, LaidOutExamples}

@@ -15,7 +15,7 @@ use Rattle.fields.proofs.Exact.{Every}
 use Rattle.text.specs.Text.{Text, eqText, isEmpty, allChars}
 use Rattle.text.proofs.Equal.{eqText-eq}
 use Rattle.format.specs.Sizes.{maxUris, maxNames, maxValues, maxStore}
-use Rattle.format.specs.Tables.{Placed, Entry, Tables, partition, namesOf, valuesOf, allValues, indexOf, Role, uri, local, value, target, plain, Partitions, compact, literals, partitionsOf, Form, hit, literal, hitOr, firstHit, formOf, newUri, newName, newValue, laid, added, tablesAfter}
+use Rattle.format.specs.Tables.{Placed, Entry, Tables, partition, namesOf, valuesOf, allValues, indexOf, Role, uri, local, value, target, plain, Partitions, compact, literals, partitionsOf, Form, hit, literal, hitOr, firstHit, formOf, newUri, newName, newEntry, newValue, laid, added, tablesAfter}
 use Rattle.format.specs.Event.{eqName}
 use Rattle.format.specs.Context.{Item, item, afterItem, afterItems}
 use Rattle.format.specs.Strict.{itemBits}
@@ -69,7 +69,7 @@ module _ (P : Placed → Type 0) where
   string-append (x ∷ a) b h k = (h .0, string-append a b (h .1) k)
 
   pub added-all : (t : Tables) (r : Role) (y : Text) → AllEntries t → P (laid t y) → AllEntries (added t r y)
-  unfolding added laid newUri newName newValue
+  unfolding added laid newUri newName newEntry newValue
   added-all t r y g p =
       record {
         uris = every-append P (t .uris) (newUri r (laid t y)) (g .uris) (uris r);

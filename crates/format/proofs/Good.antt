@@ -13,7 +13,7 @@ use Rattle.text.specs.Text.{Text, text, allChars}
 use Rattle.format.specs.Sizes.{maxUris, maxNames, maxValues, maxStore}
 use Rattle.format.specs.Event.{Event, startDocument, endDocument, endElement, startElement, attribute, characters, comment, instruction, stringsOf}
 use Rattle.format.specs.Settings.{Settings}
-use Rattle.format.specs.Tables.{Tables, Form, hit, literal, partitionsOf, formOf, newUri, newName, newValue, laid, added, tablesAfter, xmlUri, xsiUri, initialEntries, addedAll, startTables, nameAllowed}
+use Rattle.format.specs.Tables.{Tables, Form, hit, literal, partitionsOf, formOf, newUri, newName, newEntry, newValue, laid, added, tablesAfter, xmlUri, xsiUri, initialEntries, addedAll, startTables, nameAllowed}
 use Rattle.format.specs.Grammar.{Production, State, document, docContent, docEnd, finished, startTag, elementContent, Code, codeOf, stateAfter}
 use Rattle.format.specs.Context.{Context, start, levelsIn, Item, item, characterRole, nameItems, items, afterItem, afterItems, after, afterCode, next}
 use Rattle.format.specs.Lists.{every, Document, namesAllowed, charsOnly, withinTables, within, staysWithin, short, shortStrings}
@@ -104,7 +104,7 @@ pub record Sound (s : Settings) (c : Context) : Type 0 where
   pub learned : LearnedOk s (c .learned)
 
 sound-start : (s : Settings) → Sound s start
-unfolding start startTables addedAll initialEntries added newUri newName newValue laid xmlUri xsiUri text withinTables maxUris maxNames maxValues maxStore
+unfolding start startTables addedAll initialEntries added newUri newName newEntry newValue laid xmlUri xsiUri text withinTables maxUris maxNames maxValues maxStore
 sound-start s = record { room = tt; learned = learned-ok-start s }
 
 -- What the scope asks of an event that comes next.

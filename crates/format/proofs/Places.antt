@@ -21,7 +21,7 @@ use Rattle.format.specs.Tables.{Placed, spanOf, Entry, Tables, partition
 use Rattle.format.specs.Grammar.{Production, any, State, Code, codeOf, teaches, productionFor, taught}
 use Rattle.format.specs.Context.{Context, start, levelsIn, Item, items, afterItem, afterItems, after, afterCode, next}
 use Rattle.format.specs.Lists.{every}
-use Rattle.format.specs.Answer.{accepted}
+use Rattle.fields.specs.Refusal.{accepted}
 use Rattle.format.specs.Reader.{Reading, entryOf, carried, nameText, eventText, readEvents}
 use Rattle.format.specs.Claims.{storedOf, meantOne, together, meant}
 use Rattle.format.proofs.Codes.{If-some, valid-every}

@@ -12,7 +12,7 @@ use Rattle.fields.proofs.Exact.{Reads, Every, reads-as, reads-return, reads-the
 use Rattle.text.specs.Text.{Text, text, isEmpty, isChar, allChars}
 use Rattle.format.specs.Event.{QName, Event, startDocument, endDocument, endElement, startElement, attribute, characters, comment, instruction, eqName, Kind, SD, ED, SE, AT, EE, CH, CM, PI, kindOf, nameOf}
 use Rattle.format.specs.Settings.{Settings}
-use Rattle.format.specs.Tables.{Placed, Tables, value, newUri, newName, newValue, laid, added, xmlUri, xsiUri, initialEntries, addedAll, startTables}
+use Rattle.format.specs.Tables.{Placed, Tables, value, newUri, newName, newEntry, newValue, laid, added, xmlUri, xsiUri, initialEntries, addedAll, startTables}
 use Rattle.format.specs.Grammar.{Production, any, State, document, docContent, docEnd, finished, startTag, elementContent, Learned, learnedIn, kept, levels, Code, codeOf, codeBits, isWildcard, teaches, productionFor, taught, learn, learnedAfter}
 use Rattle.format.specs.Context.{Context, start, levelsIn, Item, item, nameItems, items, afterItem, afterItems, after, afterCode, next}
 use Rattle.format.specs.Strict.{itemsBits, codedBits, eventBits}
@@ -221,7 +221,7 @@ sane-next s c e g h =
     })
 
 pub sane-start : Sane start
-unfolding start startTables addedAll initialEntries added newUri newName newValue laid xmlUri xsiUri text isEmpty allChars isChar short withinTables
+unfolding start startTables addedAll initialEntries added newUri newName newEntry newValue laid xmlUri xsiUri text isEmpty allChars isChar short withinTables
     maxString maxUris maxNames maxValues maxStore
 sane-start =
     let g : (x : Placed) → T (allChars (x .text)) → T (short (x .text)) → GoodString x = λ x c m. record { chars = c; small = m } in

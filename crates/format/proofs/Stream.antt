@@ -6,7 +6,7 @@ use native.Mathlib.Omega.{arith}
 use lib.ListN.{length}
 use lib.Dec.{eqb, eqb→eq, eqb-refl}
 use Rattle.fields.specs.Bits.{Bits, bitsOf, each, unpack}
-use Rattle.fields.specs.Refusal.{header}
+use Rattle.fields.specs.Refusal.{header, accepted}
 use Rattle.fields.specs.Parser.{Result, bad, got}
 use Rattle.fields.proofs.Tests.{split}
 use Rattle.fields.proofs.Exact.{Reads, Every, reads-as, reads-return, reads-then, reads-guard, got-value, got-rest}
@@ -18,7 +18,6 @@ use Rattle.format.specs.Settings.{Settings, headerOf}
 use Rattle.format.specs.Sizes.{maxEvents}
 use Rattle.format.specs.Context.{Context, start, next}
 use Rattle.format.specs.Strict.{eventBits, listBits, strict}
-use Rattle.format.specs.Answer.{accepted}
 use Rattle.format.specs.Reader.{Reading, eventText, step, readHeader, readBody, readStream}
 use Rattle.format.specs.Grammar.{isFinished}
 use Rattle.format.proofs.Fit.{ListFit, done, also}

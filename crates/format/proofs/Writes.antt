@@ -9,7 +9,7 @@ use mathlib.Core.Option.{Option, none, some, Option·none-ne-some, Option·some-
 use lib.ListN.{length}
 use lib.Dec.{T, leb}
 use Rattle.fields.specs.Bits.{Bits}
-use Rattle.fields.specs.Refusal.{Refusal}
+use Rattle.fields.specs.Refusal.{Refusal, Answer, refused, accepted}
 use Rattle.fields.proofs.Tests.{T-is, is-T, both, left, right, split}
 use Rattle.text.specs.Text.{Text, Span, inside, part}
 use Rattle.format.specs.Event.{Event, mapEvent, stringsOf}
@@ -20,7 +20,6 @@ use Rattle.format.specs.Grammar.{State, document, docContent, docEnd, fi
 use Rattle.format.specs.Context.{Context, levelsIn, Item, afterItem, next}
 use Rattle.format.specs.Strict.{eventBits, listBits}
 use Rattle.format.specs.Lists.{every, withinTables}
-use Rattle.format.specs.Answer.{Answer, refused, accepted}
 use Rattle.format.specs.Writer.{Stored, Test, firstFailed, placeTests, stringTests, contentTests, eventTests, faultOf, prepended, unless, writeEvents}
 use Rattle.format.specs.Claims.{meantOne, together, meant}
 use Rattle.format.proofs.Fit.{ItemFit, ItemsFit, EventFit, ListFit, done, also}

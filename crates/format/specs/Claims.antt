@@ -14,7 +14,7 @@ use Rattle.format.specs.Settings.{Settings, SettingNumbers, meaningful, 
 use Rattle.format.specs.Tables.{Placed, spanOf}
 use Rattle.format.specs.Strict.{strict}
 use Rattle.format.specs.Lists.{every, WellFormed, InsideLimits}
-use Rattle.format.specs.Answer.{accepted}
+use Rattle.fields.specs.Refusal.{accepted}
 use Rattle.format.specs.Reader.{Reading, ReaderRoom, enoughToRead, read, listOf, readReply, eventText}
 use Rattle.format.specs.Writer.{Stored, WriterRoom, enoughToWrite, write}
 use Rattle.format.specs.Examples.{Hold, K, others, Lie, laidOut}

@@ -35,12 +35,8 @@ item r x = record { role = r; written = true; text = x }
 
 -- Characters stand inside an element alone, and are values of its name.
 unfoldable pub characterRole : State → Role
-characterRole document = plain
-characterRole docContent = plain
-characterRole docEnd = plain
-characterRole finished = plain
-characterRole (startTag q outer) = value q
-characterRole (elementContent q outer) = value q
+characterRole st =
+    elim st [ document ↦ plain | docContent ↦ plain | docEnd ↦ plain | finished ↦ plain | startTag q o ↦ value q | elementContent q o ↦ value q ]
 
 -- The two parts of a QName (EXI 7.1.7; prefixes are not kept).
 unfoldable pub nameItems : Production → Bool → QName Text → List Item

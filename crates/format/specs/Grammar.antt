@@ -170,16 +170,13 @@ unfoldable pub hasName : List (QName Text) → QName Text → Bool
 hasName [] q = false
 hasName (p ∷ ps) q = eqName p q || hasName ps q
 
+unfoldable pub withGrammar : List (QName Text) → Option (QName Text) → List (QName Text)
+withGrammar gs none = gs
+withGrammar gs (some q) = cond (hasName gs q) gs (gs ++ (q ∷ []))
+
 -- One element grammar for each element name.
 unfoldable pub grammarsAfter : List (QName Text) → Event Text → List (QName Text)
-grammarsAfter gs startDocument = gs
-grammarsAfter gs endDocument = gs
-grammarsAfter gs endElement = gs
-grammarsAfter gs (startElement q) = cond (hasName gs q) gs (gs ++ (q ∷ []))
-grammarsAfter gs (attribute q v) = gs
-grammarsAfter gs (characters v) = gs
-grammarsAfter gs (comment x) = gs
-grammarsAfter gs (instruction x y) = gs
+grammarsAfter gs e = cond (eqb (kindNumber (kindOf e)) (kindNumber SE)) (withGrammar gs (nameOf e)) gs
 
 -- A start tag's content begins; in other states nothing changes.
 unfoldable pub inContent : State → State
@@ -207,9 +204,5 @@ stateAfter st (comment x) = inContent st
 stateAfter st (instruction x y) = inContent st
 
 unfoldable pub isFinished : State → Bool
-isFinished document = false
-isFinished docContent = false
-isFinished docEnd = false
-isFinished finished = true
-isFinished (startTag q outer) = false
-isFinished (elementContent q outer) = false
+isFinished st =
+    elim st [ document ↦ false | docContent ↦ false | docEnd ↦ false | finished ↦ true | startTag q o ↦ false | elementContent q o ↦ false ]

@@ -6,7 +6,6 @@ pub mod Grammar
 pub mod Context
 pub mod Strict
 pub mod Lists
-pub mod Answer
 pub mod Reader
 pub mod Writer
 pub mod Examples

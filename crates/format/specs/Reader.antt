@@ -6,7 +6,7 @@ use mathlib.Core.Option.{Option, none, some}
 use lib.ListN.{length, getElem?}
 use lib.Dec.{leb, eqb}
 use Rattle.fields.specs.Bits.{Bits, unpack, isPadding}
-use Rattle.fields.specs.Refusal.{numberOf, room, settings, long, header, code, character, reference, loose, name, limit, tail}
+use Rattle.fields.specs.Refusal.{numberOf, room, settings, long, header, code, character, reference, loose, name, limit, tail, Answer, refused, accepted}
 use Rattle.fields.specs.Parser.{Result, bad, got, Parser, return, fail, need, times, _>>=_, _>>_}
 use Rattle.fields.specs.Field.{Alignment, octet, choice, unsigned}
 use Rattle.text.specs.Text.{Text, eqText, isChar}
@@ -16,7 +16,6 @@ use Rattle.format.specs.Sizes.{maxStream, maxEvents, maxString, maxStore
 use Rattle.format.specs.Tables.{Placed, Tables, Role, uri, local, value, target, plain, Partitions, compact, literals, partitionsOf, namesOf, Form, hit, literal, eqForm, formOf, laid, tablesAfter, nameAllowed}
 use Rattle.format.specs.Grammar.{Production, Code, State, isFinished, choices, atLevel, below, codeOf}
 use Rattle.format.specs.Context.{Context, start, levelsIn, characterRole, next}
-use Rattle.format.specs.Answer.{Answer, refused, accepted}
 use Rattle.format.specs.Lists.{withinTables, withinGrammars}
 
 -- ---- strings

@@ -121,25 +121,16 @@ formBits a (literals ess) literal x = stringBits (length ess) x
 -- ---- what a string leaves in the tables (EXI 7.3: a hit leaves nothing, a literal joins its partition; 7.3.3: an empty value joins none)
 
 unfoldable pub newUri : Role → Placed → List Placed
-newUri uri x = x ∷ []
-newUri (local attr u) x = []
-newUri (value q) x = []
-newUri target x = []
-newUri plain x = []
+newUri r x = elim r [ uri ↦ x ∷ [] | local attr u ↦ [] | value q ↦ [] | target ↦ [] | plain ↦ [] ]
 
 unfoldable pub newName : Role → Placed → List (Entry Text)
-newName uri x = []
-newName (local attr u) x = record { key = u; string = x } ∷ []
-newName (value q) x = []
-newName target x = []
-newName plain x = []
+newName r x = elim r [ uri ↦ [] | local attr u ↦ record { key = u; string = x } ∷ [] | value q ↦ [] | target ↦ [] | plain ↦ [] ]
+
+unfoldable pub newEntry : QName Text → Placed → List (Entry (QName Text))
+newEntry q x = cond (isEmpty (x .text)) [] (record { key = q; string = x } ∷ [])
 
 unfoldable pub newValue : Role → Placed → List (Entry (QName Text))
-newValue uri x = []
-newValue (local attr u) x = []
-newValue (value q) x = cond (isEmpty (x .text)) [] (record { key = q; string = x } ∷ [])
-newValue target x = []
-newValue plain x = []
+newValue r x = elim r [ uri ↦ [] | local attr u ↦ [] | value q ↦ newEntry q x | target ↦ [] | plain ↦ [] ]
 
 -- A literal lies at the end of the store so far.
 unfoldable pub laid : Tables → Text → Placed

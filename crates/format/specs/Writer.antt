@@ -6,7 +6,7 @@ use mathlib.Core.Option.{Option, none, some}
 use lib.ListN.{length}
 use lib.Dec.{leb}
 use Rattle.fields.specs.Bits.{Bits, unpack, pack}
-use Rattle.fields.specs.Refusal.{Refusal, numberOf, room, settings, long, character, name, limit, shape, place}
+use Rattle.fields.specs.Refusal.{Refusal, numberOf, room, settings, long, character, name, limit, shape, place, Answer, refused, accepted}
 use Rattle.text.specs.Text.{Text, Span, inside, part, allChars}
 use Rattle.format.specs.Event.{Event, mapEvent, stringsOf}
 use Rattle.format.specs.Settings.{Settings, SettingNumbers, meaningful, settingsOf, headerOf}
@@ -16,7 +16,6 @@ use Rattle.format.specs.Grammar.{Code, codeOf, isFinished}
 use Rattle.format.specs.Context.{Context, start, levelsIn, Item, items, afterItem, next}
 use Rattle.format.specs.Strict.{eventBits}
 use Rattle.format.specs.Lists.{short, withinTables, withinGrammars}
-use Rattle.format.specs.Answer.{Answer, refused, accepted}
 
 -- An event as it lies in memory; none is a stored event that is SHAPE by itself.
 abbrev pub Stored : Type 0
