@@ -1,13 +1,12 @@
 -- Strings are read exactly: a form with the string that it means, and then the string with the tables after it.
-use mathlib.Core.Path.{_≡_, refl, sym, _∙_, ap, subst}
+use mathlib.Core.Path.{_≡_, refl, sym, _∙_, ap, subst, subst⁻¹}
 use mathlib.Core.List.{List, [], _∷_, _++_, map, append-nil}
-use mathlib.Core.Bool.{false}
 use mathlib.Core.Option.{Option, none, some, Option·none-ne-some}
-use Prim.Native.Nat.{ℕ, zero, suc, _+_, _-_, _≤_, _<_}
+use Prim.Native.Nat.{ℕ, zero, suc, _+_, _-_, _≤_}
 use native.Mathlib.Omega.{arith}
 use lib.ListN.{length, getD, getElem?, length-map}
 use lib.Dec.{T, leb, leb→le, le→leb, eqb, eqb→eq, eqb-refl}
-use borrow.Author.Tests.{ne-eqb, le-leb, lt-leb, leb-true, leb-false}
+use borrow.Author.Tests.{leb-true, leb-false}
 use Rattle.fields.specs.Bits.{Bits, each}
 use Rattle.fields.specs.Refusal.{limit, character, reference, loose, name}
 use Rattle.fields.specs.Field.{Alignment, choiceBits, unsignedBits, maxUnsigned}
@@ -15,6 +14,7 @@ use Rattle.fields.proofs.Tests.{both, left, right, split}
 use Rattle.fields.proofs.Exact.{Reads, Returned, Then, Mapped, Every, reads-as, reads-return, reads-then, reads-map, reads-guard, reads-checked, reads-times}
 use Rattle.fields.proofs.Number.{Chosen, choice-reads, unsigned-reads, member-below}
 use Rattle.text.specs.Text.{Text, isChar, allChars}
+use Rattle.text.proofs.Char.{none as no-char}
 use Rattle.format.specs.Sizes.{maxString, maxStore}
 use Rattle.format.specs.Tables.{Placed, Tables, Role, uri, local, value, target, plain, Partitions, compact, literals, partitionsOf, Form, hit, literal, eqForm, formOf, stringBits, formBits, laid, tablesAfter, nameAllowed}
 use Rattle.format.specs.Lists.{short, withinTables}
@@ -23,23 +23,10 @@ use Rattle.format.specs.Reader.{readCharacter, readLiteral, readHit, rea
 -- ---- characters
 
 char-small : (p : ℕ) → T (isChar p) → p ≤ maxUnsigned
-unfolding isChar maxUnsigned
-char-small p t = split (leb p 1114111) (λ e. omega (arith, leb-true p 1114111 e)) (λ e. absurd (large e))
-  where
-    large : leb p 1114111 ≡ false → ⊥
-    large e =
-        let l : 1114111 < p = leb-false p 1114111 e in
-        rw (
-          ne-eqb p 9 (omega arith),
-          ne-eqb p 10 (omega arith),
-          ne-eqb p 13 (omega arith),
-          le-leb 32 p (omega arith),
-          lt-leb p 55295 (omega arith),
-          le-leb 57344 p (omega arith),
-          lt-leb p 65533 (omega arith),
-          le-leb 65536 p (omega arith),
-          e,
-        ) at t
+unfolding maxUnsigned
+char-small p t =
+    split (leb p 1114111) (λ e. omega (arith, leb-true p 1114111 e))
+    (λ e. let large = leb-false p 1114111 e in absurd (subst⁻¹ T (no-char p (omega arith)) t))
 
 character-reads : Reads readCharacter (λ p w. T (isChar p) × (w ≡ unsignedBits p))
 unfolding readCharacter

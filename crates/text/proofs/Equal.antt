@@ -26,3 +26,10 @@ eqText-eq (c ∷ x) [] t = absurd t
 eqText-eq (c ∷ x) (d ∷ y) t =
     let (s, r) = parts (eqb c d) (eqText x y) t in
     cc (eqb→eq c d s, eqText-eq x y r)
+
+fails : (b : Bool) → (T b → ⊥) → b ≡ false
+fails true h = absurd (h tt)
+fails false h = refl
+
+pub eqText-no : (x y : Text) → (x ≡ y → ⊥) → eqText x y ≡ false
+eqText-no x y h = fails (eqText x y) (λ t. h (eqText-eq x y t))

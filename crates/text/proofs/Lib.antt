@@ -1,1 +1,4 @@
+pub mod Char
 pub mod Equal
+pub mod Parts
+pub mod Rest
