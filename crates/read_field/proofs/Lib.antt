@@ -1,0 +1,5 @@
+pub mod Ahead
+pub mod View
+pub mod Numbers
+pub mod Groups
+pub mod Doubling

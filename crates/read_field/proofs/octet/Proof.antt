@@ -1,0 +1,15 @@
+-- `read_field::octet` meets its contract: an octet is 8 bits.
+use Rattle.fields.specs.Field.{octet, numberField}
+use borrow.Author.Needs.{needs}
+use Rattle.read_field.proofs.octet.Statement.{statement}
+use Rattle.read_field.proofs.octet.Tie as tie
+
+bits-requires : tie.Need-bits-requires
+bits-requires c κs = search needs
+
+returns : tie.Need-returns
+unfolding octet numberField
+returns c = c .bits .ensures
+
+pub octet-spec : {M : Type 1} → statement M
+octet-spec = tie.close (tie.spec bits-requires returns)

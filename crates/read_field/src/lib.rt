@@ -1,0 +1,182 @@
+// The fields of a stream, read at a bit position. Refusals are 5, the stream ends inside the field, and 7, no number in fewest
+// octets up to 2,147,483,647.
+ghost use mathlib.Core.Path.{_≡_};
+ghost use Prim.Native.Nat.{_≤_};
+ghost use Rattle.fields.specs.Field.{bitPacked, byteAligned, octet, numberField, width, unsigned};
+ghost use Rattle.read_field.specs.View.{fieldAt, alignmentOf, InStream, NumberIn};
+ghost use Rattle.read_field.specs.Parts.{Octet, Peeked, onward};
+
+// What stands at a position: a number and the position after it, or the number of a refusal.
+pub enum Field {
+    Value { value: u32, next: usize },
+    Refused(u8),
+}
+
+// The octet at an index, zero past the end.
+fn octet_or_zero(s: &[u8], i: usize) -> u32
+    ensures { λ r. ⌜ Octet (now (s .entry)) i r ⌝ }
+{
+    if i < s.len() {
+        return s[i] as u32;
+    }
+    0
+}
+
+// The 8 bits at a position, zeros standing for bits past the end.
+fn peek(s: &[u8], at: usize) -> u32
+    ensures { λ r. ⌜ Peeked (now (s .entry)) at r ⌝ }
+{
+    let high = octet_or_zero(s, at / 8);
+    let low = octet_or_zero(s, at / 8 + 1);
+    ((high * 256 + low) >> (8 - at % 8)) % 256
+}
+
+// n bits, most significant first.
+fn bits(s: &[u8], at: usize, n: u32) -> Field
+    requires { ⌜ NumberIn (now s) at n 16 ⌝ }
+    ensures { λ r. ⌜ r ≡ fieldAt (numberField bitPacked n) (now (s .entry)) at ⌝ }
+{
+    let next = at + n as usize;
+    if 8 * s.len() < next {
+        return Field::Refused(5);
+    }
+    if n <= 8 {
+        return Field::Value {
+            value: peek(s, at) >> (8 - n),
+            next,
+        };
+    }
+    let high = peek(s, at);
+    let low = peek(s, at + 8);
+    Field::Value {
+        value: (high * 256 + low) >> (16 - n),
+        next,
+    }
+}
+
+// The fewest octets that hold n bits, least significant first.
+fn octets(s: &[u8], at: usize, n: u32) -> Field
+    requires { ⌜ NumberIn (now s) at n 16 ⌝ }
+    ensures { λ r. ⌜ r ≡ fieldAt (numberField byteAligned n) (now (s .entry)) at ⌝ }
+{
+    let after = at + ((n + 7) / 8 * 8) as usize;
+    if 8 * s.len() < after {
+        return Field::Refused(5);
+    }
+    if n == 0 {
+        return Field::Value {
+            value: 0,
+            next: after,
+        };
+    }
+    if n <= 8 {
+        return Field::Value {
+            value: peek(s, at),
+            next: after,
+        };
+    }
+    let first = peek(s, at);
+    let second = peek(s, at + 8);
+    Field::Value {
+        value: first + second * 256,
+        next: after,
+    }
+}
+
+pub fn octet(s: &[u8], at: usize) -> Field
+    requires { ⌜ InStream (now s) at ⌝ }
+    ensures { λ r. ⌜ r ≡ fieldAt octet (now (s .entry)) at ⌝ }
+{
+    bits(s, at, 8)
+}
+
+// A number of n bits.
+pub fn number(aligned: bool, s: &[u8], at: usize, n: u32) -> Field
+    requires { ⌜ NumberIn (now s) at n 16 ⌝ }
+    ensures { λ r. ⌜ r ≡ fieldAt (numberField (alignmentOf aligned) n) (now (s .entry)) at ⌝ }
+{
+    if aligned {
+        return octets(s, at, n);
+    }
+    bits(s, at, n)
+}
+
+// How many bits a choice among m takes.
+pub fn width(m: u32) -> u32
+    requires { ⌜ m ≤ 65536 ⌝ }
+    ensures { λ r. ⌜ r ≡ width m ⌝ }
+{
+    let mut n: u32 = 0;
+    let mut reach: u32 = 1;
+    while reach < m {
+        reach = reach * 2;
+        n = n + 1;
+    }
+    n
+}
+
+// The number that a choice among m has.
+pub fn choice(aligned: bool, s: &[u8], at: usize, m: u32) -> Field
+    requires { ⌜ NumberIn (now s) at m 65536 ⌝ }
+    ensures { λ r. ⌜ r ≡ fieldAt (numberField (alignmentOf aligned) (width m)) (now (s .entry)) at ⌝ }
+{
+    number(aligned, s, at, width(m))
+}
+
+fn wide(x: u32) -> u64
+    ensures { λ r. ⌜ r ≡ x ⌝ }
+{
+    x as u64
+}
+
+// The rest of an Unsigned Integer whose first group is `first`, and not its last.
+fn onward(s: &[u8], at: usize, first: u64) -> Field
+    requires { ⌜ NumberIn (now s) at first 127 ⌝ }
+    ensures { λ r. ⌜ r ≡ fieldAt (onward 4 128 first) (now (s .entry)) at ⌝ }
+{
+    let mut place = at;
+    let mut left: u32 = 4;
+    let mut weight: u64 = 128;
+    let mut low = first;
+    while 0 < left {
+        if 8 * s.len() < place + 8 {
+            return Field::Refused(5);
+        }
+        let o = wide(peek(s, place));
+        if o == 0 {
+            return Field::Refused(7);
+        }
+        if o < 128 {
+            let v = low + weight * o;
+            if 2147483647 < v {
+                return Field::Refused(7);
+            }
+            return Field::Value {
+                value: v as u32,
+                next: place + 8,
+            };
+        }
+        low = low + weight * (o - 128);
+        weight = weight * 128;
+        place = place + 8;
+        left = left - 1;
+    }
+    Field::Refused(7)
+}
+
+pub fn unsigned(s: &[u8], at: usize) -> Field
+    requires { ⌜ InStream (now s) at ⌝ }
+    ensures { λ r. ⌜ r ≡ fieldAt unsigned (now (s .entry)) at ⌝ }
+{
+    if 8 * s.len() < at + 8 {
+        return Field::Refused(5);
+    }
+    let o = peek(s, at);
+    if o < 128 {
+        return Field::Value {
+            value: o,
+            next: at + 8,
+        };
+    }
+    onward(s, at + 8, wide(o - 128))
+}
