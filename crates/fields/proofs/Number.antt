@@ -97,7 +97,7 @@ unfolding octet
 octet-reads = bits-reads 8
 
 -- k octets, least significant first, as a number.
-length-little : (k v : ℕ) → length (littleEndian k v) ≡ k
+pub length-little : (k v : ℕ) → length (littleEndian k v) ≡ k
 unfolding littleEndian
 length-little zero v = refl
 length-little (suc k) v = ap suc (length-little k (v / 256))
