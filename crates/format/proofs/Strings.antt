@@ -1,20 +1,19 @@
 -- Strings are read exactly: a form with the string that it means, and then the string with the tables after it.
-use mathlib.Core.Path.{_≡_, refl, sym, _∙_, ap, subst, subst⁻¹}
+use mathlib.Core.Path.{_≡_, refl, sym, _∙_, ap, subst}
 use mathlib.Core.List.{List, [], _∷_, _++_, map, append-nil}
 use mathlib.Core.Option.{Option, none, some, Option·none-ne-some}
 use Prim.Native.Nat.{ℕ, zero, suc, _+_, _-_, _≤_}
 use native.Mathlib.Omega.{arith}
 use lib.ListN.{length, getD, getElem?, length-map}
 use lib.Dec.{T, leb, leb→le, le→leb, eqb, eqb→eq, eqb-refl}
-use borrow.Author.Tests.{leb-true, leb-false}
 use Rattle.fields.specs.Bits.{Bits, each}
 use Rattle.fields.specs.Refusal.{limit, character, reference, loose, name}
 use Rattle.fields.specs.Field.{Alignment, choiceBits, unsignedBits, maxUnsigned}
-use Rattle.fields.proofs.Tests.{both, left, right, split}
+use Rattle.fields.proofs.Tests.{both, left, right}
 use Rattle.fields.proofs.Exact.{Reads, Returned, Then, Mapped, Every, reads-as, reads-return, reads-then, reads-map, reads-guard, reads-checked, reads-times}
 use Rattle.fields.proofs.Number.{Chosen, choice-reads, unsigned-reads, member-below}
 use Rattle.text.specs.Text.{Text, isChar, allChars}
-use Rattle.text.proofs.Char.{none as no-char}
+use Rattle.text.proofs.Char.{char-bound}
 use Rattle.format.specs.Sizes.{maxString, maxStore}
 use Rattle.format.specs.Tables.{Placed, Tables, Role, uri, local, value, target, plain, Partitions, compact, literals, partitionsOf, Form, hit, literal, eqForm, formOf, stringBits, formBits, laid, tablesAfter, nameAllowed}
 use Rattle.format.specs.Lists.{short, withinTables}
@@ -24,9 +23,7 @@ use Rattle.format.specs.Reader.{readCharacter, readLiteral, readHit, rea
 
 char-small : (p : ℕ) → T (isChar p) → p ≤ maxUnsigned
 unfolding maxUnsigned
-char-small p t =
-    split (leb p 1114111) (λ e. omega (arith, leb-true p 1114111 e))
-    (λ e. let large = leb-false p 1114111 e in absurd (subst⁻¹ T (no-char p (omega arith)) t))
+char-small p t = omega (arith, char-bound p t)
 
 character-reads : Reads readCharacter (λ p w. T (isChar p) × (w ≡ unsignedBits p))
 unfolding readCharacter

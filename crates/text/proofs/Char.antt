@@ -1,11 +1,12 @@
 -- `isChar` by its tests: a number that passes one of them, and one that passes none.
-use mathlib.Core.Path.{_≡_, refl, sym}
+use native.Mathlib.Decide.{decLe}
+use mathlib.Core.Path.{_≡_, refl, sym, subst}
 use mathlib.Core.Bool.{Bool, true, false, _||_, _&&_}
 use mathlib.Core.Logic.{⊎-elim}
 use Prim.Native.Nat.{ℕ, _≤_}
-use native.Mathlib.Nat.{eq-or-lt-of-le}
+use native.Mathlib.Nat.{eq-or-lt-of-le, lt-of-not-le}
 use native.Mathlib.Omega.{arith}
-use lib.Dec.{leb}
+use lib.Dec.{leb, T}
 use borrow.Author.Tests.{le-leb, eq-eqb, ne-eqb, leb-true}
 use Rattle.text.specs.Text.{isChar}
 
@@ -62,3 +63,7 @@ module _ (p : ℕ) where
         out 57344 65533 (h .not-middle),
         out 65536 1114111 (h .not-high),
       )
+
+pub char-bound : (p : ℕ) → T (isChar p) → p ≤ 1114111
+char-bound p t =
+    elim (decLe p 1114111) [ yes h ↦ h | no n ↦ let large = lt-of-not-le n in absurd (subst T (sym (none p (omega arith))) t) ]

@@ -1,0 +1,4 @@
+pub mod Laws
+mod Table
+mod Turn
+pub mod Written
