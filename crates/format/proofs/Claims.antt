@@ -16,18 +16,18 @@ use Rattle.text.specs.Text.{Text}
 use Rattle.format.specs.Event.{Event}
 use Rattle.format.specs.Settings.{Settings, SettingNumbers, meaningful, settingsOf, headerOf}
 use Rattle.format.specs.Sizes.{maxStream, maxEvents}
-use Rattle.format.specs.Context.{start}
+use Rattle.format.specs.Context.{start, contextAfter}
 use Rattle.format.specs.Strict.{listBits, strict}
 use Rattle.format.specs.Lists.{every}
-use Rattle.format.specs.Reader.{Reading, ReaderRoom, enoughToRead, read, readHeader, readBody, readStream, listOf, readReply, eventText}
-use Rattle.format.specs.Writer.{Stored, WriterRoom, enoughToWrite, write, writeList, writeEvents, asOctets}
-use Rattle.format.specs.Claims.{AreOctets, Good, Accepts, Demand3, Demand2, Lookup, storedOf, meant, WorkedExamples, FurtherExamples, LaidOutExamples}
+use Rattle.format.specs.Reader.{Reading, ReaderRoom, enoughToRead, read, readHeader, readBody, readStream, readReply, eventText}
+use Rattle.format.specs.Writer.{Stored, WriterRoom, enoughToWrite, write, writeReply, writeList, writeEvents, asOctets}
+use Rattle.format.specs.Claims.{AreOctets, Good, Accepts, Demand3, Demand2, Lookup, storedOf, meant, WorkedExamples}
 use Rattle.format.proofs.Fit.{ListFit}
 use Rattle.format.proofs.Good.{fit-of-good, good-of-fit}
 use Rattle.format.proofs.Body.{not-accepted, accepted-same}
 use Rattle.format.proofs.Stream.{stream-fit, stream-found, prefix-free}
 use Rattle.format.proofs.Step.{sane-start}
-use Rattle.format.proofs.Places.{settled-start, read-places}
+use Rattle.format.proofs.Places.{settled-start, read-places, read-store}
 use Rattle.format.proofs.Examples.{K-holds, further-examples as others-hold, laid-out-examples as laid-out}
 use Rattle.format.proofs.Writes.{write-sound, write-complete}
 
@@ -48,7 +48,7 @@ good-of s l h m o =
     let g = good-of-fit s l h in
     record {
       wellFormed = record { shape = g .shape; chars = g .chars; names = g .names };
-      inside = record { events = m; strings = g .strings; sizes = g .sizes; octets = o };
+      limits = record { events = m; strings = g .strings; sizes = g .sizes; octets = o };
     }
 
 fit-of : (s : Settings) (l : List (Event Text)) → Good s l → ListFit s start l
@@ -58,8 +58,8 @@ fit-of s l g =
       shape = g .wellFormed .shape;
       chars = g .wellFormed .chars;
       names = g .wellFormed .names;
-      strings = g .inside .strings;
-      sizes = g .inside .sizes;
+      strings = g .limits .strings;
+      sizes = g .limits .sizes;
     })
 
 -- ---- the reader
@@ -92,11 +92,36 @@ read-accepts : (r : ReaderRoom) (o : SettingNumbers) (stream : List ℕ) → T (
 unfolding read
 read-accepts r o stream e m h = rw (T-is (enoughToRead r) e, T-is (meaningful o) m, T-is (leb (length stream) maxStream) (le→leb (length stream) maxStream h))
 
--- The reading behind a list.
-listed : (a : Answer Reading) (l : List (Event Text)) → listOf a ≡ accepted l → (x : Reading) × (a ≡ accepted x) × (map eventText (x .events) ≡ l)
-unfolding listOf
-listed (refused k i) l q = not-accepted q
-listed (accepted x) l q = (x, refl, accepted-same q)
+-- ---- where the strings lie
+
+stream-places : (s : Settings) (stream : List ℕ) (r : Reading) → readStream s stream ≡ accepted r
+    → meant (r .store) (map storedOf (r .events)) ≡ some (map eventText (r .events))
+unfolding readStream readBody
+stream-places s stream r q = go (readHeader (headerOf s) (unpack stream)) q
+  where
+    go : (x : Result (Unit {0})) → readBody s x ≡ accepted r → meant (r .store) (map storedOf (r .events)) ≡ some (map eventText (r .events))
+    go (bad k) q = not-accepted q
+    go (got u bs) q = read-places maxEvents s start bs r sane-start settled-start q
+
+stream-store : (s : Settings) (stream : List ℕ) (r : Reading) → readStream s stream ≡ accepted r
+    → r .store ≡ contextAfter s start (map eventText (r .events)) .tables .store
+unfolding readStream readBody
+stream-store s stream r q = go (readHeader (headerOf s) (unpack stream)) q
+  where
+    go : (x : Result (Unit {0})) → readBody s x ≡ accepted r → r .store ≡ contextAfter s start (map eventText (r .events)) .tables .store
+    go (bad k) q = not-accepted q
+    go (got u bs) q = read-store maxEvents s start bs r q
+
+pub lookup : Lookup
+lookup =
+    record {
+      texts = λ r o stream x q. stream-places (settingsOf o) stream x (accepting r o stream x q .answer);
+      store = λ r o stream x q. stream-store (settingsOf o) stream x (accepting r o stream x q .answer);
+    }
+
+-- The reading behind a list has its texts.
+listed : (r : ReaderRoom) (o : SettingNumbers) (stream : List ℕ) (l : List (Event Text)) (q : Accepts r o stream l) → map eventText (q .0 .events) ≡ l
+listed r o stream l q = Option·some-injective (map eventText (q .0 .events)) l (sym (lookup .texts r o stream (q .0) (q .1)) ∙ q .2)
 
 number-positive : (k : Refusal) → numberOf k ≡ 0 → ⊥
 unfolding numberOf
@@ -118,15 +143,17 @@ number-positive = elim [
   | place ↦ λ e. omega arith
 ]
 
-zero-accepted : (a : Answer Reading) → (readReply a .number ≡ 0) ↔ ((l : List (Event Text)) × (listOf a ≡ accepted l))
-unfolding readReply listOf
+zero-accepted : (a : Answer Reading) → (readReply a .number ≡ 0) ↔ ((x : Reading) × (a ≡ accepted x))
+unfolding readReply
 zero-accepted (refused k i) = (λ e. absurd (number-positive k e), λ h. not-accepted (h .1))
-zero-accepted (accepted x) = (λ e. (map eventText (x .events), refl), λ h. refl)
+zero-accepted (accepted x) = (λ e. (x, refl), λ h. refl)
 
 accepts-good : (r : ReaderRoom) (o : SettingNumbers) (stream : List ℕ) (l : List (Event Text)) → AreOctets stream → Accepts r o stream l
     → Good (settingsOf o) l × (stream ≡ strict (settingsOf o) l)
 accepts-good r o stream l h q =
-    let (x, a, e) = listed (read r o stream) l q in
+    let x = q .0 in
+    let a = q .1 in
+    let e = listed r o stream l q in
     let m = accepting r o stream x a in
     let s = settingsOf o in
     let f = stream-fit s stream x (octets-of stream h) (m .answer) in
@@ -135,16 +162,16 @@ accepts-good r o stream l h q =
 
 good-accepted : (r : ReaderRoom) (o : SettingNumbers) (l : List (Event Text)) → T (enoughToRead r) → T (meaningful o) → Good (settingsOf o) l
     → Accepts r o (strict (settingsOf o) l) l
-unfolding listOf
 good-accepted r o l e m g =
     let s = settingsOf o in
-    let f = stream-found s l (fit-of s l g) (g .inside .events) in
-    ap listOf (read-accepts r o (strict s l) e m (g .inside .octets) ∙ f .answer) ∙ ap accepted (f .is)
+    let f = stream-found s l (fit-of s l g) (g .limits .events) in
+    let q = read-accepts r o (strict s l) e m (g .limits .octets) ∙ f .answer in
+    (f .reading, q, lookup .texts r o (strict s l) (f .reading) q ∙ ap some (f .is))
 
 good-one : (s : Settings) (l m : List (Event Text)) → Good s l → Good s m → strict s l ≡ strict s m → l ≡ m
 good-one s l m g h e =
-    let f = stream-found s l (fit-of s l g) (g .inside .events) in
-    let k = stream-found s m (fit-of s m h) (h .inside .events) in
+    let f = stream-found s l (fit-of s l g) (g .limits .events) in
+    let k = stream-found s m (fit-of s m h) (h .limits .events) in
     let same : f .reading ≡ k .reading = accepted-same (sym (f .answer) ∙ ap (readStream s) e ∙ k .answer) in
     sym (f .is) ∙ ap (λ (x : Reading). map eventText (x .events)) same ∙ k .is
 
@@ -173,8 +200,14 @@ begins s l m b g h e =
 pub demand-3 : Demand3
 demand-3 =
     record {
-      accepted-when-zero = λ r o stream. zero-accepted (read r o stream);
-      exact = λ r o stream l e m h. (accepts-good r o stream l h, λ g. rw (g .1) (good-accepted r o l e m (g .0)));
+      accepted-when-zero = λ r o stream. (
+        λ e. let z = zero-accepted (read r o stream) .0 e in (map eventText (z .0 .events), (z .0, z .1, lookup .texts r o stream (z .0) (z .1))),
+        λ h. zero-accepted (read r o stream) .1 (h .1 .0, h .1 .1),
+      );
+      exact = λ r o stream l h. (
+        λ q. let a = accepting r o stream (q .0) (q .1) in let g = accepts-good r o stream l h q in (a .enough, a .means, g .0, g .1),
+        λ g. rw (g .3) (good-accepted r o l (g .0) (g .1) (g .2)),
+      );
       one-list = good-one;
       one-stream = λ r o a b l ha hb qa qb. accepts-good r o a l ha qa .1 ∙ sym (accepts-good r o b l hb qb .1);
       no-prefix = λ r o a b l m h qa qb.
@@ -182,20 +215,6 @@ demand-3 =
           let (k, j) = accepts-good r o (a ++ b) m h qb in
           begins (settingsOf o) l m b g k (ap (λ x. x ++ b) (sym i) ∙ j);
     }
-
--- ---- where the strings lie
-
-stream-places : (s : Settings) (stream : List ℕ) (r : Reading) → readStream s stream ≡ accepted r
-    → meant (r .store) (map storedOf (r .events)) ≡ some (map eventText (r .events))
-unfolding readStream readBody
-stream-places s stream r q = go (readHeader (headerOf s) (unpack stream)) q
-  where
-    go : (x : Result (Unit {0})) → readBody s x ≡ accepted r → meant (r .store) (map storedOf (r .events)) ≡ some (map eventText (r .events))
-    go (bad k) q = not-accepted q
-    go (got u bs) q = read-places maxEvents s start bs r sane-start settled-start q
-
-pub lookup : Lookup
-lookup r o stream x q = stream-places (settingsOf o) stream x (accepting r o stream x q .answer)
 
 -- ---- the writer
 
@@ -250,8 +269,8 @@ list-written : (s : Settings) (xs : List Stored) (store : Text) (l : List (Event
 unfolding writeList asOctets strict
 list-written s xs store l m g =
     rw (
-      write-complete maxEvents s start store xs l m (fit-of s l g) (g .inside .events),
-      T-is (leb (length (strict s l)) maxStream) (le→leb (length (strict s l)) maxStream (g .inside .octets)),
+      write-complete maxEvents s start store xs l m (fit-of s l g) (g .limits .events),
+      T-is (leb (length (strict s l)) maxStream) (le→leb (length (strict s l)) maxStream (g .limits .octets)),
     )
 
 behind : (r : WriterRoom) (o : SettingNumbers) (xs : List Stored) (store : Text) (stream : List ℕ) → write r o xs store ≡ accepted stream
@@ -260,21 +279,29 @@ behind r o xs store stream q = written-list (settingsOf o) xs store stream (writ
 
 gives-back : (r : WriterRoom) (p : ReaderRoom) (o : SettingNumbers) (stream : List ℕ) (x : Reading) → T (enoughToWrite r) → AreOctets stream
     → read p o stream ≡ accepted x → write r o (map storedOf (x .events)) (x .store) ≡ accepted stream
-unfolding listOf
 gives-back r p o stream x e h q =
     let l = map eventText (x .events) in
-    let (g, i) = accepts-good p o stream l h (ap listOf q) in
+    let (g, i) = accepts-good p o stream l h (x, q, lookup .texts p o stream x q) in
     let m = accepting p o stream x q .means in
     write-accepts r o (map storedOf (x .events)) (x .store) e m
-    ∙ list-written (settingsOf o) (map storedOf (x .events)) (x .store) l (lookup p o stream x q) g
+    ∙ list-written (settingsOf o) (map storedOf (x .events)) (x .store) l (lookup .texts p o stream x q) g
     ∙ ap accepted (sym i)
+
+zero-written : (a : Answer (List ℕ)) → (writeReply a .number ≡ 0) ↔ ((stream : List ℕ) × (a ≡ accepted stream))
+unfolding writeReply
+zero-written (refused k i) = (λ e. absurd (number-positive k e), λ h. not-accepted (h .1))
+zero-written (accepted os) = (λ e. (os, refl), λ h. refl)
 
 pub demand-2 : Demand2
 demand-2 =
     record {
-      written = λ r o xs store stream e m. (
-        λ q. let b = behind r o xs store stream q in (b .list, b .meaning, b .good, b .is),
-        λ g. write-accepts r o xs store e m ∙ list-written (settingsOf o) xs store (g .0) (g .1) (g .2) ∙ ap accepted (sym (g .3)),
+      written-when-zero = λ r o xs store. zero-written (write r o xs store);
+      written = λ r o xs store stream. (
+        λ q. let b = behind r o xs store stream q in
+            let w = writing r o xs store stream q in
+            ((w .enough, w .means), (b .list, b .meaning, b .good, b .is)),
+        λ h. let g = h .1 in
+            write-accepts r o xs store (h .0 .0) (h .0 .1) ∙ list-written (settingsOf o) xs store (g .0) (g .1) (g .2) ∙ ap accepted (sym (g .3)),
       );
       read-back = λ r p o xs store l stream e h q.
           let b = behind r o xs store stream q in
@@ -287,10 +314,4 @@ demand-2 =
 -- ---- the worked examples
 
 pub worked-examples : WorkedExamples
-worked-examples = K-holds
-
-pub further-examples : FurtherExamples
-further-examples = others-hold
-
-pub laid-out-examples : LaidOutExamples
-laid-out-examples = laid-out
+worked-examples = record { scope = K-holds; further = others-hold; layouts = laid-out }

@@ -17,7 +17,7 @@ use Rattle.text.specs.Text.{Text, eqText}
 use Rattle.text.proofs.Equal.{eqText-refl, eqText-eq}
 use Rattle.format.specs.Event.{QName, Event, startDocument, endDocument, endElement, startElement, attribute, characters, comment, instruction, Kind, SD, ED, SE, AT, EE, CH, CM, PI, kindOf, nameOf, eqName}
 use Rattle.format.specs.Settings.{Settings}
-use Rattle.format.specs.Grammar.{Production, any, kindNumber, fitsName, fits, State, document, docContent, docEnd, finished, startTag, elementContent, Learned, learnedIn, kept, levels, allEmpty, choices, Code, atLevel, below, codeBits, raised, firstFit, codeOr, codeOf, teaches, productionFor, taught, learn, learnedAfter}
+use Rattle.format.specs.Grammar.{Production, unnamed, kindNumber, fitsName, fits, State, document, docContent, docEnd, finished, startTag, elementContent, Learned, learnedIn, kept, levels, allEmpty, choices, Code, atLevel, below, codeBits, raised, firstFit, codeOr, codeOf, teaches, productionFor, taught, learn, learnedAfter}
 use Rattle.format.specs.Reader.{readPart, readCode, sameCode}
 use Rattle.format.proofs.Shape.{allowed}
 
@@ -344,7 +344,7 @@ learnedAt (elementContent q outer) ls = learnedIn q false ls
 -- A state has codes for the events that it allows, and for those that its learned productions fit.
 coded-allowed : (s : Settings) (ls : List Learned) (st : State)
     → Agree (λ e. isSome (codeOf (levels s ls st) e)) (λ e. oneFits (learnedAt st ls) e (allowed s st e))
-unfolding oneFits levels kept learnedAt allowed fits any kindNumber nameOf fitsName
+unfolding oneFits levels kept learnedAt allowed fits unnamed kindNumber nameOf fitsName
 coded-allowed s ls document = agree (simp coding)
 coded-allowed s ls docContent = agree (simp coding)
 coded-allowed s ls docEnd = agree (simp coding)

@@ -7,17 +7,19 @@ use Rattle.text.proofs.Equal.{eqText-eq}
 use Rattle.fields.specs.Bits.{bitsOf, valueOf, each, unpack, octetsFrom, octetsFor, pack, allZero, isPadding}
 use Rattle.fields.specs.Parser.{return, fail, present, need, andThen, _>>=_, _>>_, times}
 use Rattle.fields.specs.Field.{bit, octet, littleEndian, littleValue, numberBits, numberField, widthFrom, width, choiceBits, choice, maxOctets, maxUnsigned, groups, unsignedBits, grouped, unsigned}
-use Rattle.text.specs.Text.{text, eqText, isEmpty, isChar}
-use Rattle.format.specs.Sizes.{maxStream, maxEvents, maxOpen, maxUris, maxNames, maxValues, maxGrammars, maxLearned, maxString, maxStore, cellsPerEvent, eventCells, readerWork}
+use Rattle.text.specs.Text.{text, eqText, isEmpty, isChar, inside, part, allChars}
+use Rattle.format.specs.Sizes.{maxStream, maxEvents, maxOpen, maxUris, maxNames, maxValues, maxGrammars, maxLearned, maxString, maxStore, cellsPerEvent, eventCells, readerWork, writerWork}
 use Rattle.format.specs.Settings.{meaningful, settingsOf, headerOf}
-use Rattle.format.specs.Event.{kindOf, nameOf, mapName, mapEvent, eqName}
+use Rattle.format.specs.Event.{kindOf, nameOf, mapName, mapEvent, eqName, stringsOf}
 use Rattle.format.specs.Tables.{spanOf, partition, namesOf, valuesOf, allValues, indexOf, partitionsOf, eqForm, hitOr, firstHit, formOf, stringBits, formBits, newUri, newName, newEntry, newValue, laid, added, tablesAfter, xmlUri, xsiUri, initialEntries, addedAll, startTables, nameAllowed}
-use Rattle.format.specs.Grammar.{any, kindNumber, isWildcard, fitsName, fits, openElements, learnedIn, kept, levels, allEmpty, choices, atLevel, below, codeBits, raised, firstFit, codeOr, codeOf, teaches, productionFor, taught, learn, learnedAfter, hasName, withGrammar, grammarsAfter, inContent, closed, stateAfter, isFinished}
+use Rattle.format.specs.Grammar.{unnamed, kindNumber, isWildcard, fitsName, fits, openElements, learnedIn, kept, levels, allEmpty, choices, atLevel, below, codeBits, raised, firstFit, codeOr, codeOf, teaches, productionFor, taught, learn, learnedAfter, hasName, withGrammar, grammarsAfter, inContent, closed, stateAfter, isFinished}
 use Rattle.format.specs.Context.{start, levelsIn, item, characterRole, nameItems, items, afterItem, afterItems, after, afterCode, next}
 use Rattle.format.specs.Strict.{itemBits, itemsBits, codedBits, eventBits, listBits, strict}
-use Rattle.format.specs.Lists.{every, withinTables, withinGrammars}
-use Rattle.format.specs.Reader.{readCharacter, readLiteral, readHit, readIn, readByLiterals, readEntry, readForm, readString, entryOf, carried, nameText, readName, readContent, readPart, readCode, sameCode, eventText, step, following, ending, onward, readEvents, readHeader, readBody, readStream, enoughToRead, read, listOf}
-use Rattle.format.specs.Examples.{Example, Hold, Lie, full, layoutOf, at, named, laidOut, answerFor, strictOr, strictFor, inOctets, numbers, inBits, begin, attr, chars, end, whole, example, K, hex, digit, beginIn, attrIn, remark, instruct, others}
+use Rattle.format.specs.Lists.{every, withinTables, withinGrammars, short}
+use Rattle.format.specs.Reader.{readCharacter, readLiteral, readHit, readIn, readByLiterals, readEntry, readForm, readString, entryOf, carried, nameText, readName, readContent, readPart, readCode, sameCode, eventText, step, following, ending, onward, readEvents, readHeader, readBody, readStream, enoughToRead, read, listOf, readReply}
+use Rattle.fields.specs.Refusal.{numberOf}
+use Rattle.format.specs.Writer.{write, writeList, asOctets, writeEvents, unless, prepended, faultOf, eventTests, contentTests, stringTests, placeTests, firstFailed, enoughToWrite, writeReply}
+use Rattle.format.specs.Examples.{inUri, storeWith, Example, Hold, Lie, full, layoutOf, at, named, laidOut, answerFor, strictFor, inOctets, numbers, inBits, begin, attr, chars, end, whole, example, K, hex, digit, beginIn, attrIn, remark, instruct, others}
 
 -- Streams that a test finds equal are equal. (The test computes each stream once.)
 same-streams : (xs : List Example) → T (every (λ x. eqText (strictFor x) (x .stream)) xs) → map strictFor xs ≡ map (λ x. x .stream) xs
@@ -35,19 +37,18 @@ unfolding bitsOf valueOf each unpack octetsFrom octetsFor pack allZero isPadding
     grouped unsigned text eqText isEmpty isChar maxStream maxEvents maxOpen maxUris maxNames maxValues maxGrammars maxLearned maxString
     maxStore cellsPerEvent eventCells readerWork meaningful settingsOf headerOf kindOf nameOf mapName mapEvent eqName partition namesOf
     valuesOf allValues indexOf partitionsOf eqForm hitOr firstHit formOf stringBits formBits newUri newName newEntry newValue laid added
-    tablesAfter xmlUri xsiUri initialEntries addedAll startTables nameAllowed any kindNumber fitsName fits openElements learnedIn kept levels
+    tablesAfter xmlUri xsiUri initialEntries addedAll startTables nameAllowed unnamed kindNumber fitsName fits openElements learnedIn kept levels
     allEmpty choices atLevel below codeBits raised firstFit codeOr codeOf teaches productionFor taught learn learnedAfter hasName withGrammar grammarsAfter
     inContent closed stateAfter start levelsIn item characterRole isWildcard nameItems items afterItem afterItems after afterCode next
     itemBits itemsBits codedBits eventBits listBits strict withinTables withinGrammars readCharacter readLiteral readHit readIn
     readByLiterals readEntry readForm readString entryOf carried nameText readName readContent readPart readCode sameCode eventText step
-    following isFinished ending onward readEvents readHeader readBody readStream enoughToRead read listOf answerFor strictOr strictFor
+    following isFinished ending onward readEvents readHeader readBody readStream enoughToRead read listOf answerFor strictFor
     inOctets numbers inBits begin attr chars end whole example K hex digit beginIn attrIn remark
-    instruct others every full layoutOf at named laidOut spanOf
-computed = (
-  record { answers = refl; strictForms = same-streams K tt },
-  record { answers = refl; strictForms = same-streams others tt },
-  record { layouts = refl },
-)
+    instruct others every full layoutOf at named laidOut spanOf inUri storeWith
+    numberOf readReply inside part allChars stringsOf writerWork short write writeList asOctets writeEvents unless prepended faultOf eventTests contentTests stringTests
+    placeTests firstFailed enoughToWrite writeReply
+computed =
+    (record { answers = refl; strictForms = same-streams K tt }, record { answers = refl; strictForms = same-streams others tt }, record { layouts = refl })
 
 pub K-holds : Hold K
 K-holds = computed .0

@@ -18,8 +18,8 @@ use Rattle.text.proofs.Equal.{eqText-refl}
 use Rattle.format.specs.Event.{QName, Event, startDocument, endDocument, endElement, startElement, attribute, characters, comment, instruction, Kind, mapName, mapEvent, kindOf, nameOf, stringsOf}
 use Rattle.format.specs.Settings.{Settings}
 use Rattle.format.specs.Tables.{Placed, spanOf, Entry, Tables, partition, namesOf, Role, uri, local, partitionsOf, Form, hit, literal, newUri, newName, laid, added, tablesAfter, addedAll, startTables, initialEntries}
-use Rattle.format.specs.Grammar.{Production, any, State, Code, codeOf, teaches, productionFor, taught}
-use Rattle.format.specs.Context.{Context, start, levelsIn, Item, items, afterItem, afterItems, after, afterCode, next}
+use Rattle.format.specs.Grammar.{Production, unnamed, State, Code, codeOf, teaches, productionFor, taught}
+use Rattle.format.specs.Context.{contextAfter, Context, start, levelsIn, Item, items, afterItem, afterItems, after, afterCode, next}
 use Rattle.format.specs.Lists.{every}
 use Rattle.fields.specs.Refusal.{accepted}
 use Rattle.format.specs.Reader.{Reading, entryOf, carried, nameText, eventText, readEvents}
@@ -287,7 +287,7 @@ record Settles (e : Event Placed) (c : Context) : Type 0 where
 
 step-settles : (s : Settings) (c : Context) (e : Event Placed) (w : Bits) → Sane c → Settled c → StepRead s c e w
     → Settles e (next s c (eventText e))
-unfolding next afterCode after taught productionFor levelsIn any
+unfolding next afterCode after taught productionFor levelsIn unnamed
 step-settles s c e w g b h =
     let t = c .tables in
     let x = h .code in
@@ -366,3 +366,14 @@ meant-all s (e ∷ es) h = rw (meant-one s e (h .0), meant-all s es (h .1))
 pub read-places : (n : ℕ) (s : Settings) (c : Context) (bs : Bits) (r : Reading) → Sane c → Settled c → readEvents n s c bs ≡ accepted r
     → meant (r .store) (map storedOf (r .events)) ≡ some (map eventText (r .events))
 read-places n s c bs r g b q = meant-all (r .store) (r .events) (run-keeps g b (read-runs n s c bs r q) .strings)
+
+-- The store at the end is that of the context at the end.
+run-store : {s : Settings} {n : ℕ} {c : Context} {bs : Bits} {r : Reading} → Run s n c bs r
+    → r .store ≡ contextAfter s c (map eventText (r .events)) .tables .store
+unfolding contextAfter
+run-store (ends f p) = refl
+run-store (goes e w h k) = run-store k
+
+pub read-store : (n : ℕ) (s : Settings) (c : Context) (bs : Bits) (r : Reading) → readEvents n s c bs ≡ accepted r
+    → r .store ≡ contextAfter s c (map eventText (r .events)) .tables .store
+read-store n s c bs r q = run-store (read-runs n s c bs r q)

@@ -13,7 +13,7 @@ use Rattle.text.specs.Text.{Text, text, isEmpty, isChar, allChars}
 use Rattle.format.specs.Event.{QName, Event, startDocument, endDocument, endElement, startElement, attribute, characters, comment, instruction, eqName, Kind, SD, ED, SE, AT, EE, CH, CM, PI, kindOf, nameOf}
 use Rattle.format.specs.Settings.{Settings}
 use Rattle.format.specs.Tables.{Placed, Tables, value, newUri, newName, newEntry, newValue, laid, added, xmlUri, xsiUri, initialEntries, addedAll, startTables}
-use Rattle.format.specs.Grammar.{Production, any, State, document, docContent, docEnd, finished, startTag, elementContent, Learned, learnedIn, kept, levels, Code, codeOf, codeBits, isWildcard, teaches, productionFor, taught, learn, learnedAfter}
+use Rattle.format.specs.Grammar.{Production, unnamed, State, document, docContent, docEnd, finished, startTag, elementContent, Learned, learnedIn, kept, levels, Code, codeOf, codeBits, isWildcard, teaches, productionFor, taught, learn, learnedAfter}
 use Rattle.format.specs.Context.{Context, start, levelsIn, Item, item, nameItems, items, afterItem, afterItems, after, afterCode, next}
 use Rattle.format.specs.Strict.{itemsBits, codedBits, eventBits}
 use Rattle.format.specs.Lists.{short, withinTables, withinGrammars}
@@ -93,7 +93,7 @@ module _ (P : Production → Type 0) where
       split (eqName q (x .element) && Bool·beq tag (x .inTag)) (λ e. rw e (h .0, learned-every q tag ls (h .1)))
       (λ e. rw e (learned-every q tag ls (h .1)))
 
-  pub levels-every : ((k : Kind) → P (any k)) → (s : Settings) (ls : List Learned) (st : State) → Every (λ x. P (x .production)) ls
+  pub levels-every : ((k : Kind) → P (unnamed k)) → (s : Settings) (ls : List Learned) (st : State) → Every (λ x. P (x .production)) ls
       → Every (Every P) (levels s ls st)
   unfolding levels kept
   levels-every p s ls st h = go st
@@ -109,10 +109,10 @@ module _ (P : Production → Type 0) where
       go finished = tt
       go (startTag q outer) = (learned-every q true ls h, ((p EE, (p AT, (p SE, (p CH, tt)))), (others, tt)))
       go (elementContent q outer) =
-          (every-append P (learnedIn q false ls) (any EE ∷ []) (learned-every q false ls h) (p EE, tt), ((p SE, (p CH, tt)), (others, tt)))
+          (every-append P (learnedIn q false ls) (unnamed EE ∷ []) (learned-every q false ls h) (p EE, tt), ((p SE, (p CH, tt)), (others, tt)))
 
-any-sound : (k : Kind) → Sound (any k)
-unfolding any
+any-sound : (k : Kind) → Sound (unnamed k)
+unfolding unnamed
 any-sound = elim [ SD ↦ refl | ED ↦ refl | SE ↦ tt | AT ↦ tt | EE ↦ refl | CH ↦ refl | CM ↦ refl | PI ↦ refl ]
 
 -- ---- what is read is fit, and what is fit is read

@@ -79,3 +79,8 @@ afterCode c (some x) e = after c x e
 -- An event that no production fits stands in no well-formed list, and leaves nothing.
 unfoldable pub next : Settings → Context → Event Text → Context
 next s c e = afterCode c (codeOf (levelsIn s c) e) e
+
+-- What a list leaves behind.
+unfoldable pub contextAfter : Settings → Context → List (Event Text) → Context
+contextAfter s c [] = c
+contextAfter s c (e ∷ l) = contextAfter s (next s c e) l

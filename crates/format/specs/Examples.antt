@@ -6,7 +6,6 @@ use Prim.Native.String.{String}
 use mathlib.Core.Path.{_≡_}
 use mathlib.Core.List.{List, [], _∷_, _++_, map}
 use Rattle.fields.specs.Refusal.{code, number, reference, loose, tail, Answer, refused, accepted}
-use lib.ListN.{drop}
 use lib.Dec.{ltb}
 use Rattle.text.specs.Text.{Span, Text, text}
 use Rattle.format.specs.Event.{QName, Event, mapEvent, startDocument, endDocument, endElement, startElement, attribute, characters, comment, instruction}
@@ -30,12 +29,8 @@ unfoldable pub answerFor : Example → Answer (List (Event Text))
 answerFor x = listOf (read full (x .numbers) (x .stream))
 
 -- The strict form of the list, where there is one.
-unfoldable pub strictOr : SettingNumbers → List ℕ → Answer (List (Event Text)) → List ℕ
-strictOr o stream (refused k i) = stream
-strictOr o stream (accepted l) = strict (settingsOf o) l
-
 unfoldable pub strictFor : Example → List ℕ
-strictFor x = strictOr (x .numbers) (x .stream) (x .answer)
+strictFor x = elim (x .answer) [ refused k i ↦ x .stream | accepted l ↦ strict (settingsOf (x .numbers)) l ]
 
 -- The reader answers for each as it says, and each list has its stream as strict form.
 pub record Hold (xs : List Example) : Type 0 where
@@ -45,8 +40,7 @@ pub record Hold (xs : List Example) : Type 0 where
 -- ---- how examples are written
 
 unfoldable pub numbers : ℕ → ℕ → ℕ → ℕ → SettingNumbers
-numbers alignment cookie comments instructions =
-    record { alignment = alignment; cookie = cookie; comments = comments; instructions = instructions }
+numbers a k c p = record { alignment = a; cookie = k; comments = c; instructions = p }
 
 unfoldable pub inOctets : SettingNumbers
 inOctets = numbers 1 0 0 0
@@ -151,6 +145,10 @@ others =
     ∷ example inBits "80 00 5D 40 98 54 01 02 33 39 70 3E 90 1A 01 31 28 02 00 88"
     (whole (beginIn (text "u") "a" ∷ attrIn xmlUri "lang" "fr" ∷ chars "é" ∷ beginIn (text "u") "b" ∷ attrIn xmlUri "lang" "fr"
     ∷ end ∷ end ∷ []))
+    -- <a a="x">xy<u:a>y</u:a>x</a>. An element and an attribute of one name share their values; the name a in another URI has values and a
+    -- grammar of its own; values are numbered from the oldest, all of them and those of a name.
+    ∷ example inOctets "80 01 02 61 01 01 00 03 78 01 03 00 01 01 03 79 02 00 00 01 75 02 61 03 01 01 00 01 00 00 02"
+    (whole (begin "a" ∷ attr "a" "x" ∷ chars "x" ∷ chars "y" ∷ beginIn (text "u") "a" ∷ chars "y" ∷ end ∷ chars "x" ∷ end ∷ []))
     -- <a k="x" k="x"/> with AT(*) for the second k, where the learned AT(k) fits: LOOSE after its content.
     ∷ example inOctets "80 01 02 61 01 01 02 6B 03 78 01 01 01 00 01 00" (refused loose 3)
     -- <a k="x" k="x"/> with a global hit for the second x, where a local one exists.
@@ -159,43 +157,48 @@ others =
 
 -- ---- where the strings lie
 
--- A byte-aligned stream, the events as they lie in memory, and the store behind the 99 code points of the initial entries.
+-- A byte-aligned stream, the events as they lie in memory, and the literals.
 pub record LaidOut : Type 0 where
   pub stream : String
   pub events : List (Event Span)
   pub literals : String
 
 unfoldable pub layoutOf : Answer Reading → List (Event Span) × Text
-layoutOf (refused k i) = ([], [])
-layoutOf (accepted r) = (map (mapEvent spanOf) (r .events), drop 99 (r .store))
+layoutOf a = elim a [ refused k i ↦ ([], []) | accepted r ↦ (map (mapEvent spanOf) (r .events), r .store) ]
+
+-- The store: the initial entries, written out (and not by the tables), then the literals.
+unfoldable pub storeWith : String → Text
+storeWith x = text "http://www.w3.org/XML/1998/namespacehttp://www.w3.org/2001/XMLSchema-instancebaseidlangspaceniltype" ++ text x
 
 -- Each is laid out as it says.
 pub record Lie (xs : List LaidOut) : Type 0 where
-  pub layouts : map (λ x. layoutOf (read full inOctets (hex (text (x .stream))))) xs ≡ map (λ x. (x .events, text (x .literals))) xs
+  pub layouts : map (λ x. layoutOf (read full inOctets (hex (text (x .stream))))) xs ≡ map (λ x. (x .events, storeWith (x .literals))) xs
 
 unfoldable pub at : ℕ → ℕ → Span
 at place size = record { place = place; size = size }
 
-unfoldable pub named : ℕ → ℕ → QName Span
-named place size = record { uri = at 0 0; local = at place size }
+unfoldable pub inUri : ℕ → ℕ → ℕ → ℕ → QName Span
+inUri place size p n = record { uri = at place size; local = at p n }
 
--- K1; K7, where the second p, t and 1 lie where the first do; an empty value, which lies at the end of the store so far.
+unfoldable pub named : ℕ → ℕ → QName Span
+named place size = inUri 0 0 place size
+
 unfoldable pub laidOut : List LaidOut
 laidOut =
+    -- K7: the second p, t and 1 lie where the first do.
     record {
-      stream = "80 01 02 61 00";
-      events = startDocument ∷ startElement (named 99 1) ∷ endElement ∷ endDocument ∷ [];
-      literals = "a";
-    }
-    ∷ record {
       stream = "80 01 02 72 02 01 02 70 01 01 02 74 03 31 01 00 01 00 01 00 01 01 00 00 01";
       events = startDocument ∷ startElement (named 99 1) ∷ startElement (named 100 1) ∷ attribute (named 101 1) (at 102 1) ∷ endElement
           ∷ startElement (named 100 1) ∷ attribute (named 101 1) (at 102 1) ∷ endElement ∷ endElement ∷ endDocument ∷ [];
       literals = "rpt1";
     }
+    -- <xsi:nil xml:base="x" xml:id="" type="x" xsi:k=""><xsi:type/></xsi:nil>: initial entries and the hit x lie where their
+    -- entries lie, empty values at the end of the store so far.
     ∷ record {
-      stream = "80 01 02 61 03 02 00";
-      events = startDocument ∷ startElement (named 99 1) ∷ characters (at 100 0) ∷ endElement ∷ endDocument ∷ [];
-      literals = "a";
+      stream = "80 03 00 00 01 02 00 00 03 78 01 01 02 00 01 02 02 01 01 05 74 79 70 65 01 03 01 03 02 6B 02 04 02 03 00 01 00 00";
+      events = startDocument ∷ startElement (inUri 36 41 92 3) ∷ attribute (inUri 0 36 77 4) (at 99 1) ∷ attribute (inUri 0 36 81 2) (at 100 0)
+          ∷ attribute (named 100 4) (at 99 1) ∷ attribute (inUri 36 41 104 1) (at 105 0) ∷ startElement (inUri 36 41 95 4) ∷ endElement ∷ endElement
+          ∷ endDocument ∷ [];
+      literals = "xtypek";
     }
     ∷ []

@@ -11,13 +11,13 @@ use Rattle.text.specs.Text.{Text}
 use Rattle.format.specs.Event.{QName, Event, startDocument, endDocument, endElement, startElement, attribute, characters, comment, instruction, Kind, SD, ED, SE, AT, EE, CH, CM, PI, kindOf, nameOf, eqName}
 use Rattle.format.specs.Settings.{Settings}
 
--- The right-hand side's terminal symbol. SE and AT with a name are learned; without one they are SE(*) and AT(*).
+-- A production, by its terminal symbol. SE and AT with a name are learned; without one they are SE(*) and AT(*).
 pub record Production : Type 0 where
   pub kind : Kind
   pub qname : Option (QName Text)
 
-unfoldable pub any : Kind → Production
-any k = record { kind = k; qname = none }
+unfoldable pub unnamed : Kind → Production
+unnamed k = record { kind = k; qname = none }
 
 -- Only to compare kinds.
 unfoldable pub kindNumber : Kind → ℕ
@@ -78,16 +78,16 @@ learnedIn q tag (x ∷ xs) =
 
 -- Comments and instructions, as kept: the others of their level close up (EXI 8.3).
 unfoldable pub kept : Settings → List Production
-kept s = cond (s .comments) (any CM ∷ []) [] ++ cond (s .instructions) (any PI ∷ []) []
+kept s = cond (s .comments) (unnamed CM ∷ []) [] ++ cond (s .instructions) (unnamed PI ∷ []) []
 
 -- The newest learned production is first.
 unfoldable pub levels : Settings → List Learned → State → List (List Production)
-levels s ls document = (any SD ∷ []) ∷ []
-levels s ls docContent = (any SE ∷ []) ∷ kept s ∷ []
-levels s ls docEnd = (any ED ∷ []) ∷ kept s ∷ []
+levels s ls document = (unnamed SD ∷ []) ∷ []
+levels s ls docContent = (unnamed SE ∷ []) ∷ kept s ∷ []
+levels s ls docEnd = (unnamed ED ∷ []) ∷ kept s ∷ []
 levels s ls finished = []
-levels s ls (startTag q outer) = learnedIn q true ls ∷ (any EE ∷ any AT ∷ any SE ∷ any CH ∷ []) ∷ kept s ∷ []
-levels s ls (elementContent q outer) = (learnedIn q false ls ++ (any EE ∷ [])) ∷ (any SE ∷ any CH ∷ []) ∷ kept s ∷ []
+levels s ls (startTag q outer) = learnedIn q true ls ∷ (unnamed EE ∷ unnamed AT ∷ unnamed SE ∷ unnamed CH ∷ []) ∷ kept s ∷ []
+levels s ls (elementContent q outer) = (learnedIn q false ls ++ (unnamed EE ∷ [])) ∷ (unnamed SE ∷ unnamed CH ∷ []) ∷ kept s ∷ []
 
 unfoldable pub allEmpty : List (List Production) → Bool
 allEmpty [] = true

@@ -45,7 +45,6 @@ unfoldable pub cellsPerEvent : ℕ
 cellsPerEvent = 7
 
 unfoldable pub eventCells : ℕ
-unfolding cellsPerEvent maxEvents
 eventCells = cellsPerEvent * maxEvents
 
 -- work memory of the reader, and of the writer, which has a text store in it
