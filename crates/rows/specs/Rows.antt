@@ -4,7 +4,7 @@ use mathlib.Core.Bool.{Bool, true, false, cond, _||_}
 use mathlib.Core.List.{List, [], _∷_}
 use mathlib.Core.Option.{Option, none, some, Option·map}
 use lib.ListN.{length, getD, getElem?, set}
-use lib.Dec.{eqb}
+use lib.Dec.{eqb, ltb}
 use Rattle.text.specs.Text.{Text, eqText, part}
 use Rattle.rows.specs.declared.Row.{Row}
 use Rattle.rows.specs.declared.Found.{Found}
@@ -32,6 +32,10 @@ rows work base (suc n) = rowAt work base 0 ∷ rows work (base + 3) n
 unfoldable pub withRow : List ℕ → ℕ → ℕ → Row → List ℕ
 withRow work base n r =
     set (set (set work (base + 3 * n) (r .key)) (base + 3 * n + 1) (r .place)) (base + 3 * n + 2) (r .size)
+
+-- The same for a table of at most so many rows: a row behind them is not written.
+unfoldable pub withRowBelow : ℕ → List ℕ → ℕ → ℕ → Row → List ℕ
+withRowBelow most work base n r = cond (ltb n most) (withRow work base n r) work
 
 -- A row's text in a store.
 unfoldable pub textOf : Text → Row → Text
