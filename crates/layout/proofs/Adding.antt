@@ -1,30 +1,29 @@
 -- A literal joins its string table: with its text behind the store and its row behind the table, memory means the tables with the string
 -- added, and stays tidy.
-use Prim.Native.Nat.{ℕ, zero, suc, _+_, _-_, _*_, _/_, _≤_, _<_}
+use Prim.Native.Nat.{ℕ, _+_, _-_, _*_, _≤_, _<_}
 use native.Mathlib.Omega.{arith}
 use native.Mathlib.Numerals.{add-one}
 use native.Mathlib.Decide.{decLe}
 use mathlib.Core.Path.{_≡_, refl, sym, ap, subst, _∙_}
 use mathlib.Core.Logic.{_≢_, _⊎_, inl, inr}
 use mathlib.Core.Bool.{Bool, true, false}
-use mathlib.Core.List.{List, [], _∷_, _++_, map, map-append, append-nil, append-assoc}
-use mathlib.Core.Option.{none, some}
+use mathlib.Core.List.{List, [], _∷_, _++_, map, append-nil, append-assoc}
+use mathlib.Core.Option.{none}
 use lib.ListN.{length, getD, take, drop, length-append, length-drop}
-use lib.Seq.{length-take-le, take-length, take-add, take-at, drop-at, drop-drop, drop-append-seam, drop-set-lt}
+use lib.Seq.{length-take-le, take-length, take-add, take-at, drop-at, drop-append-seam, drop-set-lt}
 use borrow.Author.Tests.{eq-eqb}
-use Rattle.text.specs.Text.{Text, Span, isEmpty, part}
-use Rattle.text.proofs.Parts.{part-inside, part-longer, part-take}
-use Rattle.format.specs.Event.{QName, Kind, SD, ED, SE, AT, EE, CH, CM, PI}
-use Rattle.format.specs.Tables.{Placed, Entry, namesOf, allValues, indexOf, Role, uri, local, value, target, plain}
-use Rattle.format.specs.Tables.{newUri, newName, newEntry, newValue, laid, added}
+use Rattle.text.specs.Text.{Text, Span, isEmpty}
+use Rattle.text.proofs.Parts.{part-inside, part-longer}
+use Rattle.format.specs.Event.{QName}
+use Rattle.format.specs.Tables.{Placed, Entry, namesOf, allValues, indexOf, Role, uri, local, value, target, plain, newUri, newName, newEntry, newValue, laid, added}
 use Rattle.format.specs.Sizes.{maxUris, maxNames, maxValues, maxLearned, maxGrammars}
 use Rattle.rows.specs.declared.Row.{Row}
 use Rattle.rows.specs.Rows.{rowAt, rows, withRow, textOf, selected}
-use Rattle.rows.proofs.Laws.{rows-more, withRow-length, withRow-other}
+use Rattle.rows.proofs.Laws.{withRow-length, withRow-other}
 use Rattle.layout.specs.Layout.{urisAt, namesAt, valuesAt, learnedAt, grammarsAt, tableCells}
-use Rattle.layout.specs.Meaning.{Memory, Counts, placedAt, uriText, nameEntry, nameAt, valueEntry, tablesIn}
-use Rattle.layout.specs.Meaning.{kindAt, carriedName, learnedRow, newestFirst, learnedFrom, grammarsFrom}
+use Rattle.layout.specs.Meaning.{Memory, Counts, placedAt, uriText, nameEntry, nameAt, valueEntry, tablesIn, learnedFrom, grammarsFrom}
 use Rattle.layout.specs.Tidy.{Lies, Sized, Tidy}
+use Rattle.layout.proofs.Kept.{text-in, map-more, map-rows, learned-kept, grammars-kept}
 use Rattle.layout.proofs.Strings.{absent, uris-listed, any-listed, names-listed}
 
 -- ---- memory with the text x more behind the store, and another row at the cell `at`
@@ -111,43 +110,7 @@ module _ {m : Memory} {c : Counts} (s : Sized m c) where
   unfolding urisAt namesAt valuesAt learnedAt grammarsAt tableCells
   free-end = omega (arith, s)
 
--- A text that lies in the store, as a part of the store.
-text-in : (cells : Text) (o n : ℕ) (r : Row) → o ≤ r .place → r .place + r .size ≤ o + n → o + n ≤ length cells
-    → textOf cells r ≡ part (take n (drop o cells)) (record { place = r .place - o; size = r .size })
-unfolding textOf
-text-in cells o n r h l b =
-    let z : o + (r .place - o) ≡ r .place = omega arith in
-    let long : r .place + r .size ≤ length cells = omega arith in
-    let rest : length (drop o cells) ≡ length cells - o = length-drop o cells in
-    let first : length (take n (drop o cells)) ≡ n = length-take-le n (drop o cells) (omega arith) in
-    rw (
-      part-inside cells (record { place = r .place; size = r .size }) long,
-      part-take (drop o cells) n (record { place = r .place - o; size = r .size }) (omega arith),
-      part-inside (drop o cells) (record { place = r .place - o; size = r .size }) (omega arith),
-      drop-drop (r .place - o) o cells,
-      z,
-    )
-
 -- ---- a table with at most a row more
-
-map-more : {A : Type 0} (f : Row → A) (work : List ℕ) (base n : ℕ)
-    → map f (rows work base (suc n)) ≡ map f (rows work base n) ++ (f (rowAt work base n) ∷ [])
-map-more f work base n = ap (map f) (rows-more work base n) ∙ map-append f (rows work base n) (rowAt work base n ∷ [])
-
--- Tables are the same if their rows mean the same.
-map-rows : {A : Type 0} (f g : Row → A) (w v : List ℕ) (base n : ℕ) → ((i : ℕ) → i < n → f (rowAt w base i) ≡ g (rowAt v base i))
-    → map f (rows w base n) ≡ map g (rows v base n)
-unfolding rows
-map-rows f g w v base zero h = refl
-map-rows f g w v base (suc n) h =
-    map-more f w base n
-    ∙ cc (map-rows f g w v base n (λ i l. h i (omega arith)), h n (omega arith))
-    ∙ sym (map-more g v base n)
-
-newest-same : {A : Type 0} (f g : ℕ → A) (n : ℕ) → ((i : ℕ) → i < n → f i ≡ g i) → newestFirst f n ≡ newestFirst g n
-unfolding newestFirst
-newest-same f g zero h = refl
-newest-same f g (suc n) h = cc (h n (omega arith), newest-same f g n (λ i l. h i (omega arith)))
 
 -- Rows n up to n′ of the table at base, at most one, lie in the store, have keys below k, and mean (by f) what no row below n means; as
 -- entries, the table's rows are the old list and then the new one.
@@ -354,31 +317,6 @@ module _ {m m′ : Memory} {c : Counts} {at : ℕ} {x : Text} (t : Tidy m c) (g 
 
     -- ---- grammars
 
-    carried-kept : (k : Kind) (n : ℕ) → n < c .names → carriedName m′ k n ≡ carriedName m k n
-    unfolding carriedName
-    carried-kept SD n h = refl
-    carried-kept ED n h = refl
-    carried-kept SE n h = ap some (name-kept n h)
-    carried-kept AT n h = ap some (name-kept n h)
-    carried-kept EE n h = refl
-    carried-kept CH n h = refl
-    carried-kept CM n h = refl
-    carried-kept PI n h = refl
-
-    learned-kept : learnedFrom m′ (c .learned) ≡ learnedFrom m (c .learned)
-    unfolding learnedFrom learnedRow
-    learned-kept =
-        newest-same _ _ (c .learned) (λ i h.
-        let r : Row = rowAt (m .work) learnedAt i in
-        rw (learned-row i h)
-        (cc (name-kept (r .key / 2) (t .grammars .elements i h), carried-kept (kindAt (r .place)) (r .size) (t .grammars .carried i h))))
-
-    grammars-kept : grammarsFrom m′ (c .grammars) ≡ grammarsFrom m (c .grammars)
-    unfolding grammarsFrom
-    grammars-kept =
-        map-rows _ _ (m′ .work) (m .work) grammarsAt (c .grammars)
-        (λ i h. rw (grammar-row i h) (name-kept (rowAt (m .work) grammarsAt i .key) (t .grammars .grammars i h)))
-
     -- ---- all of it
 
     module _ (u n v : ℕ) where
@@ -426,8 +364,8 @@ module _ {m m′ : Memory} {c : Counts} {at : ℕ} {x : Text} (t : Tidy m c) (g 
               };
             };
             names = name-kept;
-            learned = learned-kept;
-            grammars = grammars-kept;
+            learned = learned-kept m m′ c (t .grammars) name-kept learned-row;
+            grammars = grammars-kept m m′ c (t .grammars) name-kept grammar-row;
           }
 
 -- ---- a literal joins its table

@@ -8,24 +8,23 @@ use native.Mathlib.Decide.{decLe}
 use mathlib.Core.Path.{_≡_, refl, sym, ap, subst, _∙_}
 use mathlib.Core.Logic.{_⊎_, inl, inr, ⊎-elim}
 use mathlib.Core.Bool.{Bool, true, false, _&&_, Bool·beq}
-use mathlib.Core.List.{List, [], _∷_, _++_, map, append-nil, map-append}
+use mathlib.Core.List.{List, [], _∷_, _++_, append-nil, map-append}
 use mathlib.Core.Option.{some, Option·none-ne-some}
-use lib.ListN.{length, take, drop, getElem?, length-append, length-drop}
-use lib.Seq.{length-take-le, drop-drop}
+use lib.ListN.{length, take, drop, getElem?, length-append}
 use lib.Dec.{eqb}
 use borrow.Author.Tests.{eqb-true, eqb-false, eq-eqb, ne-eqb}
 use Rattle.fields.proofs.Tests.{split, T-is, is-T}
-use Rattle.text.specs.Text.{Text, part}
-use Rattle.text.proofs.Parts.{part-inside, part-take}
+use Rattle.text.specs.Text.{Text}
 use Rattle.format.specs.Event.{Kind, SD, ED, SE, AT, EE, CH, CM, PI, eqName}
 use Rattle.format.specs.Grammar.{learnedIn, kindNumber, fitsName, learn}
 use Rattle.format.specs.Sizes.{maxLearned, maxGrammars}
 use Rattle.format.proofs.Codes.{eqName-refl, eqName-eq}
 use Rattle.rows.specs.declared.Row.{Row}
 use Rattle.rows.specs.Rows.{rowAt, rows, textOf, selected, keep, numbered, countOf, foundAt, withRow}
-use Rattle.rows.proofs.Laws.{rows-more, rows-at, rows-same, rows-with, rows-apart, withRow-row, withRow-length}
+use Rattle.rows.proofs.Laws.{rows-more, rows-same, rows-with, rows-apart, withRow-row, withRow-length}
 use Rattle.rows.proofs.Selection.{numbered-append, nth-some}
 use Rattle.rows.proofs.Answers.{Hit, nth-hit}
+use Rattle.layout.proofs.Kept.{same-row, text-in, map-rows, learned-row-kept, learned-kept, grammar-names}
 use Rattle.layout.proofs.Adding.{Grows, drop-row}
 use Rattle.layout.specs.Layout.{urisAt, namesAt, valuesAt, learnedAt, grammarsAt, tableCells}
 use Rattle.layout.specs.Meaning.{Memory, Counts, placedAt, uriText, nameEntry, nameAt, valueEntry, tablesIn, kindAt, carriedName, learnedRow, newestFirst, learnedFrom, grammarsFrom}
@@ -218,66 +217,9 @@ pub learned-as : (m : Memory) (e : ℕ) (tag : Bool) (k : Kind) (i : ℕ)
 unfolding learnedRow
 learned-as m e tag k i = rw (key-parts e tag .0, key-parts e tag .1, kind-at k)
 
-same-row : (w v : List ℕ) (base n : ℕ) → rows w base n ≡ rows v base n → (i : ℕ) → i < n → rowAt w base i ≡ rowAt v base i
-same-row w v base n e i h = cc (rows-at w base n i h, rows-at v base n i h)
-
--- ---- what a row leaves, where the names stay
-
-rows-none : (work : List ℕ) (base : ℕ) → rows work base 0 ≡ []
-unfolding rows
-rows-none work base = refl
-
-map-rows : {A : Type 0} (f g : Row → A) (work : List ℕ) (base n : ℕ)
-    → ((i : ℕ) → i < n → f (rowAt work base i) ≡ g (rowAt work base i)) → map f (rows work base n) ≡ map g (rows work base n)
-map-rows f g work base n h = go n (omega arith)
-  where
-    go : (k : ℕ) → k ≤ n → map f (rows work base k) ≡ map g (rows work base k)
-    go zero l = rw rows-none
-    go (suc k) l = rw (rows-more work base k) (simp map-append (rw (go k (omega arith), h k l)))
+-- ---- a row is written, and the names stay
 
 module _ (m m′ : Memory) (c : Counts) (g : Grammars m c) (names : (i : ℕ) → i < c .names → nameAt m′ i ≡ nameAt m i) where
-  carried-kept : (k : Kind) (i : ℕ) → i < c .names → carriedName m′ k i ≡ carriedName m k i
-  unfolding carriedName
-  carried-kept SD i h = refl
-  carried-kept ED i h = refl
-  carried-kept SE i h = ap some (names i h)
-  carried-kept AT i h = ap some (names i h)
-  carried-kept EE i h = refl
-  carried-kept CH i h = refl
-  carried-kept CM i h = refl
-  carried-kept PI i h = refl
-
-  -- A learned row that refers to names of m means the same.
-  learned-row-kept : (r : Row) → r .key / 2 < c .names → r .size < c .names → learnedRow m′ r ≡ learnedRow m r
-  unfolding learnedRow
-  learned-row-kept r a b = rw (names (r .key / 2) a, carried-kept (kindAt (r .place)) (r .size) b)
-
-  grammar-names : map (λ r. nameAt m′ (r .key)) (rows (m .work) grammarsAt (c .grammars))
-      ≡ map (λ r. nameAt m (r .key)) (rows (m .work) grammarsAt (c .grammars))
-  grammar-names = map-rows _ _ (m .work) grammarsAt (c .grammars) (λ i h. names (rowAt (m .work) grammarsAt i .key) (g .grammars i h))
-
-  first-kept : rows (m′ .work) learnedAt (c .learned) ≡ rows (m .work) learnedAt (c .learned) → (n : ℕ) → n ≤ c .learned
-      → learnedFrom m′ n ≡ learnedFrom m n
-  unfolding learnedFrom newestFirst
-  first-kept same zero h = refl
-  first-kept same (suc n) h =
-      rw (
-        same-row (m′ .work) (m .work) learnedAt (c .learned) same n h,
-        learned-row-kept (rowAt (m .work) learnedAt n) (g .elements n h) (g .carried n h),
-        first-kept same n (omega arith),
-      )
-
-  -- Learned productions stay where their rows do.
-  pub learned-kept : rows (m′ .work) learnedAt (c .learned) ≡ rows (m .work) learnedAt (c .learned)
-      → learnedFrom m′ (c .learned) ≡ learnedFrom m (c .learned)
-  learned-kept same = first-kept same (c .learned) (omega arith)
-
-  -- Element grammars stay where their rows do.
-  pub grammars-kept : rows (m′ .work) grammarsAt (c .grammars) ≡ rows (m .work) grammarsAt (c .grammars)
-      → grammarsFrom m′ (c .grammars) ≡ grammarsFrom m (c .grammars)
-  unfolding grammarsFrom
-  grammars-kept same = rw same grammar-names
-
   -- A row behind the learned rows: its production is learned, and is the first.
   pub learned-added : (e : ℕ) (tag : Bool) (k : Kind) (i : ℕ) → e < c .names → i < c .names
       → m′ .work ≡ withRow (m .work) learnedAt (c .learned) (record { key = learnedKey e tag; place = kindNumber k; size = i })
@@ -289,7 +231,13 @@ module _ (m m′ : Memory) (c : Counts) (g : Grammars m c) (names : (i : ℕ) �
       let z : rowAt (m′ .work) learnedAt (c .learned) ≡ r = rw w (withRow-row (m .work) learnedAt (c .learned) r room) in
       let same : rows (m′ .work) learnedAt (c .learned) ≡ rows (m .work) learnedAt (c .learned) =
       rw w (rows-apart (m .work) learnedAt (c .learned) r learnedAt (c .learned) (inr (omega arith))) in
-      rw (add-one, z, learned-row-kept r (rw (key-parts e tag .0) a) b, learned-as m e tag k i, first-kept same (c .learned) (omega arith))
+      rw (
+        add-one,
+        z,
+        learned-row-kept m m′ c g names r (rw (key-parts e tag .0) a) b,
+        learned-as m e tag k i,
+        learned-kept m m′ c g names (same-row (m′ .work) (m .work) learnedAt (c .learned) same),
+      )
 
   -- A row behind the element grammars.
   pub grammar-added : (r : Row) → r .key < c .names → m′ .work ≡ withRow (m .work) grammarsAt (c .grammars) r
@@ -299,7 +247,7 @@ module _ (m m′ : Memory) (c : Counts) (g : Grammars m c) (names : (i : ℕ) �
   grammar-added r a w room =
       let e : rows (m′ .work) grammarsAt (suc (c .grammars)) ≡ rows (m .work) grammarsAt (c .grammars) ++ (r ∷ []) =
       rw w (rows-with (m .work) grammarsAt (c .grammars) r room) in
-      rw (add-one, e, map-append, grammar-names, names (r .key) a)
+      rw (add-one, e, map-append, grammar-names m m′ c g names, names (r .key) a)
 
 -- ---- a row behind the string tables leaves them
 
@@ -329,22 +277,6 @@ behind-within w origin c base n r h l =
       store = ap (take (c .stored)) (drop-row w base n r origin l);
     }
 
--- A string's text, by the text store.
-text-stored : (cells : List ℕ) (origin stored : ℕ) (r : Row) → origin ≤ r .place → r .place + r .size ≤ origin + stored → origin + stored ≤ length cells
-    → textOf cells r ≡ part (take stored (drop origin cells)) (record { place = r .place - origin; size = r .size })
-unfolding textOf
-text-stored cells origin stored r a b l =
-    let e : origin + (r .place - origin) ≡ r .place = omega arith in
-    let d : length (drop origin cells) ≡ length cells - origin = length-drop origin cells in
-    let t : length (take stored (drop origin cells)) ≡ stored = length-take-le stored (drop origin cells) (omega arith) in
-    rw (
-      part-take (drop origin cells) stored (record { place = r .place - origin; size = r .size }) (omega arith),
-      part-inside (drop origin cells) (record { place = r .place - origin; size = r .size }) (omega arith),
-      drop-drop (r .place - origin) origin cells,
-      e,
-      part-inside cells (record { place = r .place; size = r .size }) (omega arith),
-    )
-
 module _ {m m′ : Memory} {c : Counts} {base n : ℕ} {r : Row} (z : Sized m c) (s : Strings m c) (b : Behind m m′ c base n r) where
   table-kept : (at k : ℕ) → at + 3 * k ≤ learnedAt → rows (m′ .work) at k ≡ rows (m .work) at k
   table-kept at k l = rw (b .work) (rows-apart (m .work) base n r at k (inr (omega (arith, b .behind))))
@@ -354,8 +286,8 @@ module _ {m m′ : Memory} {c : Counts} {base n : ℕ} {r : Row} (z : Sized m c)
 
   text-kept : (q : Row) → Lies m c q → textOf (m′ .cells) q ≡ textOf (m .cells) q
   text-kept q l =
-      text-stored (m′ .cells) (m .origin) (c .stored) q (l .starts) (l .ends) (omega (arith, b .size, z .store))
-      ∙ rw (b .store) (sym (text-stored (m .cells) (m .origin) (c .stored) q (l .starts) (l .ends) (z .store)))
+      text-in (m′ .cells) (m .origin) (c .stored) q (l .starts) (l .ends) (omega (arith, b .size, z .store))
+      ∙ rw (b .store) (sym (text-in (m .cells) (m .origin) (c .stored) q (l .starts) (l .ends) (z .store)))
 
   placed-kept : (q : Row) → Lies m c q → placedAt m′ q ≡ placedAt m q
   unfolding placedAt
@@ -385,10 +317,10 @@ module _ {m m′ : Memory} {c : Counts} {base n : ℕ} {r : Row} (z : Sized m c)
         table-kept urisAt (c .uris) (bounds .0),
         table-kept namesAt (c .names) (bounds .1),
         table-kept valuesAt (c .values) (bounds .2),
-        map-rows (placedAt m′) (placedAt m) (m .work) urisAt (c .uris) (λ i h. placed-kept (rowAt (m .work) urisAt i) (s .uris i h)),
-        map-rows (nameEntry m′) (nameEntry m) (m .work) namesAt (c .names)
+        map-rows (placedAt m′) (placedAt m) (m .work) (m .work) urisAt (c .uris) (λ i h. placed-kept (rowAt (m .work) urisAt i) (s .uris i h)),
+        map-rows (nameEntry m′) (nameEntry m) (m .work) (m .work) namesAt (c .names)
             (λ i h. rw (uri-kept (rowAt (m .work) namesAt i .key) (s .nameKeys i h), placed-kept (rowAt (m .work) namesAt i) (s .names i h))),
-        map-rows (valueEntry m′) (valueEntry m) (m .work) valuesAt (c .values)
+        map-rows (valueEntry m′) (valueEntry m) (m .work) (m .work) valuesAt (c .values)
             (λ i h. rw (names-kept (rowAt (m .work) valuesAt i .key) (s .valueKeys i h), placed-kept (rowAt (m .work) valuesAt i) (s .values i h))),
         b .origin,
         b .store,
