@@ -63,11 +63,6 @@ module _ {A : Type 0} where
   reads-cond true f g = f tt
   reads-cond false f g = g tt
 
-pub reads-need : (b : Bool) (k : Refusal) → Reads (need b k) (λ x w. T b × (w ≡ []))
-unfolding need
-reads-need true k = reads-as (reads-return tt) (λ x w h. (tt, h .empty)) (λ x w h. record { is = refl; empty = h .1 })
-reads-need false k = reads-as (reads-fail k) (λ x w h. absurd h) (λ x w h. h .0)
-
 module _ {A B : Type 0} where
   -- A value by R, and after it one by S.
   pub record Then (R : A → Bits → Type 0) (S : A → B → Bits → Type 0) (b : B) (w : Bits) : Type 0 where

@@ -15,13 +15,12 @@ use Rattle.fields.proofs.Number.{member-below}
 use Rattle.text.specs.Text.{Text, eqText}
 use Rattle.text.proofs.Equal.{eqText-refl, eqText-eq, eqText-no}
 use Rattle.format.specs.Event.{QName, eqName}
-use Rattle.format.specs.Tables.{Placed, Tables, partition, namesOf, valuesOf, allValues, indexOf}
-use Rattle.format.specs.Tables.{uri, local, value, partitionsOf, hit, literal, hitOr, firstHit, formOf}
+use Rattle.format.specs.Tables.{Placed, Tables, partition, namesOf, valuesOf, allValues, indexOf, uri, local, value, partitionsOf, hit, literal, hitOr, firstHit, formOf}
 use Rattle.format.proofs.Codes.{eqName-refl, eqName-eq}
 use Rattle.rows.specs.declared.Row.{Row}
 use Rattle.rows.specs.declared.Found.{Found}
 use Rattle.rows.specs.declared.Found.the-variants.{At, Nothing}
-use Rattle.rows.specs.Rows.{rowAt, rows, textOf, selected, keep, numbered, countOf, nthIn, nthOf, firstWith, findOf, foundAt, found}
+use Rattle.rows.specs.Rows.{rowAt, rows, textOf, selected, keep, numbered, countOf, nthIn, nthOf, hasText, firstThat, findThat, foundAt, found}
 use Rattle.rows.proofs.Laws.{rows-length, rows-at}
 use Rattle.rows.proofs.Selection.{Nth, entry-nth, first-from, find-entry, find-none, none-find, nth-of}
 use Rattle.rows.proofs.Answers.{Hit}
@@ -45,7 +44,7 @@ stringsIn m ps = map (λ p. placedAt m (p .1)) ps
 pub record Listed (m : Memory) (base n : ℕ) (all : Bool) (key : ℕ) (es : List Placed) : Type 0 where
   pub count : length es ≡ countOf all key (rows (m .work) base n)
   pub nth : (i : ℕ) → getElem? es i ≡ Option·map (λ row. placedAt m (rowAt (m .work) base row)) (nthOf all key i (rows (m .work) base n))
-  pub find : (x : Text) → indexOf es x ≡ Option·map (λ p. p .0) (findOf all key (m .cells) x (rows (m .work) base n))
+  pub find : (x : Text) → indexOf es x ≡ Option·map (λ p. p .0) (findThat (hasText (m .cells) x) all key (rows (m .work) base n))
   -- An entry is found at its own number.
   pub own : (i row : ℕ) → Hit all key (m .work) base n i row → indexOf es (textOf (m .cells) (rowAt (m .work) base row)) ≡ some i
 
@@ -80,13 +79,13 @@ module _ (m : Memory) where
   strings-at (p ∷ ps) zero = refl
   strings-at (p ∷ ps) (suc i) = strings-at ps i
 
-  strings-find : (x : Text) (ps : List (ℕ × Row)) → indexOf (stringsIn m ps) x ≡ Option·map (λ p. p .0) (firstWith (m .cells) x 0 ps)
-  unfolding stringsIn indexOf firstWith placedAt
+  strings-find : (x : Text) (ps : List (ℕ × Row)) → indexOf (stringsIn m ps) x ≡ Option·map (λ p. p .0) (firstThat (hasText (m .cells) x) 0 ps)
+  unfolding stringsIn indexOf firstThat placedAt
   strings-find x [] = refl
   strings-find x (p ∷ ps) =
       split (eqText (textOf (m .cells) (p .1)) x)
       (λ t. rw t)
-      (λ t. rw (t, strings-find x ps, first-from (m .cells) x 1 0 ps) (next (firstWith (m .cells) x 0 ps)))
+      (λ t. rw (t, strings-find x ps, first-from (hasText (m .cells) x) 1 0 ps) (next (firstThat (hasText (m .cells) x) 0 ps)))
     where
       next : (o : Option (ℕ × ℕ))
           → Option·map suc (Option·map (λ (p : ℕ × ℕ). p .0) o)
@@ -95,8 +94,8 @@ module _ (m : Memory) where
       next (some p) = let z : suc (p .0) ≡ 1 + p .0 = omega arith in ap some z
 
   find-own : (base n : ℕ) (all : Bool) (key : ℕ) → Apart m base n all key → (i row : ℕ) → Hit all key (m .work) base n i row
-      → findOf all key (m .cells) (textOf (m .cells) (rowAt (m .work) base row)) (rows (m .work) base n) ≡ some (i, row)
-  find-own base n all key apart i row h = go (findOf all key (m .cells) x rs) refl
+      → findThat (hasText (m .cells) (textOf (m .cells) (rowAt (m .work) base row))) all key (rows (m .work) base n) ≡ some (i, row)
+  find-own base n all key apart i row h = go (findThat (hasText (m .cells) x) all key rs) refl
     where
       x : Text
       x = textOf (m .cells) (rowAt (m .work) base row)
@@ -107,10 +106,10 @@ module _ (m : Memory) where
       here : Nth all key i rs row (rowAt (m .work) base row)
       here = record { at = rows-at (m .work) base n row (h .below); is = h .is; before = h .before }
 
-      go : (o : Option (ℕ × ℕ)) → findOf all key (m .cells) x rs ≡ o → o ≡ some (i, row)
-      go none e = absurd (true≢false (sym (T-is (eqText x x) (eqText-refl x)) ∙ find-none (m .cells) x all key rs e here))
+      go : (o : Option (ℕ × ℕ)) → findThat (hasText (m .cells) x) all key rs ≡ o → o ≡ some (i, row)
+      go none e = absurd (true≢false (sym (T-is (eqText x x) (eqText-refl x)) ∙ find-none (hasText (m .cells) x) all key rs e here))
       go (some p) e =
-          let (r, a, t) = find-entry (m .cells) x all key rs p e in
+          let (r, a, t) = find-entry (hasText (m .cells) x) all key rs p e in
           let there : Nth all key (p .0) rs (p .1) r = entry-nth all key (p .0) rs a in
           let (b, s) = row-of (m .work) base n (p .1) (there .at) in
           let equal : textOf (m .cells) r ≡ x = eqText-eq (textOf (m .cells) r) x (is-T (eqText (textOf (m .cells) r) x) t) in
@@ -120,7 +119,7 @@ module _ (m : Memory) where
 
   listed : (base n : ℕ) (all : Bool) (key : ℕ) (es : List Placed) → Apart m base n all key
       → es ≡ stringsIn m (numbered all key 0 (rows (m .work) base n)) → Listed m base n all key es
-  unfolding stringsIn countOf nthOf nthIn findOf
+  unfolding stringsIn countOf nthOf nthIn findThat
   listed base n all key es apart e =
       record {
         count = rw (e, length-map);
@@ -132,7 +131,7 @@ module _ (m : Memory) where
       ps : List (ℕ × Row)
       ps = numbered all key 0 (rows (m .work) base n)
 
-      find : (x : Text) → indexOf es x ≡ Option·map (λ p. p .0) (findOf all key (m .cells) x (rows (m .work) base n))
+      find : (x : Text) → indexOf es x ≡ Option·map (λ p. p .0) (findThat (hasText (m .cells) x) all key (rows (m .work) base n))
       find x = ap (λ (l : List Placed). indexOf l x) e ∙ strings-find x ps
 
       placed : (i : ℕ) (o : Option (ℕ × Row)) → getElem? ps i ≡ o
@@ -169,9 +168,9 @@ module _ {m : Memory} {base n : ℕ} {all : Bool} {key : ℕ} {es : List Placed}
       go none = refl
       go (some row) = refl
 
-  pub find-answer : (x : Text) → answer ≡ found (findOf all key (m .cells) x (rows (m .work) base n)) → indexOf es x ≡ numberOf answer
+  pub find-answer : (x : Text) → answer ≡ found (findThat (hasText (m .cells) x) all key (rows (m .work) base n)) → indexOf es x ≡ numberOf answer
   unfolding found
-  find-answer x e = l .find x ∙ rw e (go (findOf all key (m .cells) x (rows (m .work) base n)))
+  find-answer x e = l .find x ∙ rw e (go (findThat (hasText (m .cells) x) all key (rows (m .work) base n)))
     where
       go : (o : Option (ℕ × ℕ)) → Option·map (λ (p : ℕ × ℕ). p .0) o ≡ numberOf (found o)
       go none = refl
@@ -288,7 +287,7 @@ module _ (m : Memory) (c : Counts) (d : Distinct m c) where
       strict-any key i h =
           split (eqb (rowAt (m .work) valuesAt row .key) n)
           (λ e. rw e (strict-value (countOf false n (take row rs)) (hit-row false n (m .work) valuesAt (c .values) row (h .below) e)))
-          (λ e. rw e (strict-global key i h ∙ rw (values-listed m c d s n b .find x, none-find (m .cells) x false n rs (other e))))
+          (λ e. rw e (strict-global key i h ∙ rw (values-listed m c d s n b .find x, none-find (hasText (m .cells) x) false n rs (other e))))
         where
           x : Text
           x = textOf (m .cells) (rowAt (m .work) valuesAt row)

@@ -16,14 +16,14 @@ use Rattle.format.specs.Grammar.{Production, kindNumber, fits, learnedIn, raise
 use Rattle.rows.specs.declared.Row.{Row}
 use Rattle.rows.specs.declared.Found.{Found}
 use Rattle.rows.specs.declared.Found.the-variants.{At, Nothing}
-use Rattle.rows.specs.Rows.{rowAt, rows, countOf, found}
+use Rattle.rows.specs.Rows.{rowAt, rows, countOf, findThat, found}
 use Rattle.rows.proofs.Laws.{rows-length, rows-at}
 use Rattle.rows.proofs.Answers.{Hit}
 use Rattle.layout.specs.Layout.{learnedAt, grammarsAt}
 use Rattle.layout.specs.Meaning.{Memory, Counts, nameAt, kindAt, carriedName, learnedRow, learnedFrom, grammarsFrom}
 use Rattle.layout.specs.Tidy.{Distinct, Grammars}
 use Rattle.layout.proofs.Productions.{learnedKey, carries, Single, name-test, kind-test, carried-test, kind-at, learned-count, learned-as, learned-at, learned-hit}
-use Rattle.productions.specs.Locate.{hasCells, locateOf, hasKey}
+use Rattle.productions.specs.Locate.{hasCells, hasKey}
 use Rattle.productions.proofs.Located.{cells-row, row-cells, locate-hit, locate-miss}
 
 -- ---- element grammars
@@ -181,7 +181,7 @@ module _ (m : Memory) (c : Counts) where
         fit-first ev (learnedIn (nameAt m e) tag (learnedFrom m (c .learned))) v (taught-at x) (rw same at fit)
         (λ w q b at. split (fits q ev) (λ t. absurd (let z = taught-once (fitting-row w q at t) x in omega arith)) (λ t. t))
 
-    module _ {f : Found} (answer : f ≡ found (locateOf (learnedKey e tag) (kindNumber (kindOf ev)) i (rows (m .work) learnedAt (c .learned)))) where
+    module _ {f : Found} (answer : f ≡ found (findThat (hasCells (kindNumber (kindOf ev)) i) false (learnedKey e tag) (rows (m .work) learnedAt (c .learned)))) where
       -- What `locate` answers: where the production stands, or that none fits.
       pub known : {number row : ℕ} → f ≡ At number row → (v : ℕ)
           → v + number + 1 ≡ countOf false (learnedKey e tag) (rows (m .work) learnedAt (c .learned)) → Taught m c e tag ev i v

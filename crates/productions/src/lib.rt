@@ -1,7 +1,8 @@
 // Learned productions and element grammars in work memory: which row has these cells, and whether a row has this key.
 ghost use mathlib.Core.Path.{_≡_};
-ghost use Rattle.rows.specs.Rows.{Room, rows, found};
-ghost use Rattle.productions.specs.Locate.{hasCells, locateOf, hasKey};
+ghost use mathlib.Core.Bool.{false};
+ghost use Rattle.rows.specs.Rows.{Room, rows, findThat, found};
+ghost use Rattle.productions.specs.Locate.{hasCells, hasKey};
 use rows::Found;
 use rows::Row;
 
@@ -17,7 +18,7 @@ fn has_cells(row: Row, place: u32, size: u32) -> bool
 // The first row with these three cells: its number among the rows of the key, and its row number.
 pub fn locate(work: &[u32], base: usize, n: usize, key: u32, place: u32, size: u32) -> Found
     requires { ⌜ Room (now work) base n ⌝ }
-    ensures { λ r. ⌜ r ≡ found (locateOf key place size (rows (now (work .entry)) base n)) ⌝ }
+    ensures { λ r. ⌜ r ≡ found (findThat (hasCells place size) false key (rows (now (work .entry)) base n)) ⌝ }
 {
     let mut number: u32 = 0;
     let mut row: usize = 0;

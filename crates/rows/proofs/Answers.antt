@@ -7,11 +7,10 @@ use mathlib.Core.List.{List}
 use mathlib.Core.Option.{Option, none, some}
 use lib.ListN.{take, getElem?}
 use Rattle.fields.proofs.Number.{member-below}
-use Rattle.text.specs.Text.{Text, eqText}
 use Rattle.rows.specs.declared.Row.{Row}
 use Rattle.rows.specs.declared.Found.the-variants.{At, Nothing}
 use Rattle.rows.specs.declared.Found.{Found}
-use Rattle.rows.specs.Rows.{rowAt, rows, textOf, selected, numbered, countOf, nthOf, findOf, foundAt, found}
+use Rattle.rows.specs.Rows.{rowAt, rows, selected, numbered, countOf, nthOf, findThat, foundAt, found}
 use Rattle.rows.proofs.Laws.{rows-length, rows-at}
 use Rattle.rows.proofs.Selection.{Nth, nth-entry, nth-past, entry-nth, find-entry, find-none}
 
@@ -67,15 +66,15 @@ module _ (all : Bool) (key : ℕ) (work : List ℕ) (base n : ℕ) where
     pub nth-miss : f ≡ Nothing → countOf all key (rows work base n) ≤ i
     nth-miss e = nth-past all key i (rows work base n) (foundAt-nothing i (nthOf all key i (rows work base n)) (sym answer ∙ e))
 
-  module _ {f : Found} (store x : Text) (answer : f ≡ found (findOf all key store x (rows work base n))) where
-    pub find-hit : {k row : ℕ} → f ≡ At k row → Hit k row × (eqText (textOf store (rowAt work base row)) x ≡ true)
+  module _ {f : Found} (test : Row → Bool) (answer : f ≡ found (findThat test all key (rows work base n))) where
+    pub find-hit : {k row : ℕ} → f ≡ At k row → Hit k row × (test (rowAt work base row) ≡ true)
     find-hit {k} {row} e =
-        let (r, s, t) = find-entry store x all key (rows work base n) (k, row) (found-at (findOf all key store x (rows work base n)) (sym answer ∙ e)) in
+        let (r, s, t) = find-entry test all key (rows work base n) (k, row) (found-at (findThat test all key (rows work base n)) (sym answer ∙ e)) in
         let (h, z) = hit s in
         (h, rw z t)
 
     pub find-miss : f ≡ Nothing → (row : ℕ) → row < n → selected all key (rowAt work base row) ≡ true
-        → eqText (textOf store (rowAt work base row)) x ≡ false
+        → test (rowAt work base row) ≡ false
     find-miss e row h s =
-        find-none store x all key (rows work base n) (found-nothing (findOf all key store x (rows work base n)) (sym answer ∙ e))
+        find-none test all key (rows work base n) (found-nothing (findThat test all key (rows work base n)) (sym answer ∙ e))
         (record { at = rows-at work base n row h; is = s; before = refl })

@@ -1,4 +1,4 @@
 pub mod Answers
 pub mod Laws
 pub mod Selection
-mod Turn
+pub mod Turn

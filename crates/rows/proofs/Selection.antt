@@ -10,9 +10,8 @@ use mathlib.Core.Option.{Option, none, some, Option·map, Option·none-ne-some, 
 use lib.ListN.{length, take, drop, getElem?, length-append, length-map}
 use Rattle.fields.proofs.Tests.{split}
 use Rattle.fields.proofs.Number.{member-below}
-use Rattle.text.specs.Text.{Text, eqText}
 use Rattle.rows.specs.declared.Row.{Row}
-use Rattle.rows.specs.Rows.{textOf, selected, keep, numbered, countOf, nthIn, nthOf, firstWith, findOf}
+use Rattle.rows.specs.Rows.{selected, keep, numbered, countOf, nthIn, nthOf, firstThat, findThat}
 
 -- ---- lists
 
@@ -237,71 +236,71 @@ nth-all key i rs h =
     let (c, l) = cut rs i e in
     rw (nth-of true key i rs {row = i} {r = r} (record { at = e; is = refl; before = count-all key (take i rs) ∙ l }))
 
--- ---- the first that has a text
+-- ---- the first that passes a test
 
-module _ (store x : Text) where
+module _ (test : Row → Bool) where
   -- Where the list is counted from m on.
   pub first-from : (m k : ℕ) (ps : List (ℕ × Row))
-      → firstWith store x (m + k) ps ≡ Option·map (λ p. (m + p .0, p .1)) (firstWith store x k ps)
-  unfolding firstWith
+      → firstThat test (m + k) ps ≡ Option·map (λ p. (m + p .0, p .1)) (firstThat test k ps)
+  unfolding firstThat
   first-from m k [] = refl
   first-from m k (p ∷ ps) =
       let e : suc (m + k) ≡ m + suc k = omega arith in
-      split (eqText (textOf store (p .1)) x)
+      split (test (p .1))
       (λ t. rw t)
       (λ t. rw (t, e) (first-from m (suc k) ps))
 
   pub first-further : (m k : ℕ) (ps : List (ℕ × Row))
-      → firstWith store x k (map (further m) ps) ≡ Option·map (λ p. (p .0, m + p .1)) (firstWith store x k ps)
-  unfolding firstWith further
+      → firstThat test k (map (further m) ps) ≡ Option·map (λ p. (p .0, m + p .1)) (firstThat test k ps)
+  unfolding firstThat further
   first-further m k [] = refl
-  first-further m k (p ∷ ps) = split (eqText (textOf store (p .1)) x) (λ t. rw t) (λ t. rw t (first-further m (suc k) ps))
+  first-further m k (p ∷ ps) = split (test (p .1)) (λ t. rw t) (λ t. rw t (first-further m (suc k) ps))
 
-  first-left : (k : ℕ) (ps qs : List (ℕ × Row)) {p : ℕ × ℕ} → firstWith store x k ps ≡ some p → firstWith store x k (ps ++ qs) ≡ some p
-  unfolding firstWith
+  first-left : (k : ℕ) (ps qs : List (ℕ × Row)) {p : ℕ × ℕ} → firstThat test k ps ≡ some p → firstThat test k (ps ++ qs) ≡ some p
+  unfolding firstThat
   first-left k [] qs e = absurd (Option·none-ne-some _ e)
   first-left k (q ∷ ps) qs e =
-      split (eqText (textOf store (q .1)) x) (λ t. rw t (rw t at e)) (λ t. rw t (first-left (suc k) ps qs (rw t at e)))
+      split (test (q .1)) (λ t. rw t (rw t at e)) (λ t. rw t (first-left (suc k) ps qs (rw t at e)))
 
-  first-right : (k : ℕ) (ps qs : List (ℕ × Row)) → firstWith store x k ps ≡ none
-      → firstWith store x k (ps ++ qs) ≡ firstWith store x (k + length ps) qs
-  unfolding firstWith
+  first-right : (k : ℕ) (ps qs : List (ℕ × Row)) → firstThat test k ps ≡ none
+      → firstThat test k (ps ++ qs) ≡ firstThat test (k + length ps) qs
+  unfolding firstThat
   first-right k [] qs e = rw (add-zero k)
   first-right k (q ∷ ps) qs e =
       let z : k + suc (length ps) ≡ suc k + length ps = omega arith in
-      split (eqText (textOf store (q .1)) x)
+      split (test (q .1))
       (λ t. absurd (Option·none-ne-some _ (sym (rw t at e))))
       (λ t. rw (t, z) (first-right (suc k) ps qs (rw t at e)))
 
-  first-entry : (k : ℕ) (ps : List (ℕ × Row)) (p : ℕ × ℕ) → firstWith store x k ps ≡ some p
-      → (i : ℕ) × (p .0 ≡ k + i) × (r : Row) × (getElem? ps i ≡ some (p .1, r)) × (eqText (textOf store r) x ≡ true)
-  unfolding firstWith
+  first-entry : (k : ℕ) (ps : List (ℕ × Row)) (p : ℕ × ℕ) → firstThat test k ps ≡ some p
+      → (i : ℕ) × (p .0 ≡ k + i) × (r : Row) × (getElem? ps i ≡ some (p .1, r)) × (test r ≡ true)
+  unfolding firstThat
   first-entry k [] p e = absurd (Option·none-ne-some _ e)
   first-entry k (q ∷ ps) p e =
-      split (eqText (textOf store (q .1)) x)
+      split (test (q .1))
       (λ t. let z : (k, q .0) ≡ p = cc in (0, cc (add-zero k), q .1, ap (λ (w : ℕ × ℕ). some (w .1, q .1)) z, t))
       (λ t. let (i, z, r, a, b) = first-entry (suc k) ps p (rw t at e) in (suc i, omega arith, r, a, b))
 
-  first-none : (k : ℕ) (ps : List (ℕ × Row)) → firstWith store x k ps ≡ none
-      → (i : ℕ) {p : ℕ × Row} → getElem? ps i ≡ some p → eqText (textOf store (p .1)) x ≡ false
-  unfolding firstWith
+  first-none : (k : ℕ) (ps : List (ℕ × Row)) → firstThat test k ps ≡ none
+      → (i : ℕ) {p : ℕ × Row} → getElem? ps i ≡ some p → test (p .1) ≡ false
+  unfolding firstThat
   first-none k [] e i a = absurd (Option·none-ne-some _ a)
   first-none k (q ∷ ps) e zero a =
-      split (eqText (textOf store (q .1)) x) (λ t. absurd (Option·none-ne-some _ (sym (rw t at e)))) (λ t. cc)
+      split (test (q .1)) (λ t. absurd (Option·none-ne-some _ (sym (rw t at e)))) (λ t. cc)
   first-none k (q ∷ ps) e (suc i) a =
-      split (eqText (textOf store (q .1)) x)
+      split (test (q .1))
       (λ t. absurd (Option·none-ne-some _ (sym (rw t at e))))
       (λ t. first-none (suc k) ps (rw t at e) i a)
 
   module _ (all : Bool) (key : ℕ) where
-    pub find-left : (xs ys : List Row) {p : ℕ × ℕ} → findOf all key store x xs ≡ some p → findOf all key store x (xs ++ ys) ≡ some p
-    unfolding findOf
+    pub find-left : (xs ys : List Row) {p : ℕ × ℕ} → findThat test all key xs ≡ some p → findThat test all key (xs ++ ys) ≡ some p
+    unfolding findThat
     find-left xs ys e =
         rw (numbered-append all key 0 xs ys) (first-left 0 (numbered all key 0 xs) (numbered all key (0 + length xs) ys) e)
 
-    pub find-right : (xs ys : List Row) → findOf all key store x xs ≡ none
-        → findOf all key store x (xs ++ ys) ≡ Option·map (λ p. (countOf all key xs + p .0, length xs + p .1)) (findOf all key store x ys)
-    unfolding findOf countOf
+    pub find-right : (xs ys : List Row) → findThat test all key xs ≡ none
+        → findThat test all key (xs ++ ys) ≡ Option·map (λ p. (countOf all key xs + p .0, length xs + p .1)) (findThat test all key ys)
+    unfolding findThat countOf
     find-right xs ys e =
         let ps : List (ℕ × Row) = numbered all key 0 xs in
         let m : ℕ = length xs in
@@ -316,28 +315,28 @@ module _ (store x : Text) where
           first-from (length ps) 0 (map (further m) (numbered all key 0 ys)),
           first-further m 0 (numbered all key 0 ys),
         )
-        (map-map _ _ (firstWith store x 0 (numbered all key 0 ys)))
+        (map-map _ _ (firstThat test 0 (numbered all key 0 ys)))
 
-    -- The row that is found is selected by that number, and has the text.
-    pub find-entry : (rs : List Row) (p : ℕ × ℕ) → findOf all key store x rs ≡ some p
-        → (r : Row) × (getElem? (numbered all key 0 rs) (p .0) ≡ some (p .1, r)) × (eqText (textOf store r) x ≡ true)
-    unfolding findOf
+    -- The row that is found is selected by that number, and passes the test.
+    pub find-entry : (rs : List Row) (p : ℕ × ℕ) → findThat test all key rs ≡ some p
+        → (r : Row) × (getElem? (numbered all key 0 rs) (p .0) ≡ some (p .1, r)) × (test r ≡ true)
+    unfolding findThat
     find-entry rs p e =
         let (i, z, r, a, t) = first-entry 0 (numbered all key 0 rs) p e in
         let same : p .0 ≡ i = omega arith in
         (r, ap (getElem? (numbered all key 0 rs)) same ∙ a, t)
 
-    -- None is found exactly if no selected row has the text.
-    pub find-none : (rs : List Row) → findOf all key store x rs ≡ none
-        → {i row : ℕ} {r : Row} → Nth all key i rs row r → eqText (textOf store r) x ≡ false
-    unfolding findOf
+    -- None is found exactly if no selected row passes the test.
+    pub find-none : (rs : List Row) → findThat test all key rs ≡ none
+        → {i row : ℕ} {r : Row} → Nth all key i rs row r → test r ≡ false
+    unfolding findThat
     find-none rs e {i} n = first-none 0 (numbered all key 0 rs) e i (nth-of all key i rs n)
 
     pub none-find : (rs : List Row)
-        → ((i row : ℕ) (r : Row) → Nth all key i rs row r → eqText (textOf store r) x ≡ false) → findOf all key store x rs ≡ none
-    none-find rs h = go (findOf all key store x rs) refl
+        → ((i row : ℕ) (r : Row) → Nth all key i rs row r → test r ≡ false) → findThat test all key rs ≡ none
+    none-find rs h = go (findThat test all key rs) refl
       where
-        go : (o : Option (ℕ × ℕ)) → findOf all key store x rs ≡ o → findOf all key store x rs ≡ none
+        go : (o : Option (ℕ × ℕ)) → findThat test all key rs ≡ o → findThat test all key rs ≡ none
         go none e = e
         go (some p) e =
             let (r, a, t) = find-entry rs p e in

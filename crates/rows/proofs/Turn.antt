@@ -6,10 +6,9 @@ use mathlib.Core.Path.{_≡_, refl, ap}
 use mathlib.Core.Bool.{Bool, true, false}
 use mathlib.Core.List.{List, [], _∷_}
 use lib.ListN.{length, drop, drop-of-length-le}
-use Rattle.text.specs.Text.{eqText}
 use Rattle.rows.specs.declared.Row.{Row}
 use Rattle.rows.specs.declared.Found.the-variants.{At, Nothing}
-use Rattle.rows.specs.Rows.{rowAt, rows, textOf, selected, keep, numbered, countOf, nthIn, nthOf, firstWith, findOf, foundAt, found}
+use Rattle.rows.specs.Rows.{rowAt, rows, selected, keep, numbered, countOf, nthIn, nthOf, firstThat, findThat, foundAt, found}
 use Rattle.rows.proofs.Laws.{rows-length, rows-drop}
 
 -- ---- the selected rows from row i on
@@ -93,30 +92,30 @@ module _ {all : Bool} {key : ℕ} {work : List ℕ} {base n i left row : ℕ} (l
 
 -- ---- find
 
-pub record Searching (all : Bool) (key : ℕ) (work store x : List ℕ) (base n number row : ℕ) : Type 0 where
+pub record Searching (all : Bool) (key : ℕ) (work : List ℕ) (test : Row → Bool) (base n number row : ℕ) : Type 0 where
   pub inside : row ≤ n
   pub few : number ≤ row
-  same : firstWith store x number (rest all key work base n row) ≡ findOf all key store x (rows work base n)
+  same : firstThat test number (rest all key work base n row) ≡ findThat test all key (rows work base n)
 
-pub find-start : (all : Bool) (key : ℕ) (work store x : List ℕ) (base n : ℕ) → Searching all key work store x base n 0 0
-unfolding rest findOf
-find-start all key work store x base n = record { inside = omega arith; few = omega arith; same = refl }
+pub find-start : (all : Bool) (key : ℕ) (work : List ℕ) (test : Row → Bool) (base n : ℕ) → Searching all key work test base n 0 0
+unfolding rest findThat
+find-start all key work test base n = record { inside = omega arith; few = omega arith; same = refl }
 
-module _ {all : Bool} {key : ℕ} {work store x : List ℕ} {base n number row : ℕ} (l : Searching all key work store x base n number row) where
-  pub find-end : n ≤ row → Nothing ≡ found (findOf all key store x (rows work base n))
-  unfolding firstWith found
+module _ {all : Bool} {key : ℕ} {work : List ℕ} {test : Row → Bool} {base n number row : ℕ} (l : Searching all key work test base n number row) where
+  pub find-end : n ≤ row → Nothing ≡ found (findThat test all key (rows work base n))
+  unfolding firstThat found
   find-end h = cc (rest-none all key work base n row h, l .same)
 
   module _ {b : Bool} (h : row < n) (s : b ≡ selected all key (rowAt work base row)) where
-    pub find-out : b ≡ false → Searching all key work store x base n number (row + 1)
+    pub find-out : b ≡ false → Searching all key work test base n number (row + 1)
     find-out e = record { inside = omega arith; few = omega arith; same = rw (← out all key work base n row h s e) (l .same) }
 
-    module _ {d : Bool} (e : b ≡ true) (t : d ≡ eqText (textOf store (rowAt work base row)) x) where
-      pub find-next : d ≡ false → Searching all key work store x base n (number + 1) (row + 1)
-      unfolding firstWith
+    module _ {d : Bool} (e : b ≡ true) (t : d ≡ test (rowAt work base row)) where
+      pub find-next : d ≡ false → Searching all key work test base n (number + 1) (row + 1)
+      unfolding firstThat
       find-next u =
           record { inside = omega arith; few = omega arith; same = cc (hit all key work base n row h s e, l .same, add-one number) }
 
-      pub find-here : d ≡ true → At number row ≡ found (findOf all key store x (rows work base n))
-      unfolding firstWith found
+      pub find-here : d ≡ true → At number row ≡ found (findThat test all key (rows work base n))
+      unfolding firstThat found
       find-here u = cc (hit all key work base n row h s e, l .same)

@@ -66,14 +66,17 @@ nthIn i ps = Option·map (λ p. p .0) (getElem? ps i)
 unfoldable pub nthOf : Bool → ℕ → ℕ → List Row → Option ℕ
 nthOf all key i rs = nthIn i (numbered all key 0 rs)
 
--- The first of these rows that has the text: its number in this list, counted from k, and its row number.
-unfoldable pub firstWith : Text → Text → ℕ → List (ℕ × Row) → Option (ℕ × ℕ)
-firstWith store x k [] = none
-firstWith store x k (p ∷ ps) = let later = firstWith store x (suc k) ps in cond (eqText (textOf store (p .1)) x) (some (k, p .0)) later
+-- The first of these rows that passes the test: its number in this list, counted from k, and its row number.
+unfoldable pub firstThat : (Row → Bool) → ℕ → List (ℕ × Row) → Option (ℕ × ℕ)
+firstThat test k [] = none
+firstThat test k (p ∷ ps) = let later = firstThat test (suc k) ps in cond (test (p .1)) (some (k, p .0)) later
 
--- Of the first selected row that has the text: its number among the selected rows, and its row number.
-unfoldable pub findOf : Bool → ℕ → Text → Text → List Row → Option (ℕ × ℕ)
-findOf all key store x rs = firstWith store x 0 (numbered all key 0 rs)
+-- Of the first selected row that passes the test: its number among the selected rows, and its row number.
+unfoldable pub findThat : (Row → Bool) → Bool → ℕ → List Row → Option (ℕ × ℕ)
+findThat test all key rs = firstThat test 0 (numbered all key 0 rs)
+
+abbrev pub hasText : Text → Text → Row → Bool
+hasText store x r = eqText (textOf store r) x
 
 -- ---- these as the functions answer them
 

@@ -3,8 +3,7 @@
 ghost use mathlib.Core.Path.{_≡_};
 ghost use Prim.Native.Nat.{_+_};
 ghost use lib.Dec.{ltb};
-ghost use Rattle.text.specs.Text.{eqText};
-ghost use Rattle.rows.specs.Rows.{Room, rowAt, rows, textOf, selected, countOf, nthOf, findOf, foundAt, found, withRow, withRowBelow};
+ghost use Rattle.rows.specs.Rows.{Room, rowAt, rows, selected, countOf, nthOf, hasText, findThat, foundAt, found, withRow, withRowBelow};
 
 pub struct Row {
     pub key: u32,
@@ -82,7 +81,7 @@ pub fn nth(work: &[u32], base: usize, n: usize, all: bool, key: u32, i: u32) -> 
 
 fn has_text(work: &[u32], store: &[u32], base: usize, i: usize, text: &[u32]) -> bool
     requires { ⌜ Room (now work) base (i + 1) ⌝ }
-    ensures { λ r. ⌜ r ≡ eqText (textOf (now (store .entry)) (rowAt (now (work .entry)) base i)) (now (text .entry)) ⌝ }
+    ensures { λ r. ⌜ r ≡ hasText (now (store .entry)) (now (text .entry)) (rowAt (now (work .entry)) base i) ⌝ }
 {
     let row = row_at(work, base, i);
     text::same_text(text::look_up(store, row.place, row.size), text)
@@ -99,7 +98,7 @@ pub fn find(
     text: &[u32],
 ) -> Found
     requires { ⌜ Room (now work) base n ⌝ }
-    ensures { λ r. ⌜ r ≡ found (findOf all key (now (store .entry)) (now (text .entry)) (rows (now (work .entry)) base n)) ⌝ }
+    ensures { λ r. ⌜ r ≡ found (findThat (hasText (now (store .entry)) (now (text .entry))) all key (rows (now (work .entry)) base n)) ⌝ }
 {
     let mut number: u32 = 0;
     let mut row: usize = 0;

@@ -1,18 +1,21 @@
--- `locate` meets its contract. The loop's invariant is `Searching`, of Turn.
+-- `locate` meets its contract. The loop's invariant is `Searching`, of rows.
 use Prim.Native.Nat.{_-_}
+use mathlib.Core.Bool.{false}
 use borrow.Author.Needs.{needs}
-use Rattle.productions.proofs.Turn.{Searching, start, other, next, here, end}
+use Rattle.rows.proofs.Turn.{Searching, find-start, find-end}
+use Rattle.productions.specs.Locate.{hasCells}
+use Rattle.productions.proofs.Turn.{other, next, here}
 use Rattle.productions.proofs.locate.Statement.{statement}
 use Rattle.productions.proofs.locate.Tie as tie
 
 abbrev Inv-loop : tie.InvT-loop
-Inv-loop work base n key place size number₀ row₀ number row = Searching key place size work base n number row
+Inv-loop work base n key place size number₀ row₀ number row = Searching false key work (hasCells place size) base n number row
 
 abbrev μ-loop : tie.MeasureT-loop
 μ-loop work base n key place size number₀ row₀ number row = n - row
 
 loop-holds : tie.Need-loop-holds Inv-loop μ-loop
-loop-holds c = start _ _ _ _ _ _
+loop-holds c = find-start _ _ _ _ _ _
 
 add-row : tie.Need-add-row Inv-loop μ-loop
 add-row c = search needs
@@ -53,7 +56,7 @@ loop-again-2 c =
     other (turn .before .before .loop .inv) (turn .before .loop-test .taken) (turn .row-at .ensures) (c .if1 .left)
 
 returns-2 : tie.Need-returns-2 Inv-loop μ-loop
-returns-2 c = end (c .before .loop .inv) (c .loop-test .left)
+returns-2 c = find-end (c .before .loop .inv) (c .loop-test .left)
 
 pub locate-spec : {M : Type 1} → statement M
 locate-spec =

@@ -1,18 +1,19 @@
 -- `find` meets its contract. The loop's invariant is `Searching`, of Turn.
 use Prim.Native.Nat.{_-_}
 use borrow.Author.Needs.{needs}
+use Rattle.rows.specs.Rows.{hasText}
 use Rattle.rows.proofs.Turn.{Searching, find-start, find-out, find-next, find-here, find-end}
 use Rattle.rows.proofs.find.Statement.{statement}
 use Rattle.rows.proofs.find.Tie as tie
 
 abbrev Inv-loop : tie.InvT-loop
-Inv-loop work store base n all key text number₀ row₀ number row = Searching all key work store text base n number row
+Inv-loop work store base n all key text number₀ row₀ number row = Searching all key work (hasText store text) base n number row
 
 abbrev μ-loop : tie.MeasureT-loop
 μ-loop work store base n all key text number₀ row₀ number row = n - row
 
 loop-holds : tie.Need-loop-holds Inv-loop μ-loop
-loop-holds c = find-start _ _ _ _ _ _ _
+loop-holds c = find-start _ _ _ _ _ _
 
 add-row : tie.Need-add-row Inv-loop μ-loop
 add-row c = search needs
