@@ -172,6 +172,8 @@ module _ (m : Memory) (b : Begun m) where
         grammars = record {
           elements = λ i h. absurd (omega arith);
           carried = λ i h. absurd (omega arith);
+          plain = λ i h. absurd (omega arith);
+          once = λ i j h. absurd (omega arith);
           grammars = λ i h. absurd (omega arith);
         };
       }

@@ -360,6 +360,8 @@ module _ {m m′ : Memory} {c : Counts} {at : ℕ} {x : Text} (t : Tidy m c) (g 
               grammars = record {
                 elements = λ i h. rw (learned-row i h) (omega (arith, t .grammars .elements i h, b .more));
                 carried = λ i h. rw (learned-row i h) (omega (arith, t .grammars .carried i h, b .more));
+                plain = λ i h e. rw (learned-row i h) (t .grammars .plain i h (rw (learned-row i h) at e));
+                once = λ i j h l e. t .grammars .once i j h l (sym (learned-row i h) ∙ e ∙ learned-row j l);
                 grammars = λ i h. rw (grammar-row i h) (omega (arith, t .grammars .grammars i h, b .more));
               };
             };

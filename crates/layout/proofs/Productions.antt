@@ -6,7 +6,7 @@ use native.Mathlib.Omega.{arith}
 use native.Mathlib.Numerals.{add-one}
 use native.Mathlib.Decide.{decLe}
 use mathlib.Core.Path.{_≡_, refl, sym, ap, subst, _∙_}
-use mathlib.Core.Logic.{_⊎_, inl, inr, ⊎-elim}
+use mathlib.Core.Logic.{inl, inr}
 use mathlib.Core.Bool.{Bool, true, false, _&&_, Bool·beq}
 use mathlib.Core.List.{List, [], _∷_, _++_, append-nil, map-append}
 use mathlib.Core.Option.{some, Option·none-ne-some}
@@ -14,20 +14,19 @@ use lib.ListN.{length, take, drop, getElem?, length-append}
 use lib.Dec.{eqb}
 use borrow.Author.Tests.{eqb-true, eqb-false, eq-eqb, ne-eqb}
 use Rattle.fields.proofs.Tests.{split, T-is, is-T}
-use Rattle.text.specs.Text.{Text}
 use Rattle.format.specs.Event.{Kind, SD, ED, SE, AT, EE, CH, CM, PI, eqName}
 use Rattle.format.specs.Grammar.{learnedIn, kindNumber, fitsName, learn}
 use Rattle.format.specs.Sizes.{maxLearned, maxGrammars}
 use Rattle.format.proofs.Codes.{eqName-refl, eqName-eq}
 use Rattle.rows.specs.declared.Row.{Row}
 use Rattle.rows.specs.Rows.{rowAt, rows, textOf, selected, keep, numbered, countOf, foundAt, withRow}
-use Rattle.rows.proofs.Laws.{rows-more, rows-same, rows-with, rows-apart, withRow-row, withRow-length}
+use Rattle.rows.proofs.Laws.{rows-more, rows-with, rows-apart, withRow-row, withRow-length}
 use Rattle.rows.proofs.Selection.{numbered-append, nth-some}
 use Rattle.rows.proofs.Answers.{Hit, nth-hit}
 use Rattle.layout.proofs.Kept.{same-row, text-in, map-rows, learned-row-kept, learned-kept, grammar-names}
-use Rattle.layout.proofs.Adding.{Grows, drop-row}
+use Rattle.layout.proofs.Adding.{drop-row}
 use Rattle.layout.specs.Layout.{urisAt, namesAt, valuesAt, learnedAt, grammarsAt, tableCells}
-use Rattle.layout.specs.Meaning.{Memory, Counts, placedAt, uriText, nameEntry, nameAt, valueEntry, tablesIn, kindAt, carriedName, learnedRow, newestFirst, learnedFrom, grammarsFrom}
+use Rattle.layout.specs.Meaning.{Memory, Counts, placedAt, uriText, nameEntry, nameAt, valueEntry, tablesIn, kindAt, carries, carriedName, learnedRow, newestFirst, learnedFrom, grammarsFrom}
 use Rattle.layout.specs.Tidy.{Lies, Sized, Strings, Distinct, Grammars, Tidy}
 
 -- The key of an element's learned rows, by its name's number, in its start tag (true) or in its content.
@@ -164,17 +163,6 @@ pub kind-at : (k : Kind) → kindAt (kindNumber k) ≡ k
 unfolding kindAt kindNumber
 kind-at = elim [ SD ↦ refl | ED ↦ refl | SE ↦ refl | AT ↦ refl | EE ↦ refl | CH ↦ refl | CM ↦ refl | PI ↦ refl ]
 
--- SE and AT carry a name.
-abbrev pub carries : Kind → Bool
-carries SD = false
-carries ED = false
-carries SE = true
-carries AT = true
-carries EE = false
-carries CH = false
-carries CM = false
-carries PI = false
-
 -- Which kind a row's place is. (Every number from 7 on is PI.)
 pub kind-test : (n : ℕ) (k : Kind) → kindNumber k < 7 → eqb (kindNumber (kindAt n)) (kindNumber k) ≡ eqb n (kindNumber k)
 unfolding kindAt kindNumber
@@ -200,11 +188,6 @@ carried-test m c d EE i j a b p = sym (eq-eqb i j (p refl))
 carried-test m c d CH i j a b p = sym (eq-eqb i j (p refl))
 carried-test m c d CM i j a b p = sym (eq-eqb i j (p refl))
 carried-test m c d PI i j a b p = sym (eq-eqb i j (p refl))
-
--- A learned row that carries no name has size 0, and none stands twice.
-pub record Single (m : Memory) (c : Counts) : Type 0 where
-  pub plain : (i : ℕ) → i < c .learned → carries (kindAt (rowAt (m .work) learnedAt i .place)) ≡ false → rowAt (m .work) learnedAt i .size ≡ 0
-  pub once : (i j : ℕ) → i < c .learned → j < c .learned → rowAt (m .work) learnedAt i ≡ rowAt (m .work) learnedAt j → i ≡ j
 
 key-parts : (e : ℕ) (tag : Bool) → (learnedKey e tag / 2 ≡ e) × (eqb (learnedKey e tag % 2) 1 ≡ tag)
 key-parts e true = (omega arith, eq-eqb ((2 * e + 1) % 2) 1 (omega arith))
@@ -416,8 +399,10 @@ module _ {m m′ : Memory} {c : Counts} {r : Row} (t : Tidy m c) (b : Behind m m
   pub learned-apart : (k : ℕ) → rows (m′ .work) grammarsAt k ≡ rows (m .work) grammarsAt k
   learned-apart k = rw (b .work) (rows-apart (m .work) learnedAt (c .learned) r grammarsAt k (inl (learned-before (omega arith))))
 
-  pub learned-tidy : r .key / 2 < c .names → r .size < c .names → Tidy m′ (recounted c (c .learned + 1) (c .grammars))
-  learned-tidy x y =
+  -- The row was not there, and has size 0 where it carries no name.
+  pub learned-tidy : r .key / 2 < c .names → r .size < c .names → (carries (kindAt (r .place)) ≡ false → r .size ≡ 0)
+      → ((i : ℕ) → i < c .learned → rowAt (m .work) learnedAt i ≡ r → ⊥) → Tidy m′ (recounted c (c .learned + 1) (c .grammars))
+  learned-tidy x y plain new =
       let g = t .grammars in
       let room = learned-room m c (t .sized) few in
       let same = same-row (m′ .work) (m .work) grammarsAt (c .grammars) (learned-apart (c .grammars)) in
@@ -428,22 +413,14 @@ module _ {m m′ : Memory} {c : Counts} {r : Row} (t : Tidy m c) (b : Behind m m
         grammars = record {
           elements = rows-added t b (λ i q. q .key / 2 < c .names) room (g .elements) x;
           carried = rows-added t b (λ i q. q .size < c .names) room (g .carried) y;
+          plain = rows-added t b (λ i q. carries (kindAt (q .place)) ≡ false → q .size ≡ 0) room (g .plain) plain;
+          once = λ i j x y e.
+              rows-added t b (λ i q. (j : ℕ) → j < c .learned + 1 → q ≡ rowAt (m′ .work) learnedAt j → i ≡ j) room
+              (λ i x. rows-added t b (λ j q. rowAt (m .work) learnedAt i ≡ q → i ≡ j) room (λ j y. g .once i j x y) (λ e. absurd (new i x e)))
+              (rows-added t b (λ j q. r ≡ q → c .learned ≡ j) room (λ j y e. absurd (new j y (sym e))) (λ e. refl))
+              i x j y e;
           grammars = λ i h. subst (λ q. q .key < c .names) (sym (same i h)) (g .grammars i h);
         };
-      }
-
-  -- A row that was not there, and that has size 0 where it carries no name.
-  pub learned-single : Single m c → (carries (kindAt (r .place)) ≡ false → r .size ≡ 0)
-      → ((i : ℕ) → i < c .learned → rowAt (m .work) learnedAt i ≡ r → ⊥) → Single m′ (recounted c (c .learned + 1) (c .grammars))
-  learned-single u plain new =
-      let room = learned-room m c (t .sized) few in
-      record {
-        plain = rows-added t b (λ i q. carries (kindAt (q .place)) ≡ false → q .size ≡ 0) room (u .plain) plain;
-        once = λ i j x y e.
-            rows-added t b (λ i q. (j : ℕ) → j < c .learned + 1 → q ≡ rowAt (m′ .work) learnedAt j → i ≡ j) room
-            (λ i x. rows-added t b (λ j q. rowAt (m .work) learnedAt i ≡ q → i ≡ j) room (λ j y. u .once i j x y) (λ e. absurd (new i x e)))
-            (rows-added t b (λ j q. r ≡ q → c .learned ≡ j) room (λ j y e. absurd (new j y (sym e))) (λ e. refl))
-            i x j y e;
       }
 
 -- ---- an element grammar is added
@@ -465,25 +442,8 @@ module _ {m m′ : Memory} {c : Counts} {r : Row} (t : Tidy m c) (b : Behind m m
         grammars = record {
           elements = λ i h. subst (λ q. q .key / 2 < c .names) (sym (same i h)) (g .elements i h);
           carried = λ i h. subst (λ q. q .size < c .names) (sym (same i h)) (g .carried i h);
+          plain = λ i h e. rw (same i h) (g .plain i h (rw (same i h) at e));
+          once = λ i j h l e. g .once i j h l (sym (same i h) ∙ e ∙ same j l);
           grammars = rows-added t b (λ i q. q .key < c .names) (grammars-room m c (t .sized) few) (g .grammars) x;
         };
       }
-
--- Where the learned rows stay.
-pub single-kept : {m m′ : Memory} {c : Counts} (k : Counts) → k .learned ≡ c .learned
-    → rows (m′ .work) learnedAt (c .learned) ≡ rows (m .work) learnedAt (c .learned) → Single m c → Single m′ k
-single-kept {m} {m′} {c} k e s u =
-    let same = same-row (m′ .work) (m .work) learnedAt (c .learned) s in
-    record {
-      plain = λ i h p. let l = rw e at h in rw (same i l) (u .plain i l (rw (same i l) at p));
-      once = λ i j x y p. let l = rw e at x in let o = rw e at y in u .once i j l o (sym (same i l) ∙ p ∙ same j o);
-    }
-
--- A string that joins its table, and a text behind the store, leave them.
-pub single-grows : {m m′ : Memory} {c : Counts} {at : ℕ} {x : Text} (k : Counts) → k .learned ≡ c .learned → Sized m c → Grows m m′ c at x
-    → (at + 3 ≤ learnedAt) ⊎ (tableCells ≤ at) → Single m c → Single m′ k
-single-grows {m} {m′} {c} {at} k e z g apart =
-    single-kept k e
-    (rows-same (m′ .work) (m .work) learnedAt (c .learned) (λ i l h.
-    let b : i < tableCells = omega (arith, z .learned, learned-end) in
-    g .work i b (⊎-elim (λ (y : at + 3 ≤ learnedAt). inl (omega arith)) (λ (y : tableCells ≤ at). inr (omega arith)) apart)))

@@ -9,7 +9,7 @@
 --                   in the start tag
 --   grammars        the element's name number             0
 use Prim.Native.Nat.{ℕ, zero, suc, _-_, _/_, _%_}
-use mathlib.Core.Bool.{cond}
+use mathlib.Core.Bool.{Bool, true, false, cond}
 use mathlib.Core.List.{List, [], _∷_, map}
 use mathlib.Core.Option.{Option, none, some}
 use lib.ListN.{getD, take, drop}
@@ -71,6 +71,16 @@ unfoldable pub kindAt : ℕ → Kind
 kindAt n = getD (SD ∷ ED ∷ SE ∷ AT ∷ EE ∷ CH ∷ CM ∷ []) n PI
 
 -- SE and AT carry a name.
+abbrev pub carries : Kind → Bool
+carries SD = false
+carries ED = false
+carries SE = true
+carries AT = true
+carries EE = false
+carries CH = false
+carries CM = false
+carries PI = false
+
 unfoldable pub carriedName : Memory → Kind → ℕ → Option (QName Text)
 carriedName m SD n = none
 carriedName m ED n = none

@@ -2,12 +2,13 @@
 -- an entry has its text, so that equal numbers and equal texts are the same thing.
 use Prim.Native.Nat.{ℕ, _+_, _/_, _≤_, _<_}
 use mathlib.Core.Path.{_≡_}
+use mathlib.Core.Bool.{false}
 use lib.ListN.{length}
 use Rattle.rows.specs.declared.Row.{Row}
 use Rattle.rows.specs.Rows.{rowAt, textOf}
 use Rattle.format.specs.Sizes.{maxUris, maxNames, maxValues, maxLearned, maxGrammars}
 use Rattle.layout.specs.Layout.{urisAt, namesAt, valuesAt, learnedAt, grammarsAt, tableCells}
-use Rattle.layout.specs.Meaning.{Memory, Counts, uriText, nameAt}
+use Rattle.layout.specs.Meaning.{Memory, Counts, uriText, nameAt, kindAt, carries}
 
 -- A row's string lies in the text store.
 pub record Lies (m : Memory) (c : Counts) (r : Row) : Type 0 where
@@ -37,9 +38,12 @@ pub record Distinct (m : Memory) (c : Counts) : Type 0 where
   pub values : (i j : ℕ) → i < c .values → j < c .values
       → textOf (m .cells) (rowAt (m .work) valuesAt i) ≡ textOf (m .cells) (rowAt (m .work) valuesAt j) → i ≡ j
 
+-- Learned rows and element grammars refer to names. A learned row that carries no name has size 0, and none stands twice.
 pub record Grammars (m : Memory) (c : Counts) : Type 0 where
   pub elements : (i : ℕ) → i < c .learned → rowAt (m .work) learnedAt i .key / 2 < c .names
   pub carried : (i : ℕ) → i < c .learned → rowAt (m .work) learnedAt i .size < c .names
+  pub plain : (i : ℕ) → i < c .learned → carries (kindAt (rowAt (m .work) learnedAt i .place)) ≡ false → rowAt (m .work) learnedAt i .size ≡ 0
+  pub once : (i j : ℕ) → i < c .learned → j < c .learned → rowAt (m .work) learnedAt i ≡ rowAt (m .work) learnedAt j → i ≡ j
   pub grammars : (i : ℕ) → i < c .grammars → rowAt (m .work) grammarsAt i .key < c .names
 
 pub record Tidy (m : Memory) (c : Counts) : Type 0 where

@@ -20,9 +20,9 @@ use Rattle.rows.specs.Rows.{rowAt, rows, countOf, findThat, found}
 use Rattle.rows.proofs.Laws.{rows-length, rows-at}
 use Rattle.rows.proofs.Answers.{Hit}
 use Rattle.layout.specs.Layout.{learnedAt, grammarsAt}
-use Rattle.layout.specs.Meaning.{Memory, Counts, nameAt, kindAt, carriedName, learnedRow, learnedFrom, grammarsFrom}
+use Rattle.layout.specs.Meaning.{Memory, Counts, nameAt, kindAt, carries, carriedName, learnedRow, learnedFrom, grammarsFrom}
 use Rattle.layout.specs.Tidy.{Distinct, Grammars}
-use Rattle.layout.proofs.Productions.{learnedKey, carries, Single, name-test, kind-test, carried-test, kind-at, learned-count, learned-as, learned-at, learned-hit}
+use Rattle.layout.proofs.Productions.{learnedKey, name-test, kind-test, carried-test, kind-at, learned-count, learned-as, learned-at, learned-hit}
 use Rattle.productions.specs.Locate.{hasCells, hasKey}
 use Rattle.productions.proofs.Located.{cells-row, row-cells, locate-hit, locate-miss}
 
@@ -129,7 +129,7 @@ module _ (m : Memory) (c : Counts) where
   unfolding kindOf nameOf kindNumber carriedName
   characters-numbered v h = record { kind = omega arith; name = refl; below = h; plain = λ z. refl }
 
-  module _ (d : Distinct m c) (g : Grammars m c) (u : Single m c) (e : ℕ) (tag : Bool) (h : e < c .names)
+  module _ (d : Distinct m c) (g : Grammars m c) (e : ℕ) (tag : Bool) (h : e < c .names)
       (ev : Event Text) (i : ℕ) (n : Numbered m c ev i) where
     -- A learned production fits the event exactly if its row has the event's cells.
     row-fits : (row : ℕ) → row < c .learned
@@ -142,7 +142,7 @@ module _ (m : Memory) (c : Counts) where
         (split (eqb (r .place) (kindNumber k))
         (λ t.
         let z : kindAt (r .place) ≡ k = ap kindAt (eqb-true (r .place) (kindNumber k) t) ∙ kind-at k in
-        rw (t, z) (carried-test m c d k (r .size) i (g .carried row b) (n .below) (λ p. u .plain row b (rw z p) ∙ sym (n .plain p))))
+        rw (t, z) (carried-test m c d k (r .size) i (g .carried row b) (n .below) (λ p. g .plain row b (rw z p) ∙ sym (n .plain p))))
         (λ t. rw t))
 
     fitting-row : (v : ℕ) (p : Production) → getElem? (learnedIn (nameAt m e) tag (learnedFrom m (c .learned))) v ≡ some p → fits p ev ≡ true
@@ -164,7 +164,7 @@ module _ (m : Memory) (c : Counts) where
 
     taught-once : {v w : ℕ} → Taught m c e tag ev i v → Taught m c e tag ev i w → v ≡ w
     taught-once x y =
-        let same : x .row ≡ y .row = u .once (x .row) (y .row) (x .hit .below) (y .hit .below) (x .is ∙ sym (y .is)) in
+        let same : x .row ≡ y .row = g .once (x .row) (y .row) (x .hit .below) (y .hit .below) (x .is ∙ sym (y .is)) in
         let one : x .number ≡ y .number =
         sym (x .hit .before) ∙ ap (λ k. countOf false (learnedKey e tag) (take k (rows (m .work) learnedAt (c .learned)))) same ∙ y .hit .before in
         omega (arith, x .follow, y .follow)
