@@ -1,12 +1,12 @@
 -- A loop that sets one element a turn to 0, from a place on, clears a list of numbers, whatever their width.
 use mathlib.Core.Path.{_≡_, refl, _∙_, ap}
+use mathlib.Core.Logic.{_⊎_, inl, inr, ⊎-elim}
 use mathlib.Core.List.{List, [], _∷_, _++_, append-nil}
 use Prim.Native.Nat.{ℕ, zero, suc, _+_, _-_, _≤_, _<_}
 use native.Mathlib.Nat.{sub-self, sub-zero, suc-sub-suc}
 use native.Mathlib.Numerals.{add-one}
 use native.Mathlib.Omega.{arith}
-use lib.ListN.{length, set, take, drop, replicate, length-set, take-append-drop}
-use lib.Seq.{drop-length}
+use lib.ListN.{length, set, take, drop, replicate, length-set, take-append-drop, drop-of-length-le}
 use borrow.Author.Fill.{fill-more}
 
 -- `d` with 0 from `at` up to `i`
@@ -23,19 +23,20 @@ zeros-more (x ∷ d) (suc at) (suc i) g h =
 -- `x` is `d` cleared from `at` up to `i`.
 pub record Cleared (d x : List ℕ) (at i : ℕ) : Type 0 where
   pub from : at ≤ i
-  pub within : i ≤ length d
+  pub within : (i ≤ length d) ⊎ (at ≡ i)
   pub long : length x ≡ length d
   pub is : x ≡ zeros d at i
 
-pub none : (d : List ℕ) (at : ℕ) → at ≤ length d → Cleared d d at at
-none d at h = record { from = omega arith; within = h; long = refl; is = rw (sub-self, take-append-drop) }
+pub none : (d : List ℕ) (at : ℕ) → Cleared d d at at
+none d at = record { from = omega arith; within = inr refl; long = refl; is = rw (sub-self, take-append-drop) }
 
 pub more : {d x : List ℕ} {at i : ℕ} → Cleared d x at i → i < length x → Cleared d (set x i 0) at (i + 1)
 more {d} {x} {at} {i} c h =
     let l : i < length d = omega arith in
-    record { from = omega arith; within = omega arith; long = simp length-set (c .long); is = rw (c .is) (zeros-more d at i (c .from) l) }
+    record { from = omega arith; within = inl (omega arith); long = simp length-set (c .long); is = rw (c .is) (zeros-more d at i (c .from) l) }
 
 pub all : {d x : List ℕ} {at i : ℕ} → Cleared d x at i → length x ≤ i → x ≡ take at d ++ replicate (length d - at) 0
 all {d} {x} {at} {i} c h =
-    let e : i ≡ length d = omega arith in
-    c .is ∙ rw (e, drop-length, append-nil)
+    let long : length d ≤ i = omega (arith, c .long) in
+    let e : i - at ≡ length d - at = ⊎-elim (λ (l : i ≤ length d). omega arith) (λ (l : at ≡ i). omega arith) (c .within) in
+    c .is ∙ rw (e, drop-of-length-le d long, append-nil)

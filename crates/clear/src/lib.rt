@@ -1,11 +1,10 @@
-// Clearing: every cell from one on is 0. The loops compile to memset.
+// Clearing: every cell from `at` on, or every cell, is 0.
 ghost use mathlib.Core.Path.{_≡_};
 ghost use mathlib.Core.List.{_++_};
-ghost use Prim.Native.Nat.{_-_, _≤_};
+ghost use Prim.Native.Nat.{_-_};
 ghost use lib.ListN.{length, take, replicate};
 
 pub fn cells_from(x: &mut [u32], at: usize)
-    requires { ⌜ at ≤ length (now x) ⌝ }
     ensures { λ _. ⌜ now (x .exit) ≡ take at (now (x .entry)) ++ replicate (length (now (x .entry)) - at) 0 ⌝ }
 {
     let mut i = at;
@@ -16,7 +15,6 @@ pub fn cells_from(x: &mut [u32], at: usize)
 }
 
 pub fn octets_from(x: &mut [u8], at: usize)
-    requires { ⌜ at ≤ length (now x) ⌝ }
     ensures { λ _. ⌜ now (x .exit) ≡ take at (now (x .entry)) ++ replicate (length (now (x .entry)) - at) 0 ⌝ }
 {
     let mut k = at;

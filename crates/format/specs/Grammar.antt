@@ -19,7 +19,7 @@ pub record Production : Type 0 where
 unfoldable pub unnamed : Kind → Production
 unnamed k = record { kind = k; qname = none }
 
--- Only to compare kinds.
+-- To compare kinds.
 unfoldable pub kindNumber : Kind → ℕ
 kindNumber SD = 0
 kindNumber ED = 1

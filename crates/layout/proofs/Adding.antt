@@ -315,8 +315,6 @@ module _ {m m′ : Memory} {c : Counts} {at : ℕ} {x : Text} (t : Tidy m c) (g 
           name-kept (rowAt (m .work) valuesAt i .key) (t .strings .valueKeys i h),
         )))
 
-    -- ---- grammars
-
     -- ---- all of it
 
     module _ (u n v : ℕ) where

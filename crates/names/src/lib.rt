@@ -53,7 +53,7 @@ const NIL: [u32; 3] = [110, 105, 108];
 // "type"
 const TYPE: [u32; 4] = [116, 121, 112, 101];
 
-// The strings may be parts that start anywhere in a store.
+// Whether a local name is allowed: an attribute's where attr, an element's otherwise. The strings may be parts that start anywhere in a store.
 pub fn local_allowed(attr: bool, uri: &[u32], name: &[u32]) -> bool
     ensures { λ r. ⌜ r ≡ nameAllowed (local attr (now (uri .entry))) (now (name .entry)) ⌝ }
 {

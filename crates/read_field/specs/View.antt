@@ -23,9 +23,13 @@ unfoldable pub alignmentOf : Bool → Alignment
 alignmentOf true = byteAligned
 alignmentOf false = bitPacked
 
--- A stream of a size that is read, and a bit position in it or at its end.
+-- The last position, far behind every stream and buffer: what is added to it fits a usize.
+abbrev pub farthest : ℕ
+farthest = 4294967296
+
+-- A bit position in a stream or at its end.
 pub record InStream (s : List ℕ) (at : ℕ) : Type 0 where
-  pub size : length s ≤ 16384
+  pub size : 8 * length s ≤ farthest
   pub place : at ≤ 8 * length s
 
 -- The same, with a number up to `most`.

@@ -115,7 +115,7 @@ pub fn width(m: u32) -> u32
     n
 }
 
-// The number that a choice among m has.
+// The number in the field of a choice among m. It may be m or more, which the caller judges.
 pub fn choice(aligned: bool, s: &[u8], at: usize, m: u32) -> Field
     requires { ⌜ NumberIn (now s) at m 65536 ⌝ }
     ensures { λ r. ⌜ r ≡ fieldAt (numberField (alignmentOf aligned) (width m)) (now (s .entry)) at ⌝ }

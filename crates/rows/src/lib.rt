@@ -1,5 +1,5 @@
-// Rows of work memory, the one shape of every table: three cells, a key and the place and size of a string in a text store. A table is
-// n rows from the cell base on. The definitions that the contracts cite are in specs/Rows.antt.
+// Rows of work memory, the one shape of every table: three cells, a key and two more, in a string table the place and size of a string in a
+// text store. A table is n rows from the cell base on. The definitions that the contracts cite are in specs/Rows.antt.
 ghost use mathlib.Core.Path.{_≡_};
 ghost use Prim.Native.Nat.{_+_};
 ghost use lib.Dec.{ltb};

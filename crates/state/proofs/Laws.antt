@@ -8,6 +8,7 @@ use native.Mathlib.Omega.{arith}
 use lib.ListN.{length, set, getD}
 use lib.Seq.{getD-set-same, getD-set-other}
 use borrow.Author.Tests.{lt-leb}
+use Rattle.format.specs.Sizes.{maxOpen}
 use Rattle.state.specs.Stack.{noElements, pushed, popped, topOf, lastFirst, openNumbers}
 use Rattle.state.specs.declared.Stack.{Stack}
 
@@ -17,11 +18,11 @@ unfolding lastFirst
 last-first-set zero at v l h = refl
 last-first-set (suc n) at v l h = rw (getD-set-other l at n v 0 (ne-of-lt h), last-first-set n at v l (omega arith))
 
-pub push-open : (s : Stack) (name : ℕ) → length (s .names) ≡ 100 → s .depth < 100 → openNumbers (pushed s name .stack) ≡ name ∷ openNumbers s
+pub push-open : (s : Stack) (name : ℕ) → length (s .names) ≡ maxOpen → s .depth < maxOpen → openNumbers (pushed s name .stack) ≡ name ∷ openNumbers s
 unfolding openNumbers pushed lastFirst
 push-open s name l h =
     let inside : s .depth < length (s .names) = omega arith in
-    rw (lt-leb 100 (s .depth) h, add-one, getD-set-same (s .names) (s .depth) name 0 inside, last-first-set (s .depth) (s .depth) name (s .names) (le-refl (s .depth)))
+    rw (lt-leb maxOpen (s .depth) h, add-one, getD-set-same (s .names) (s .depth) name 0 inside, last-first-set (s .depth) (s .depth) name (s .names) (le-refl (s .depth)))
 
 -- The front of the open elements, and those around it.
 front : (d : ℕ) (l : List ℕ) (top : ℕ) (outer : List ℕ) → lastFirst d l ≡ top ∷ outer → (getD l (d - 1) 0 ≡ top) × (lastFirst (d - 1) l ≡ outer)

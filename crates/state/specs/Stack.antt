@@ -4,16 +4,17 @@ use mathlib.Core.Bool.{true, false, cond}
 use mathlib.Core.List.{List, [], _∷_}
 use lib.ListN.{replicate, set, getD}
 use lib.Dec.{leb}
+use Rattle.format.specs.Sizes.{maxOpen}
 use Rattle.state.specs.declared.Stack.{Stack}
 use Rattle.state.specs.declared.Pushed.{Pushed}
 use Rattle.state.specs.declared.State.{State}
 
 unfoldable pub noElements : Stack
-noElements = record { names = replicate 100 0; depth = 0 }
+noElements = record { names = replicate maxOpen 0; depth = 0 }
 
 unfoldable pub pushed : Stack → ℕ → Pushed
 pushed s name =
-    cond (leb 100 (s .depth)) (record { ok = false; stack = s })
+    cond (leb maxOpen (s .depth)) (record { ok = false; stack = s })
     (record { ok = true; stack = record { names = set (s .names) (s .depth) name; depth = s .depth + 1 } })
 
 unfoldable pub popped : Stack → Stack

@@ -2,6 +2,7 @@
 // open elements.
 ghost use mathlib.Core.Path.{_≡_};
 ghost use Prim.Native.Nat.{_≤_, _<_};
+ghost use Rattle.format.specs.Sizes.{maxOpen};
 ghost use Rattle.state.specs.Stack.{noElements, pushed, popped, topOf, started};
 
 // The names of the open elements, each by its number in the table of names, the innermost last.
@@ -68,7 +69,7 @@ pub fn pop(s: Stack) -> Stack
 // The innermost element's name.
 pub fn top(s: Stack) -> u16
     requires { ⌜ 0 < s .depth ⌝ }
-    requires { ⌜ s .depth ≤ 100 ⌝ }
+    requires { ⌜ s .depth ≤ maxOpen ⌝ }
     ensures { λ r. ⌜ r ≡ topOf s ⌝ }
 {
     let at = s.depth - 1;

@@ -12,7 +12,7 @@ use mir.Val.{Fits}
 use Rattle.fields.specs.Bits.{Bits, bitsOf, each, unpack, octetsFor}
 use Rattle.fields.specs.Field.{Alignment, bitPacked, byteAligned, littleEndian, numberBits, width, choiceBits}
 use Rattle.fields.proofs.Number.{length-bits, bits-of-value, width-enough, width-least}
-use Rattle.write_field.specs.Written.{written, Put, NumberFits, ChoiceFits, ShortFits}
+use Rattle.write_field.specs.Written.{written, Put, farthest, NumberFits, ChoiceFits, ShortFits}
 use Rattle.write_field.proofs.Written.{written-zeros, put-then, put-blank, put-nothing}
 use Rattle.write_field.proofs.Octet.{value-zeros, bits-join, raised}
 
@@ -20,7 +20,7 @@ widened : {n m v : ℕ} → n ≤ m → v < 2 ^ n → v < 2 ^ m
 widened l h = lt-of-lt-of-le h (pow-mono l)
 
 -- The next octet of a field.
-pub next-asks : {buf after : List ℕ} {at r : ℕ} {w : Bits} (o : ℕ) → Put buf at w after r → at + length w ≤ 4294967360 → o < 256
+pub next-asks : {buf after : List ℕ} {at r : ℕ} {w : Bits} (o : ℕ) → Put buf at w after r → at + length w ≤ farthest + 64 → o < 256
     → ShortFits after r 8 o
 next-asks o a l h = record { blank = put-blank a; near = omega (arith, a .next); narrow = omega arith; fits = h }
 

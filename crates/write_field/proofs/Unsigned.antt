@@ -9,9 +9,9 @@ use borrow.Author.Tests.{lt-ltb, le-ltb}
 use mir.Syntax.{w8}
 use mir.Val.{Fits}
 use Rattle.fields.specs.Bits.{Bits, bitsOf, each, unpack}
-use Rattle.fields.specs.Field.{maxOctets, groups, unsignedBits}
+use Rattle.fields.specs.Field.{maxOctets, maxUnsigned, groups, unsignedBits}
 use Rattle.fields.proofs.Number.{length-bits}
-use Rattle.write_field.specs.Written.{Put, UnsignedFits, ShortFits}
+use Rattle.write_field.specs.Written.{Put, farthest, UnsignedFits, ShortFits}
 use Rattle.write_field.proofs.Written.{put-then, put-nothing}
 use Rattle.write_field.proofs.Field.{next-asks}
 
@@ -33,11 +33,11 @@ pub record Going (buf₀ : List ℕ) (at v : ℕ) (buf : List ℕ) (next rest : 
   pub small : rest < 128 ^ suc left
 
 pub started : {buf : List ℕ} {at v : ℕ} → ((i : ℕ) → Fits w8 (getD buf i 0)) → UnsignedFits buf at v → Going buf at v buf at v
-unfolding unsignedBits maxOctets
+unfolding unsignedBits maxOctets maxUnsigned
 started {buf} {at} {v} known h =
     record { done = []; left = 4; put = put-nothing known (h .blank); all = refl; room = omega arith; small = omega arith }
 
-pub group-asks : {buf₀ buf : List ℕ} {at v next rest : ℕ} (o : ℕ) → at ≤ 4294967296 → Going buf₀ at v buf next rest → o < 256
+pub group-asks : {buf₀ buf : List ℕ} {at v next rest : ℕ} (o : ℕ) → at ≤ farthest → Going buf₀ at v buf next rest → o < 256
     → ShortFits buf next 8 o
 group-asks o l g h = next-asks o (g .put) (omega (arith, g .room)) h
 

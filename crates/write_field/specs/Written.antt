@@ -6,7 +6,9 @@ use mathlib.Core.List.{List, _++_}
 use lib.ListN.{length, take, drop}
 use lib.Dec.{T}
 use Rattle.fields.specs.Bits.{Bits, unpack, octetsFrom, allZero}
+use Rattle.fields.specs.Field.{maxUnsigned}
 unfoldable pub use Rattle.read_field.specs.View.{alignmentOf}
+pub use Rattle.read_field.specs.View.{farthest}
 
 -- The octets of buf with the bits w from bit `at` on and zeros behind them. Bits past the end of buf are dropped.
 unfoldable pub written : List ℕ → ℕ → Bits → List ℕ
@@ -21,28 +23,28 @@ pub record Put (buf : List ℕ) (at : ℕ) (w : Bits) (after : List ℕ) (r : �
   pub octets : after ≡ written buf at w
   pub next : r ≡ at + length w
 
--- ---- what each function asks: octets that are blank from bit `at` on, a position whose sums fit a usize, and a number of the field
+-- ---- what each function asks: octets that are blank from bit `at` on, a position that is not too far, and a number of the field
 
 pub record NumberFits (buf : List ℕ) (at n v : ℕ) : Type 0 where
   pub blank : T (blankFrom buf at)
-  pub near : at ≤ 4294967296
+  pub near : at ≤ farthest
   pub narrow : n ≤ 16
   pub fits : v < 2 ^ n
 
 pub record ChoiceFits (buf : List ℕ) (at m v : ℕ) : Type 0 where
   pub blank : T (blankFrom buf at)
-  pub near : at ≤ 4294967296
+  pub near : at ≤ farthest
   pub few : m ≤ 65536
   pub one : v < m
 
 pub record UnsignedFits (buf : List ℕ) (at v : ℕ) : Type 0 where
   pub blank : T (blankFrom buf at)
-  pub near : at ≤ 4294967296
-  pub small : v ≤ 2147483647
+  pub near : at ≤ farthest
+  pub small : v ≤ maxUnsigned
 
 -- At most an octet, at a position that a field was begun before.
 pub record ShortFits (buf : List ℕ) (at n v : ℕ) : Type 0 where
   pub blank : T (blankFrom buf at)
-  pub near : at ≤ 4294967360
+  pub near : at ≤ farthest + 64
   pub narrow : n ≤ 8
   pub fits : v < 2 ^ n

@@ -13,7 +13,7 @@ abbrev μ-loop : tie.MeasureT-loop
 μ-loop x₀ at i₀ x i = length x₀ - i
 
 loop-holds : tie.Need-loop-holds Inv-loop μ-loop
-loop-holds c = none _ _ (c .pre)
+loop-holds c = none _ _
 
 mul-x : tie.Need-mul-x Inv-loop μ-loop
 mul-x c = search needs

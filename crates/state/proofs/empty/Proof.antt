@@ -1,11 +1,12 @@
 -- `empty` meets its contract.
 use mathlib.Core.Path.{refl}
+use Rattle.format.specs.Sizes.{maxOpen}
 use Rattle.state.specs.Stack.{noElements}
 use Rattle.state.proofs.empty.Statement.{statement}
 use Rattle.state.proofs.empty.Tie as tie
 
 returns : tie.Need-returns
-unfolding noElements
+unfolding noElements maxOpen
 returns c = refl
 
 pub empty-spec : {M : Type 1} → statement M

@@ -1,12 +1,13 @@
 -- `push` meets its contract: the test that led to each return decides the definition's.
 use borrow.Author.Needs.{needs}
 use borrow.Author.Tests.{le-leb, lt-leb}
+use Rattle.format.specs.Sizes.{maxOpen}
 use Rattle.state.specs.Stack.{pushed}
 use Rattle.state.proofs.push.Statement.{statement}
 use Rattle.state.proofs.push.Tie as tie
 
 returns : tie.Need-returns
-unfolding pushed
+unfolding pushed maxOpen
 returns c = rw (le-leb 100 (c .before .args .s .depth) (c .if1 .taken))
 
 mul-t : tie.Need-mul-t
@@ -19,7 +20,7 @@ add-t : tie.Need-add-t
 add-t c = search needs
 
 returns-2 : tie.Need-returns-2
-unfolding pushed
+unfolding pushed maxOpen
 returns-2 c = rw (lt-leb 100 (c .before .args .s .depth) (c .if1 .left))
 
 pub push-spec : {M : Type 1} → statement M

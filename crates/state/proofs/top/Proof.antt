@@ -1,6 +1,7 @@
 -- `top` meets its contract.
 use mathlib.Core.Path.{refl}
 use borrow.Author.Needs.{needs}
+use Rattle.format.specs.Sizes.{maxOpen}
 use Rattle.state.specs.Stack.{topOf}
 use Rattle.state.proofs.top.Statement.{statement}
 use Rattle.state.proofs.top.Tie as tie
@@ -9,9 +10,11 @@ sub-at : tie.Need-sub-at
 sub-at c = search needs
 
 mul-result : tie.Need-mul-result
+unfolding maxOpen
 mul-result c = search needs
 
 element-copy-out-result : tie.Need-element-copy-out-result
+unfolding maxOpen
 element-copy-out-result c = search needs
 
 returns : tie.Need-returns

@@ -1,7 +1,9 @@
 -- `put_string` meets its contract: the loop keeps `Going`.
 use Rattle.fields.specs.Bits.{each}
+use Rattle.fields.specs.Field.{maxUnsigned}
 use mathlib.Core.Path.{_∙_}
 use Prim.Native.Nat.{_+_, _-_}
+use Rattle.format.specs.Sizes.{maxString}
 use Rattle.write_string.proofs.Laws.{Going, chars-small, going-more, going-done}
 use Rattle.write_field.proofs.Lengths.{unsigned-length}
 use Rattle.write_field.proofs.Written.{put-nothing, put-blank, put-length}
@@ -19,12 +21,15 @@ abbrev μ-loop : tie.MeasureT-loop
 μ-loop buf₀ at raised x next₀ i₀ buf next i = length x - i
 
 cast-put-unsigned : tie.Need-cast-put-unsigned Inv-loop μ-loop
+unfolding maxString
 cast-put-unsigned c = omega (arith, c .before .before .before .pre .small)
 
 add-put-unsigned : tie.Need-add-put-unsigned Inv-loop μ-loop
+unfolding maxString
 add-put-unsigned c = omega (arith, c .before .before .before .pre .small, c .before .before .before .pre .few)
 
 put-unsigned-requires : tie.Need-put-unsigned-requires Inv-loop μ-loop
+unfolding maxString maxUnsigned
 put-unsigned-requires c κs = record { blank = c .before .before .before .pre .blank; near = omega (arith, c .before .before .before .pre .near); small = omega (arith, c .before .before .before .pre .small, c .before .before .before .pre .few) }
 
 loop-holds : tie.Need-loop-holds Inv-loop μ-loop
@@ -38,6 +43,7 @@ shared-slice-read-put-unsigned : tie.Need-shared-slice-read-put-unsigned Inv-loo
 shared-slice-read-put-unsigned c = search needs
 
 put-unsigned-requires-2 : tie.Need-put-unsigned-requires-2 Inv-loop μ-loop
+unfolding maxString maxUnsigned
 put-unsigned-requires-2 c κs = record {
   blank = put-blank (c .before .before .before .loop .inv .put);
   near = omega (arith, c .before .before .before .loop .inv .near, (c .before .before .before .before .before .before .put-unsigned .ensures) .next, unsigned-length (length (now (c .before .before .before .before .before .before .before .before .before .before .args .x)) + c .before .before .before .before .before .before .before .before .before .before .args .raised), c .before .before .before .before .before .before .before .before .before .before .pre .near, c .before .before .before .before .before .before .before .before .before .before .pre .small, c .before .before .loop-test .taken);
