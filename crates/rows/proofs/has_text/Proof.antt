@@ -22,7 +22,7 @@ returns c =
     let args = c .before .before .before .before .before .before .args in
     c .same-text .ensures
     ∙ ap (λ (l : Text). eqText l (now (args .text)))
-    (c .before .look-up .ensures ∙ ap (textOf (now (args .store))) (c .before .before .row-at .ensures))
+    (c .before .look-up .ensures .0 ∙ ap (textOf (now (args .store))) (c .before .before .row-at .ensures))
 
 pub has-text-spec : {M : Type 1} → statement M
 has-text-spec = tie.close (tie.spec row-at-requires look-up-requires same-text-requires returns)
