@@ -1,10 +1,17 @@
-// The fields of a stream, read at a bit position. Refusals are 5, the stream ends inside the field, and 7, no number in fewest
-// octets up to 2,147,483,647.
+// The fields of a stream, read at a bit position.
 ghost use mathlib.Core.Path.{_≡_};
 ghost use Prim.Native.Nat.{_≤_};
 ghost use Rattle.fields.specs.Field.{bitPacked, byteAligned, octet, numberField, width, unsigned};
 ghost use Rattle.read_field.specs.View.{fieldAt, alignmentOf, InStream, NumberIn};
 ghost use Rattle.read_field.specs.Parts.{Octet, Peeked, onward};
+
+// The stream ends inside the field.
+const ENDED: u8 = 5;
+
+// No number in fewest octets up to MOST.
+const NUMBER: u8 = 7;
+
+const MOST: u64 = 2147483647;
 
 // What stands at a position: a number and the position after it, or the number of a refusal.
 pub enum Field {
@@ -38,7 +45,7 @@ fn bits(s: &[u8], at: usize, n: u32) -> Field
 {
     let next = at + n as usize;
     if 8 * s.len() < next {
-        return Field::Refused(5);
+        return Field::Refused(ENDED);
     }
     if n <= 8 {
         return Field::Value {
@@ -61,7 +68,7 @@ fn octets(s: &[u8], at: usize, n: u32) -> Field
 {
     let after = at + ((n + 7) / 8 * 8) as usize;
     if 8 * s.len() < after {
-        return Field::Refused(5);
+        return Field::Refused(ENDED);
     }
     if n == 0 {
         return Field::Value {
@@ -140,16 +147,16 @@ fn onward(s: &[u8], at: usize, first: u64) -> Field
     let mut low = first;
     while 0 < left {
         if 8 * s.len() < place + 8 {
-            return Field::Refused(5);
+            return Field::Refused(ENDED);
         }
         let o = wide(peek(s, place));
         if o == 0 {
-            return Field::Refused(7);
+            return Field::Refused(NUMBER);
         }
         if o < 128 {
             let v = low + weight * o;
-            if 2147483647 < v {
-                return Field::Refused(7);
+            if MOST < v {
+                return Field::Refused(NUMBER);
             }
             return Field::Value {
                 value: v as u32,
@@ -161,7 +168,7 @@ fn onward(s: &[u8], at: usize, first: u64) -> Field
         place = place + 8;
         left = left - 1;
     }
-    Field::Refused(7)
+    Field::Refused(NUMBER)
 }
 
 pub fn unsigned(s: &[u8], at: usize) -> Field
@@ -169,7 +176,7 @@ pub fn unsigned(s: &[u8], at: usize) -> Field
     ensures { λ r. ⌜ r ≡ fieldAt unsigned (now (s .entry)) at ⌝ }
 {
     if 8 * s.len() < at + 8 {
-        return Field::Refused(5);
+        return Field::Refused(ENDED);
     }
     let o = peek(s, at);
     if o < 128 {
