@@ -8,7 +8,7 @@ use lib.ListN.{length, getD, getElem?, take, drop, length-append, length-take, l
 use lib.Seq.{length-take-le, drop-at, drop-append-le, take-append-le, take-at, getD-take, getD-drop, drop-drop}
 use Rattle.text.specs.Text.{Text, text, eqText}
 use Rattle.text.proofs.Parts.{part-inside}
-use Rattle.format.specs.Sizes.{maxUris, maxNames, maxValues, maxLearned, maxGrammars}
+use Rattle.format.specs.Sizes.{maxUris, maxNames, maxValues, maxLearned, maxGrammars, maxStore}
 use Rattle.format.specs.Tables.{Placed, Entry, indexOf, startTables, addedAll, initialEntries, added, newUri, newName, newEntry, newValue, laid, xmlUri, xsiUri}
 use Rattle.rows.specs.declared.Row.{Row}
 use Rattle.rows.specs.Rows.{rowAt, rows, textOf}
@@ -143,12 +143,13 @@ module _ (m : Memory) (b : Begun m) where
   name-text i h = rw (name-row i h) (text-at (3 + i))
 
   pub start-tidy : Tidy m startCounts
-  unfolding startCounts maxUris maxNames maxValues maxLearned maxGrammars moved row
+  unfolding startCounts maxUris maxNames maxValues maxLearned maxGrammars maxStore moved row
   start-tidy =
       record {
         sized = record {
           tables = b .tables;
           store = b .store;
+          few = omega arith;
           uris = omega arith;
           names = omega arith;
           values = omega arith;
@@ -173,6 +174,7 @@ module _ (m : Memory) (b : Begun m) where
           elements = λ i h. absurd (omega arith);
           carried = λ i h. absurd (omega arith);
           plain = λ i h. absurd (omega arith);
+          kinds = λ i h. absurd (omega arith);
           once = λ i j h. absurd (omega arith);
           grammars = λ i h. absurd (omega arith);
         };

@@ -16,14 +16,14 @@ use Rattle.text.specs.Text.{Text, Span, isEmpty}
 use Rattle.text.proofs.Parts.{part-inside, part-longer}
 use Rattle.format.specs.Event.{QName}
 use Rattle.format.specs.Tables.{Placed, Entry, namesOf, allValues, indexOf, Role, uri, local, value, target, plain, newUri, newName, newEntry, newValue, laid, added}
-use Rattle.format.specs.Sizes.{maxUris, maxNames, maxValues, maxLearned, maxGrammars}
+use Rattle.format.specs.Sizes.{maxUris, maxNames, maxValues, maxLearned, maxGrammars, maxStore}
 use Rattle.rows.specs.declared.Row.{Row}
 use Rattle.rows.specs.Rows.{rowAt, rows, withRow, textOf, selected}
 use Rattle.rows.proofs.Laws.{withRow-length, withRow-other}
 use Rattle.layout.specs.Layout.{urisAt, namesAt, valuesAt, learnedAt, grammarsAt, tableCells}
 use Rattle.layout.specs.Meaning.{Memory, Counts, placedAt, uriText, nameEntry, nameAt, valueEntry, tablesIn, learnedFrom, grammarsFrom}
 use Rattle.layout.specs.Tidy.{Lies, Sized, Tidy}
-use Rattle.layout.proofs.Kept.{text-in, map-more, map-rows, learned-kept, grammars-kept}
+use Rattle.layout.proofs.Kept.{length-store, text-in, map-more, map-rows, learned-kept, grammars-kept}
 use Rattle.layout.proofs.Strings.{absent, uris-listed, any-listed, names-listed}
 
 -- ---- memory with the text x more behind the store, and another row at the cell `at`
@@ -178,6 +178,8 @@ countsAfter c l uris names values =
 pub record After (m m′ : Memory) (c c′ : Counts) (r : Role) (x : Text) : Type 0 where
   pub tables : tablesIn m′ c′ ≡ added (tablesIn m c) r x
   pub tidy : Tidy m′ c′
+  pub size : length (m′ .work) ≡ length (m .work)
+  pub uris : (u : ℕ) → u < c .uris → uriText m′ u ≡ uriText m u
   pub names : (n : ℕ) → n < c .names → nameAt m′ n ≡ nameAt m n
   pub learned : learnedFrom m′ (c .learned) ≡ learnedFrom m (c .learned)
   pub grammars : grammarsFrom m′ (c .grammars) ≡ grammarsFrom m (c .grammars)
@@ -185,17 +187,12 @@ pub record After (m m′ : Memory) (c c′ : Counts) (r : Role) (x : Text) : Typ
 module _ {m m′ : Memory} {c : Counts} {at : ℕ} {x : Text} (t : Tidy m c) (g : Grows m m′ c at x) where
   -- ---- texts
 
-  length-store : length (take (c .stored) (drop (m .origin) (m .cells))) ≡ c .stored
-  length-store =
-      let rest : length (drop (m .origin) (m .cells)) ≡ length (m .cells) - m .origin = length-drop (m .origin) (m .cells) in
-      length-take-le (c .stored) (drop (m .origin) (m .cells)) (omega (arith, t .sized))
-
   text-kept : (r : Row) → Lies m c r → textOf (m′ .cells) r ≡ textOf (m .cells) r
   text-kept r l =
       let o : ℕ = m .origin in
       let store : Text = take (c .stored) (drop o (m .cells)) in
       let span : Span = record { place = r .place - o; size = r .size } in
-      let all : length store ≡ c .stored = length-store in
+      let all : length store ≡ c .stored = length-store (t .sized) in
       rw (
         text-in (m′ .cells) o (c .stored + length x) r (l .starts) (omega (arith, l)) (g .fits),
         g .store,
@@ -208,7 +205,7 @@ module _ {m m′ : Memory} {c : Counts} {at : ℕ} {x : Text} (t : Tidy m c) (g 
     text-new =
         let o : ℕ = m .origin in
         let store : Text = take (c .stored) (drop o (m .cells)) in
-        let all : length store ≡ c .stored = length-store in
+        let all : length store ≡ c .stored = length-store (t .sized) in
         let z : o + c .stored - o ≡ length store = omega arith in
         let both : length (store ++ x) ≡ length store + length x = length-append store x in
         rw (
@@ -228,7 +225,7 @@ module _ {m m′ : Memory} {c : Counts} {at : ℕ} {x : Text} (t : Tidy m c) (g 
     unfolding placedAt laid tablesIn
     placed-new =
         let p : r .place ≡ m .origin + c .stored = ap (λ (r : Row). r .place) is in
-        let z : r .place - m′ .origin ≡ length (take (c .stored) (drop (m .origin) (m .cells))) = omega (arith, g .origin, length-store) in
+        let z : r .place - m′ .origin ≡ length (take (c .stored) (drop (m .origin) (m .cells))) = omega (arith, g .origin, length-store (t .sized)) in
         cc (z, text-new)
 
   -- ---- rows
@@ -332,11 +329,11 @@ module _ {m m′ : Memory} {c : Counts} {at : ℕ} {x : Text} (t : Tidy m c) (g 
       lies : (r : Row) → Lies m c r → Lies m′ (countsAfter c (length x) u n v) r
       lies r l = record { starts = rw (g .origin) (l .starts); ends = rw (g .origin) (omega (arith, l)) }
 
-      after : (r : Role) → u ≤ maxUris → n ≤ maxNames → v ≤ maxValues → UrisJoin (newUri r (laid (tablesIn m c) x))
+      after : (r : Role) → c .stored + length x ≤ maxStore → u ≤ maxUris → n ≤ maxNames → v ≤ maxValues → UrisJoin (newUri r (laid (tablesIn m c) x))
           → NamesJoin (newName r (laid (tablesIn m c) x)) → ValuesJoin (newValue r (laid (tablesIn m c) x))
           → After m m′ c (countsAfter c (length x) u n v) r x
       unfolding tablesIn added
-      after r uris names values a b d =
+      after r few uris names values a b d =
           let s = t .strings in
           let o : m′ .origin ≡ m .origin = g .origin in
           record {
@@ -359,18 +356,36 @@ module _ {m m′ : Memory} {c : Counts} {at : ℕ} {x : Text} (t : Tidy m c) (g 
                 elements = λ i h. rw (learned-row i h) (omega (arith, t .grammars .elements i h, b .more));
                 carried = λ i h. rw (learned-row i h) (omega (arith, t .grammars .carried i h, b .more));
                 plain = λ i h e. rw (learned-row i h) (t .grammars .plain i h (rw (learned-row i h) at e));
+                kinds = λ i h. rw (learned-row i h) (t .grammars .kinds i h);
                 once = λ i j h l e. t .grammars .once i j h l (sym (learned-row i h) ∙ e ∙ learned-row j l);
                 grammars = λ i h. rw (grammar-row i h) (omega (arith, t .grammars .grammars i h, b .more));
               };
             };
+            size = g .size;
+            uris = uri-kept;
             names = name-kept;
             learned = learned-kept m m′ c (t .grammars) name-kept learned-row;
             grammars = grammars-kept m m′ c (t .grammars) name-kept grammar-row;
           }
 
--- ---- a literal joins its table
+-- ---- what the new row means
 
 module _ {m m′ : Memory} {c : Counts} {x : Text} (t : Tidy m c) where
+  pub uri-new : Grows m m′ c (urisAt + 3 * c .uris) x → rowAt (m′ .work) urisAt (c .uris) ≡ newRow m c 0 x → uriText m′ (c .uris) ≡ x
+  unfolding uriText
+  uri-new g row = text-new t g (rowAt (m′ .work) urisAt (c .uris)) 0 row
+
+  pub name-new : (u : ℕ) → u < c .uris → c .names < maxNames → Grows m m′ c (namesAt + 3 * c .names) x
+      → rowAt (m′ .work) namesAt (c .names) ≡ newRow m c u x → nameAt m′ (c .names) ≡ record { uri = uriText m u; local = x }
+  unfolding nameAt
+  name-new u b room g row =
+      let r : Row = rowAt (m′ .work) namesAt (c .names) in
+      let key : r .key ≡ u = ap (λ (r : Row). r .key) row in
+      cc (uri-kept t g (free-name (t .sized) room) u b, text-new t g r u row)
+
+-- ---- a literal joins its table
+
+module _ {m m′ : Memory} {c : Counts} {x : Text} (t : Tidy m c) (few : c .stored + length x ≤ maxStore) where
   pub after-uri : c .uris < maxUris → Grows m m′ c (urisAt + 3 * c .uris) x → rowAt (m′ .work) urisAt (c .uris) ≡ newRow m c 0 x
       → indexOf (tablesIn m c .uris) x ≡ none → After m m′ c (countsAfter c (length x) (c .uris + 1) (c .names) (c .values)) uri x
   unfolding newUri newName newValue uriText selected
@@ -378,7 +393,7 @@ module _ {m m′ : Memory} {c : Counts} {x : Text} (t : Tidy m c) where
       let f : Free c (urisAt + 3 * c .uris) (c .uris) = free-uri (t .sized) room in
       let r : Row = rowAt (m′ .work) urisAt (c .uris) in
       let key : r .key ≡ 0 = ap (λ (r : Row). r .key) row in
-      after t g f (c .uris + 1) (c .names) (c .values) uri (omega arith) (t .sized .names) (t .sized .values)
+      after t g f (c .uris + 1) (c .names) (c .values) uri few (omega arith) (t .sized .names) (t .sized .values)
       (one-joins (uris-kept t g f) (placed-new t g r 0 row) (lies-new t g r 0 row _ refl) (omega arith)
       (λ i h e. absent (uris-listed m c (t .distinct) 0) x lacks i h refl (sym (uri-kept t g f i h) ∙ e ∙ text-new t g r 0 row)))
       (none-joins (names-kept t g f))
@@ -393,7 +408,7 @@ module _ {m m′ : Memory} {c : Counts} {x : Text} (t : Tidy m c) where
       let r : Row = rowAt (m′ .work) namesAt (c .names) in
       let key : r .key ≡ u = ap (λ (r : Row). r .key) row in
       let under : uriText m′ (r .key) ≡ uriText m u = rw key (uri-kept t g f u b) in
-      after t g f (c .uris) (c .names + 1) (c .values) (local attr (uriText m u)) (t .sized .uris) (omega arith) (t .sized .values)
+      after t g f (c .uris) (c .names + 1) (c .values) (local attr (uriText m u)) few (t .sized .uris) (omega arith) (t .sized .values)
       (none-joins (uris-kept t g f))
       (one-joins (names-kept t g f) (cc (placed-new t g r u row)) (lies-new t g r u row _ refl) (omega arith)
       (λ i h e.
@@ -413,7 +428,7 @@ module _ {m m′ : Memory} {c : Counts} {x : Text} (t : Tidy m c) where
       let r : Row = rowAt (m′ .work) valuesAt (c .values) in
       let key : r .key ≡ n = ap (λ (r : Row). r .key) row in
       let under : nameAt m′ (r .key) ≡ nameAt m n = rw key (name-kept t g f n b) in
-      after t g f (c .uris) (c .names) (c .values + 1) (value (nameAt m n)) (t .sized .uris) (t .sized .names) (omega arith)
+      after t g f (c .uris) (c .names) (c .values + 1) (value (nameAt m n)) few (t .sized .uris) (t .sized .names) (omega arith)
       (none-joins (uris-kept t g f))
       (none-joins (names-kept t g f))
       (rw full (one-joins (values-kept t g f) (cc (placed-new t g r n row)) (lies-new t g r n row _ refl) (omega arith)
@@ -426,7 +441,7 @@ module _ {m m′ : Memory} {c : Counts} {x : Text} (t : Tidy m c) where
       → After m m′ c (countsAfter c (length x) (c .uris) (c .names) (c .values)) r x
   after-none r p q s g =
       let f = free-end (t .sized) in
-      after t g f (c .uris) (c .names) (c .values) r (t .sized .uris) (t .sized .names) (t .sized .values)
+      after t g f (c .uris) (c .names) (c .values) r few (t .sized .uris) (t .sized .names) (t .sized .values)
       (rw p (none-joins (uris-kept t g f)))
       (rw q (none-joins (names-kept t g f)))
       (rw s (none-joins (values-kept t g f)))

@@ -14,7 +14,12 @@ use Rattle.rows.specs.Rows.{rowAt, rows, textOf}
 use Rattle.rows.proofs.Laws.{rows-more, rows-at}
 use Rattle.layout.specs.Layout.{learnedAt, grammarsAt}
 use Rattle.layout.specs.Meaning.{Memory, Counts, nameAt, kindAt, carriedName, learnedRow, newestFirst, learnedFrom, grammarsFrom}
-use Rattle.layout.specs.Tidy.{Grammars}
+use Rattle.layout.specs.Tidy.{Sized, Grammars}
+
+pub length-store : {m : Memory} {c : Counts} → Sized m c → length (take (c .stored) (drop (m .origin) (m .cells))) ≡ c .stored
+length-store {m} {c} z =
+    let rest : length (drop (m .origin) (m .cells)) ≡ length (m .cells) - m .origin = length-drop (m .origin) (m .cells) in
+    length-take-le (c .stored) (drop (m .origin) (m .cells)) (omega (arith, z .store))
 
 -- A text that lies in the store, as a part of the store.
 pub text-in : (cells : Text) (o n : ℕ) (r : Row) → o ≤ r .place → r .place + r .size ≤ o + n → o + n ≤ length cells

@@ -1,4 +1,7 @@
 pub mod Adding
+pub mod Grown
 pub mod Kept
 pub mod Productions
+pub mod Sizes
 pub mod Strings
+pub mod Writer

@@ -26,13 +26,12 @@ use Rattle.rows.proofs.Answers.{Hit, nth-hit}
 use Rattle.layout.proofs.Kept.{same-row, text-in, map-rows, learned-row-kept, learned-kept, grammar-names}
 use Rattle.layout.proofs.Adding.{drop-row}
 use Rattle.layout.specs.Layout.{urisAt, namesAt, valuesAt, learnedAt, grammarsAt, tableCells}
-use Rattle.layout.specs.Meaning.{Memory, Counts, placedAt, uriText, nameEntry, nameAt, valueEntry, tablesIn, kindAt, carries, carriedName, learnedRow, newestFirst, learnedFrom, grammarsFrom}
-use Rattle.layout.specs.Tidy.{Lies, Sized, Strings, Distinct, Grammars, Tidy}
+use Rattle.layout.specs.Meaning.{Memory, Counts, placedAt, uriText, nameEntry, nameAt, valueEntry, tablesIn, kindAt, carries, carriedName, learnedKey, learnedRow, newestFirst, learnedFrom, grammarsFrom}
+use Rattle.layout.specs.Tidy.{Lies, Sized, Strings, Distinct, Teachable, Grammars, Tidy}
 
--- The key of an element's learned rows, by its name's number, in its start tag (true) or in its content.
-abbrev pub learnedKey : ℕ → Bool → ℕ
-learnedKey e true = 2 * e + 1
-learnedKey e false = 2 * e
+-- The row of a production, by the number of the name that it carries.
+abbrev pub productionRow : ℕ → Bool → Kind → ℕ → Row
+productionRow e tag k i = record { key = learnedKey e tag; place = kindNumber k; size = i }
 
 -- ---- tests
 
@@ -189,13 +188,13 @@ carried-test m c d CH i j a b p = sym (eq-eqb i j (p refl))
 carried-test m c d CM i j a b p = sym (eq-eqb i j (p refl))
 carried-test m c d PI i j a b p = sym (eq-eqb i j (p refl))
 
-key-parts : (e : ℕ) (tag : Bool) → (learnedKey e tag / 2 ≡ e) × (eqb (learnedKey e tag % 2) 1 ≡ tag)
+pub key-parts : (e : ℕ) (tag : Bool) → (learnedKey e tag / 2 ≡ e) × (eqb (learnedKey e tag % 2) 1 ≡ tag)
 key-parts e true = (omega arith, eq-eqb ((2 * e + 1) % 2) 1 (omega arith))
 key-parts e false = (omega arith, ne-eqb (2 * e % 2) 1 (λ z. omega arith))
 
--- The row of a production.
+-- What it means.
 pub learned-as : (m : Memory) (e : ℕ) (tag : Bool) (k : Kind) (i : ℕ)
-    → learnedRow m (record { key = learnedKey e tag; place = kindNumber k; size = i })
+    → learnedRow m (productionRow e tag k i)
     ≡ record { element = nameAt m e; inTag = tag; production = record { kind = k; qname = carriedName m k i } }
 unfolding learnedRow
 learned-as m e tag k i = rw (key-parts e tag .0, key-parts e tag .1, kind-at k)
@@ -205,12 +204,12 @@ learned-as m e tag k i = rw (key-parts e tag .0, key-parts e tag .1, kind-at k)
 module _ (m m′ : Memory) (c : Counts) (g : Grammars m c) (names : (i : ℕ) → i < c .names → nameAt m′ i ≡ nameAt m i) where
   -- A row behind the learned rows: its production is learned, and is the first.
   pub learned-added : (e : ℕ) (tag : Bool) (k : Kind) (i : ℕ) → e < c .names → i < c .names
-      → m′ .work ≡ withRow (m .work) learnedAt (c .learned) (record { key = learnedKey e tag; place = kindNumber k; size = i })
+      → m′ .work ≡ withRow (m .work) learnedAt (c .learned) (productionRow e tag k i)
       → learnedAt + 3 * (c .learned + 1) ≤ length (m .work)
       → learnedFrom m′ (c .learned + 1) ≡ learn (nameAt m e) tag (some (record { kind = k; qname = carriedName m k i })) (learnedFrom m (c .learned))
   unfolding learnedFrom newestFirst learn
   learned-added e tag k i a b w room =
-      let r : Row = record { key = learnedKey e tag; place = kindNumber k; size = i } in
+      let r : Row = productionRow e tag k i in
       let z : rowAt (m′ .work) learnedAt (c .learned) ≡ r = rw w (withRow-row (m .work) learnedAt (c .learned) r room) in
       let same : rows (m′ .work) learnedAt (c .learned) ≡ rows (m .work) learnedAt (c .learned) =
       rw w (rows-apart (m .work) learnedAt (c .learned) r learnedAt (c .learned) (inr (omega arith))) in
@@ -280,7 +279,7 @@ module _ {m m′ : Memory} {c : Counts} {base n : ℕ} {r : Row} (z : Sized m c)
   unfolding urisAt namesAt valuesAt learnedAt
   bounds = (omega (arith, z .uris), omega (arith, z .names), omega (arith, z .values))
 
-  uri-kept : (i : ℕ) → i < c .uris → uriText m′ i ≡ uriText m i
+  pub uri-kept : (i : ℕ) → i < c .uris → uriText m′ i ≡ uriText m i
   unfolding uriText
   uri-kept i h = rw (row-kept urisAt (c .uris) i (bounds .0) h) (text-kept (rowAt (m .work) urisAt i) (s .uris i h))
 
@@ -355,6 +354,7 @@ module _ {m m′ : Memory} {c : Counts} {base n : ℕ} {r : Row} (t : Tidy m c) 
       record {
         tables = rw (b .work, withRow-length) (z .tables);
         store = rw (b .origin, b .size) (z .store);
+        few = z .few;
         uris = z .uris;
         names = z .names;
         values = z .values;
@@ -400,9 +400,9 @@ module _ {m m′ : Memory} {c : Counts} {r : Row} (t : Tidy m c) (b : Behind m m
   learned-apart k = rw (b .work) (rows-apart (m .work) learnedAt (c .learned) r grammarsAt k (inl (learned-before (omega arith))))
 
   -- The row was not there, and has size 0 where it carries no name.
-  pub learned-tidy : r .key / 2 < c .names → r .size < c .names → (carries (kindAt (r .place)) ≡ false → r .size ≡ 0)
+  pub learned-tidy : r .key / 2 < c .names → r .size < c .names → Teachable r → (carries (kindAt (r .place)) ≡ false → r .size ≡ 0)
       → ((i : ℕ) → i < c .learned → rowAt (m .work) learnedAt i ≡ r → ⊥) → Tidy m′ (recounted c (c .learned + 1) (c .grammars))
-  learned-tidy x y plain new =
+  learned-tidy x y kind plain new =
       let g = t .grammars in
       let room = learned-room m c (t .sized) few in
       let same = same-row (m′ .work) (m .work) grammarsAt (c .grammars) (learned-apart (c .grammars)) in
@@ -414,6 +414,7 @@ module _ {m m′ : Memory} {c : Counts} {r : Row} (t : Tidy m c) (b : Behind m m
           elements = rows-added t b (λ i q. q .key / 2 < c .names) room (g .elements) x;
           carried = rows-added t b (λ i q. q .size < c .names) room (g .carried) y;
           plain = rows-added t b (λ i q. carries (kindAt (q .place)) ≡ false → q .size ≡ 0) room (g .plain) plain;
+          kinds = rows-added t b (λ i q. Teachable q) room (g .kinds) kind;
           once = λ i j x y e.
               rows-added t b (λ i q. (j : ℕ) → j < c .learned + 1 → q ≡ rowAt (m′ .work) learnedAt j → i ≡ j) room
               (λ i x. rows-added t b (λ j q. rowAt (m .work) learnedAt i ≡ q → i ≡ j) room (λ j y. g .once i j x y) (λ e. absurd (new i x e)))
@@ -443,6 +444,7 @@ module _ {m m′ : Memory} {c : Counts} {r : Row} (t : Tidy m c) (b : Behind m m
           elements = λ i h. subst (λ q. q .key / 2 < c .names) (sym (same i h)) (g .elements i h);
           carried = λ i h. subst (λ q. q .size < c .names) (sym (same i h)) (g .carried i h);
           plain = λ i h e. rw (same i h) (g .plain i h (rw (same i h) at e));
+          kinds = λ i h. rw (same i h) (g .kinds i h);
           once = λ i j h l e. g .once i j h l (sym (same i h) ∙ e ∙ same j l);
           grammars = rows-added t b (λ i q. q .key < c .names) (grammars-room m c (t .sized) few) (g .grammars) x;
         };

@@ -1,3 +1,4 @@
 pub mod Layout
 pub mod Meaning
 pub mod Tidy
+pub mod Writer

@@ -8,7 +8,7 @@
 --   learned         2 * the element's name number, + 1    the kind's number; the name's number, or 0
 --                   in the start tag
 --   grammars        the element's name number             0
-use Prim.Native.Nat.{ℕ, zero, suc, _-_, _/_, _%_}
+use Prim.Native.Nat.{ℕ, zero, suc, _+_, _*_, _-_, _/_, _%_}
 use mathlib.Core.Bool.{Bool, true, false, cond}
 use mathlib.Core.List.{List, [], _∷_, map}
 use mathlib.Core.Option.{Option, none, some}
@@ -90,6 +90,11 @@ carriedName m EE n = none
 carriedName m CH n = none
 carriedName m CM n = none
 carriedName m PI n = none
+
+-- The key of an element's learned rows, by its name's number, in its start tag (true) or in its content.
+abbrev pub learnedKey : ℕ → Bool → ℕ
+learnedKey e true = 2 * e + 1
+learnedKey e false = 2 * e
 
 unfoldable pub learnedRow : Memory → Row → Learned
 learnedRow m r =

@@ -6,7 +6,7 @@ use mathlib.Core.Bool.{false}
 use lib.ListN.{length}
 use Rattle.rows.specs.declared.Row.{Row}
 use Rattle.rows.specs.Rows.{rowAt, textOf}
-use Rattle.format.specs.Sizes.{maxUris, maxNames, maxValues, maxLearned, maxGrammars}
+use Rattle.format.specs.Sizes.{maxUris, maxNames, maxValues, maxLearned, maxGrammars, maxStore}
 use Rattle.layout.specs.Layout.{urisAt, namesAt, valuesAt, learnedAt, grammarsAt, tableCells}
 use Rattle.layout.specs.Meaning.{Memory, Counts, uriText, nameAt, kindAt, carries}
 
@@ -18,6 +18,7 @@ pub record Lies (m : Memory) (c : Counts) (r : Row) : Type 0 where
 pub record Sized (m : Memory) (c : Counts) : Type 0 where
   pub tables : tableCells ≤ length (m .work)
   pub store : m .origin + c .stored ≤ length (m .cells)
+  pub few : c .stored ≤ maxStore
   pub uris : c .uris ≤ maxUris
   pub names : c .names ≤ maxNames
   pub values : c .values ≤ maxValues
@@ -38,11 +39,17 @@ pub record Distinct (m : Memory) (c : Counts) : Type 0 where
   pub values : (i j : ℕ) → i < c .values → j < c .values
       → textOf (m .cells) (rowAt (m .work) valuesAt i) ≡ textOf (m .cells) (rowAt (m .work) valuesAt j) → i ≡ j
 
+-- SE, AT, EE and CH, by their kind numbers, are what is learned.
+pub record Teachable (r : Row) : Type 0 where
+  pub from : 2 ≤ r .place
+  pub upTo : r .place ≤ 5
+
 -- Learned rows and element grammars refer to names. A learned row that carries no name has size 0, and none stands twice.
 pub record Grammars (m : Memory) (c : Counts) : Type 0 where
   pub elements : (i : ℕ) → i < c .learned → rowAt (m .work) learnedAt i .key / 2 < c .names
   pub carried : (i : ℕ) → i < c .learned → rowAt (m .work) learnedAt i .size < c .names
   pub plain : (i : ℕ) → i < c .learned → carries (kindAt (rowAt (m .work) learnedAt i .place)) ≡ false → rowAt (m .work) learnedAt i .size ≡ 0
+  pub kinds : (i : ℕ) → i < c .learned → Teachable (rowAt (m .work) learnedAt i)
   pub once : (i j : ℕ) → i < c .learned → j < c .learned → rowAt (m .work) learnedAt i ≡ rowAt (m .work) learnedAt j → i ≡ j
   pub grammars : (i : ℕ) → i < c .grammars → rowAt (m .work) grammarsAt i .key < c .names
 

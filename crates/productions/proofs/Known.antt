@@ -20,9 +20,9 @@ use Rattle.rows.specs.Rows.{rowAt, rows, countOf, findThat, found}
 use Rattle.rows.proofs.Laws.{rows-length, rows-at}
 use Rattle.rows.proofs.Answers.{Hit}
 use Rattle.layout.specs.Layout.{learnedAt, grammarsAt}
-use Rattle.layout.specs.Meaning.{Memory, Counts, nameAt, kindAt, carries, carriedName, learnedRow, learnedFrom, grammarsFrom}
+use Rattle.layout.specs.Meaning.{Memory, Counts, nameAt, kindAt, carries, carriedName, learnedKey, learnedRow, learnedFrom, grammarsFrom}
 use Rattle.layout.specs.Tidy.{Distinct, Grammars}
-use Rattle.layout.proofs.Productions.{learnedKey, name-test, kind-test, carried-test, kind-at, learned-count, learned-as, learned-at, learned-hit}
+use Rattle.layout.proofs.Productions.{name-test, kind-test, carried-test, kind-at, learned-count, learned-as, learned-at, learned-hit}
 use Rattle.productions.specs.Locate.{hasCells, hasKey}
 use Rattle.productions.proofs.Located.{cells-row, row-cells, locate-hit, locate-miss}
 

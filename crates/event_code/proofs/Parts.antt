@@ -1,0 +1,159 @@
+-- Laws of a code's parts: each is one of so many, they are few, and how they are written.
+use mathlib.Core.Path.{_≡_, refl, ap, subst}
+use Prim.Native.Nat.{ℕ, _+_, _*_, _≤_, _<_}
+use native.Mathlib.Omega.{arith}
+use mathlib.Core.Bool.{Bool, true, false, cond, _||_}
+use mathlib.Core.List.{List, [], _∷_, append-nil}
+use mathlib.Core.Logic.{inl, inr}
+use lib.Dec.{T, eqb}
+use lib.ListN.{length, length-append}
+use Rattle.fields.specs.Bits.{each}
+use Rattle.fields.specs.Field.{Alignment, choiceBits}
+use Rattle.fields.proofs.Tests.{split}
+use Rattle.format.specs.Sizes.{maxLearned}
+use Rattle.write_field.specs.Written.{Put, ChoiceFits, blankFrom, farthest}
+use Rattle.write_field.proofs.Written.{put-then, put-blank}
+use Rattle.write_field.proofs.Lengths.{choice-length}
+use types.Run.{OneOf}
+use denote.Enum.Declared.{tagOf}
+use Rattle.event_code.proofs.Code.{the-type}
+use Rattle.event_code.specs.declared.Code.{Code}
+use Rattle.event_code.specs.declared.Code.the-variants.{None, One, Two, Three}
+use Rattle.event_code.specs.Parts.{partsOf, partsBits, under, one, keptParts, documentParts, tagParts, contentParts, fixedParts, learnedPart, PartsFit, CodeFits}
+
+-- ---- each part is one of so many
+
+pub one-small : (b : Bool) → one b ≤ 1
+unfolding one
+one-small true = omega arith
+one-small false = omega arith
+
+cond-fits : (b : Bool) (ps qs : List (ℕ × ℕ)) → PartsFit ps → PartsFit qs → PartsFit (cond b ps qs)
+cond-fits true ps qs h k = h
+cond-fits false ps qs h k = k
+
+under-fits : (p : ℕ × ℕ) (ps : List (ℕ × ℕ)) → p .1 < p .0 → p .0 ≤ 65536 → PartsFit ps → PartsFit (under p ps)
+unfolding under
+under-fits p [] l m h = tt
+under-fits p (q ∷ []) l m h = (l, m, h)
+under-fits p (q ∷ r ∷ []) l m h = (l, m, h)
+under-fits p (q ∷ r ∷ t ∷ ps) l m h = tt
+
+kept-fits : (comments instructions : Bool) (kind : ℕ) → PartsFit (keptParts comments instructions kind)
+unfolding keptParts one
+kept-fits true true kind = cond-fits (eqb kind 6) _ _ (omega arith) (cond-fits (eqb kind 7) _ _ (omega arith) tt)
+kept-fits true false kind = cond-fits (eqb kind 6) _ _ (omega arith) tt
+kept-fits false true kind = cond-fits (eqb kind 7) _ _ (omega arith) tt
+kept-fits false false kind = tt
+
+document-fits : (first : ℕ) (comments instructions : Bool) (kind : ℕ) → PartsFit (documentParts first comments instructions kind)
+unfolding documentParts
+document-fits first comments instructions kind =
+    cond-fits (eqb kind first) _ _ (omega (arith, one-small (comments || instructions)))
+    (under-fits (2, 1) (keptParts comments instructions kind) (omega arith) (omega arith) (kept-fits comments instructions kind))
+
+module _ (count : ℕ) (comments instructions : Bool) (kind : ℕ) (few : count ≤ maxLearned) where
+  tag-fits : PartsFit (tagParts count comments instructions kind)
+  unfolding tagParts maxLearned
+  tag-fits =
+      let s = one-small (comments || instructions) in
+      cond-fits (eqb kind 4) _ _ (omega arith)
+      (cond-fits (eqb kind 3) _ _ (omega arith)
+      (cond-fits (eqb kind 2) _ _ (omega arith)
+      (cond-fits (eqb kind 5) _ _ (omega arith)
+      (under-fits (count + 1, count) (under (5, 4) (keptParts comments instructions kind)) (omega arith) (omega arith)
+      (under-fits (5, 4) (keptParts comments instructions kind) (omega arith) (omega arith) (kept-fits comments instructions kind))))))
+
+  content-fits : PartsFit (contentParts count comments instructions kind)
+  unfolding contentParts maxLearned
+  content-fits =
+      let s = one-small (comments || instructions) in
+      cond-fits (eqb kind 4) _ _ (omega arith)
+      (cond-fits (eqb kind 2) _ _ (omega arith)
+      (cond-fits (eqb kind 5) _ _ (omega arith)
+      (under-fits (count + 2, count + 1) (under (3, 2) (keptParts comments instructions kind)) (omega arith) (omega arith)
+      (under-fits (3, 2) (keptParts comments instructions kind) (omega arith) (omega arith) (kept-fits comments instructions kind)))))
+
+pub fixed-fits : (mode count : ℕ) (comments instructions : Bool) (kind : ℕ) → count ≤ maxLearned
+    → PartsFit (fixedParts mode count comments instructions kind)
+unfolding fixedParts
+fixed-fits mode count comments instructions kind few =
+    cond-fits (eqb mode 0) _ _ (cond-fits (eqb kind 0) _ _ (omega arith) tt)
+    (cond-fits (eqb mode 1) _ _ (document-fits 2 comments instructions kind)
+    (cond-fits (eqb mode 2) _ _ (document-fits 1 comments instructions kind)
+    (cond-fits (eqb mode 4) _ _ (tag-fits count comments instructions kind few)
+    (cond-fits (eqb mode 5) _ _ (content-fits count comments instructions kind few) tt))))
+
+pub learned-fits : (mode count v : ℕ) → count ≤ maxLearned → v < count → PartsFit (learnedPart mode count v ∷ [])
+unfolding learnedPart maxLearned
+learned-fits mode count v few l = split (eqb mode 4) (λ e. rw e (omega arith)) (λ e. rw e (omega arith))
+
+-- ---- parts are few, and short
+
+pub parts-of-few : (c : Code) → length (partsOf c) ≤ 3
+unfolding partsOf
+parts-of-few None = omega arith
+parts-of-few (One p) = omega arith
+parts-of-few (Two p q) = omega arith
+parts-of-few (Three p q r) = omega arith
+
+pub parts-length : (a : Alignment) (ps : List (ℕ × ℕ)) → PartsFit ps → length (partsBits a ps) ≤ 16 * length ps
+unfolding partsBits each
+parts-length a [] h = omega arith
+parts-length a (p ∷ ps) h =
+    rw (length-append (choiceBits a (p .0) (p .1)) (partsBits a ps))
+    (omega (arith, choice-length a (p .0) (p .1) (h .1), parts-length a ps (h .2)))
+
+pub none-parts : (c : Code) → partsOf c ≡ [] → c ≡ None
+unfolding partsOf
+none-parts None e = refl
+none-parts (One p) e = cc
+none-parts (Two p q) e = cc
+none-parts (Three p q r) e = cc
+
+pub parts-none : {c : Code} → c ≡ None → partsOf c ≡ []
+unfolding partsOf
+parts-none e = ap partsOf e
+
+not-first : (x : ℕ) → OneOf (1 ∷ 2 ∷ 3 ∷ []) x → 0 < x
+not-first x (inl h) = omega arith
+not-first x (inr (inl h)) = omega arith
+not-first x (inr (inr h)) = omega arith
+
+-- In the other arms of a `match` that has one for None: the code has parts.
+pub some-parts : (c : Code) → OneOf (1 ∷ 2 ∷ 3 ∷ []) (tagOf the-type c) → partsOf c ≡ [] → ⊥
+some-parts c h e = let z : tagOf the-type c ≡ 0 = ap (tagOf the-type) (none-parts c e) in omega (arith, not-first (tagOf the-type c) h)
+
+-- ---- the parts written one after the other
+
+-- What is asked before the parts ps are written.
+pub record PartsAsk (stream : List ℕ) (at : ℕ) (ps : List (ℕ × ℕ)) : Type 0 where
+  pub blank : T (blankFrom stream at)
+  pub near : at + 16 * length ps ≤ farthest
+  pub fit : PartsFit ps
+
+pub code-asks : {stream : List ℕ} {at : ℕ} {c d : Code} → c ≡ d → CodeFits stream at (partsOf c) → PartsAsk stream at (partsOf d)
+code-asks {stream} {at} {c} e h =
+    subst (λ k. PartsAsk stream at (partsOf k)) e (record { blank = h .blank; near = omega (arith, h .near, parts-of-few c); fit = h .fit })
+
+module _ {stream : List ℕ} {at : ℕ} {p : ℕ × ℕ} {ps : List (ℕ × ℕ)} (h : PartsAsk stream at (p ∷ ps)) where
+  pub first-asks : ChoiceFits stream at (p .0) (p .1)
+  first-asks = record { blank = h .blank; near = omega (arith, h .near); few = h .fit .1; one = h .fit .0 }
+
+  pub rest-asks : (a : Alignment) {mid : List ℕ} {r : ℕ} → Put stream at (choiceBits a (p .0) (p .1)) mid r → PartsAsk mid r ps
+  rest-asks a f =
+      record {
+        blank = put-blank f;
+        near = omega (arith, h .near, f .next, choice-length a (p .0) (p .1) (h .fit .1));
+        fit = h .fit .2;
+      }
+
+pub put-last : (a : Alignment) (m v : ℕ) {stream after : List ℕ} {at r : ℕ} → Put stream at (choiceBits a m v) after r
+    → Put stream at (partsBits a ((m, v) ∷ [])) after r
+unfolding partsBits each
+put-last a m v f = rw (append-nil (choiceBits a m v)) f
+
+pub put-first : (a : Alignment) (m v : ℕ) (ps : List (ℕ × ℕ)) {stream mid after : List ℕ} {at r s : ℕ}
+    → Put stream at (choiceBits a m v) mid r → Put mid r (partsBits a ps) after s → Put stream at (partsBits a ((m, v) ∷ ps)) after s
+unfolding partsBits each
+put-first a m v ps f g = put-then f g

@@ -1,0 +1,113 @@
+-- Event codes as parts, each a value among so many: what the code of src/lib.rt computes, from the state's number, the count of productions that are
+-- learned there, the kinds that are kept and the event's kind. proofs/Codes.antt shows that these are the definitions' codes.
+--
+-- States: 0 document, 1 document content, 2 document end, 3 finished, 4 start tag, 5 element content. Kinds: `kindNumber` of the format.
+use Prim.Native.Nat.{ℕ, _+_, _≤_, _<_}
+use mathlib.Core.Bool.{Bool, true, false, cond, _&&_, _||_}
+use mathlib.Core.List.{List, [], _∷_}
+use lib.Dec.{T, eqb, leb}
+use Rattle.fields.specs.Bits.{Bits, each}
+use Rattle.fields.specs.Field.{Alignment, choiceBits}
+use Rattle.format.specs.Grammar.{Production, Learned, learnedIn, State, document, docContent, docEnd, finished, startTag, elementContent}
+use Rattle.write_field.specs.Written.{blankFrom, farthest}
+use Rattle.event_code.specs.declared.Code.{Code}
+use Rattle.event_code.specs.declared.Code.the-variants.{None, One, Two, Three}
+
+unfoldable pub partsOf : Code → List (ℕ × ℕ)
+partsOf None = []
+partsOf (One p) = (p .among, p .value) ∷ []
+partsOf (Two p q) = (p .among, p .value) ∷ (q .among, q .value) ∷ []
+partsOf (Three p q r) = (p .among, p .value) ∷ (q .among, q .value) ∷ (r .among, r .value) ∷ []
+
+unfoldable pub partsBits : Alignment → List (ℕ × ℕ) → Bits
+partsBits a ps = each (λ p. choiceBits a (p .0) (p .1)) ps
+
+-- A code of the next level, where there is one, under the part that leads there. (No code has more than three parts.)
+unfoldable pub under : ℕ × ℕ → List (ℕ × ℕ) → List (ℕ × ℕ)
+under p [] = []
+under p (q ∷ []) = p ∷ q ∷ []
+under p (q ∷ r ∷ []) = p ∷ q ∷ r ∷ []
+under p (q ∷ r ∷ t ∷ ps) = []
+
+unfoldable pub one : Bool → ℕ
+one b = cond b 1 0
+
+-- The last level: comments and instructions, as kept.
+unfoldable pub keptParts : Bool → Bool → ℕ → List (ℕ × ℕ)
+keptParts comments instructions kind =
+    cond (comments && eqb kind 6) ((one comments + one instructions, 0) ∷ [])
+    (cond (instructions && eqb kind 7) ((one comments + one instructions, one comments) ∷ [])
+    [])
+
+-- Outside the root element, where the first level has one production.
+unfoldable pub documentParts : ℕ → Bool → Bool → ℕ → List (ℕ × ℕ)
+documentParts first comments instructions kind =
+    cond (eqb kind first) ((1 + one (comments || instructions), 0) ∷ [])
+    (under (2, 1) (keptParts comments instructions kind))
+
+-- In a start tag, behind `count` learned productions: EE, AT(*), SE(*), CH.
+unfoldable pub tagParts : ℕ → Bool → Bool → ℕ → List (ℕ × ℕ)
+tagParts count comments instructions kind =
+    let four = 4 + one (comments || instructions) in
+    cond (eqb kind 4) ((count + 1, count) ∷ (four, 0) ∷ [])
+    (cond (eqb kind 3) ((count + 1, count) ∷ (four, 1) ∷ [])
+    (cond (eqb kind 2) ((count + 1, count) ∷ (four, 2) ∷ [])
+    (cond (eqb kind 5) ((count + 1, count) ∷ (four, 3) ∷ [])
+    (under (count + 1, count) (under (5, 4) (keptParts comments instructions kind))))))
+
+-- In an element's content: EE behind the learned productions; then SE(*), CH.
+unfoldable pub contentParts : ℕ → Bool → Bool → ℕ → List (ℕ × ℕ)
+contentParts count comments instructions kind =
+    let two = 2 + one (comments || instructions) in
+    cond (eqb kind 4) ((count + 2, count) ∷ [])
+    (cond (eqb kind 2) ((count + 2, count + 1) ∷ (two, 0) ∷ [])
+    (cond (eqb kind 5) ((count + 2, count + 1) ∷ (two, 1) ∷ [])
+    (under (count + 2, count + 1) (under (3, 2) (keptParts comments instructions kind)))))
+
+-- The code of a production that is not learned; no part where none fits.
+unfoldable pub fixedParts : ℕ → ℕ → Bool → Bool → ℕ → List (ℕ × ℕ)
+fixedParts mode count comments instructions kind =
+    cond (eqb mode 0) (cond (eqb kind 0) ((1, 0) ∷ []) [])
+    (cond (eqb mode 1) (documentParts 2 comments instructions kind)
+    (cond (eqb mode 2) (documentParts 1 comments instructions kind)
+    (cond (eqb mode 4) (tagParts count comments instructions kind)
+    (cond (eqb mode 5) (contentParts count comments instructions kind)
+    []))))
+
+-- The code of the learned production with number v.
+unfoldable pub learnedPart : ℕ → ℕ → ℕ → ℕ × ℕ
+learnedPart mode count v = (cond (eqb mode 4) (count + 1) (count + 2), v)
+
+-- Whether an event of this kind, with a code that is not learned, puts a production at 0.
+unfoldable pub teachesIn : ℕ → ℕ → Bool
+teachesIn mode kind = (eqb mode 4 && leb 2 kind && leb kind 5) || (eqb mode 5 && (eqb kind 2 || eqb kind 5))
+
+-- ---- against the definitions' states
+
+unfoldable pub modeOf : State → ℕ
+modeOf document = 0
+modeOf docContent = 1
+modeOf docEnd = 2
+modeOf finished = 3
+modeOf (startTag q outer) = 4
+modeOf (elementContent q outer) = 5
+
+-- The productions that are learned in a state.
+unfoldable pub learnedOf : State → List Learned → List Production
+learnedOf document ls = []
+learnedOf docContent ls = []
+learnedOf docEnd ls = []
+learnedOf finished ls = []
+learnedOf (startTag q outer) ls = learnedIn q true ls
+learnedOf (elementContent q outer) ls = learnedIn q false ls
+
+-- ---- what is asked before a code is written
+
+abbrev pub PartsFit : List (ℕ × ℕ) → Type 0
+PartsFit [] = Unit {0}
+PartsFit (p ∷ ps) = (p .1 < p .0) × (p .0 ≤ 65536) × PartsFit ps
+
+pub record CodeFits (stream : List ℕ) (at : ℕ) (parts : List (ℕ × ℕ)) : Type 0 where
+  pub blank : T (blankFrom stream at)
+  pub near : at + 64 ≤ farthest
+  pub fit : PartsFit parts

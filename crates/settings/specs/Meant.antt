@@ -1,0 +1,23 @@
+-- What the values that src/lib.rt declares mean.
+use lib.Dec.{eqb}
+use Rattle.read_field.specs.View.{alignmentOf}
+use Rattle.format.specs.Settings as format
+use Rattle.settings.specs.declared.Settings.{Settings}
+use Rattle.settings.specs.declared.Options.{Options}
+
+unfoldable pub numbersOf : Settings → format.SettingNumbers
+numbersOf s = record { alignment = s .alignment; cookie = s .cookie; comments = s .comments; instructions = s .instructions }
+
+unfoldable pub optionsOf : Settings → Options
+optionsOf s =
+    record {
+      aligned = eqb (s .alignment) 1;
+      cookie = eqb (s .cookie) 1;
+      comments = eqb (s .comments) 1;
+      instructions = eqb (s .instructions) 1;
+    }
+
+-- The definitions' settings.
+unfoldable pub settingsFrom : Options → format.Settings
+settingsFrom o =
+    record { alignment = alignmentOf (o .aligned); cookie = o .cookie; comments = o .comments; instructions = o .instructions }
