@@ -1,0 +1,54 @@
+-- What an event leaves in the grammars, in the definitions' terms: what `grow` comes to over memory that means a context.
+use Prim.Native.Nat.{ℕ, _≤_, _<_}
+use mathlib.Core.Path.{_≡_}
+use mathlib.Core.Bool.{Bool, true, cond}
+use mathlib.Core.Option.{none, some}
+use lib.ListN.{length, take, drop}
+use Rattle.text.specs.Text.{Text}
+use Rattle.format.specs.Event.{Event, kindOf}
+use Rattle.format.specs.Grammar.{kindNumber, productionFor, firstFit, learnedAfter, grammarsAfter, stateAfter}
+use Rattle.format.specs.Context.{Context}
+use Rattle.format.specs.Lists.{withinGrammars}
+use Rattle.layout.specs.Meaning.{Memory}
+use Rattle.productions.proofs.Known.{Numbered}
+use Rattle.state.specs.declared.State.{State}
+use Rattle.standing.specs.Standing.{countsOf, contextOf, Standing}
+use Rattle.event_code.specs.Parts.{learnedOf}
+use Rattle.learning.specs.declared.Grown.{Grown}
+
+-- The context that the event leaves, but for the tables.
+unfoldable pub grownContext : Context → Event Text → Bool → Context
+grownContext c e teaches =
+    record {
+      state = stateAfter (c .state) e;
+      tables = c .tables;
+      learned = learnedAfter (c .state) (cond teaches (some (productionFor e)) none) (c .learned);
+      grammars = grammarsAfter (c .grammars) e;
+    }
+
+-- What is known of the event when `grow` is called: its kind, the row of its name or 0, where it stands, and that what it teaches is new.
+pub record Grows (m : Memory) (st : State) (e : Event Text) (kind : ℕ) (teaches : Bool) (name : ℕ) : Type 0 where
+  pub standing : Standing m st
+  pub kind-is : kind ≡ kindNumber (kindOf e)
+  pub small : name < 65536
+  pub row : 2 ≤ kindNumber (kindOf e) → kindNumber (kindOf e) ≤ 5 → Numbered m (countsOf st) e name
+  pub inside : 4 ≤ kindNumber (kindOf e) → kindNumber (kindOf e) ≤ 5 → 4 ≤ st .mode
+  pub outside : kindNumber (kindOf e) ≤ 1 → st .mode < 4
+  pub new : teaches ≡ true → firstFit (learnedOf (contextOf m st .state) (contextOf m st .learned)) e ≡ none
+  pub inner : teaches ≡ true → 4 ≤ st .mode
+  pub kinds : teaches ≡ true → (2 ≤ kindNumber (kindOf e)) × (kindNumber (kindOf e) ≤ 5)
+
+-- The same text store.
+pub record SameStore (m m′ : Memory) (st : State) : Type 0 where
+  pub origin : m′ .origin ≡ m .origin
+  pub size : length (m′ .cells) ≡ length (m .cells)
+  pub store : take (st .stored) (drop (m .origin) (m′ .cells)) ≡ take (st .stored) (drop (m .origin) (m .cells))
+
+-- Refused just where the context would pass a size; else memory and state mean it.
+pub record Growth (m m′ : Memory) (st : State) (e : Event Text) (teaches : Bool) (r : Grown) : Type 0 where
+  pub within : r .ok ≡ withinGrammars (grownContext (contextOf m st) e teaches)
+  pub standing : r .ok ≡ true → Standing m′ (r .state)
+  pub context : r .ok ≡ true → contextOf m′ (r .state) ≡ grownContext (contextOf m st) e teaches
+  pub at : r .state .at ≡ st .at
+  pub events : r .state .events ≡ st .events
+  pub work : length (m′ .work) ≡ length (m .work)

@@ -1,0 +1,4 @@
+pub mod Names
+pub mod Sought
+pub mod Fitting
+pub mod Coded
