@@ -100,9 +100,16 @@ Events =
     Answer × Answer × Answer × (QName Text → Answer) × (QName Text → Text → Answer) × (Text → Answer) × (Text → Answer) × (Text → Text → Answer)
 
 abbrev events : (Event Text → Answer) → Events
-events f =
-    (f startDocument, f endDocument, f endElement, λ q. f (startElement q), λ q v. f (attribute q v), λ v. f (characters v),
-    λ x. f (comment x), λ x y. f (instruction x y))
+events f = (
+  f startDocument,
+  f endDocument,
+  f endElement,
+  λ q. f (startElement q),
+  λ q v. f (attribute q v),
+  λ v. f (characters v),
+  λ x. f (comment x),
+  λ x y. f (instruction x y),
+)
 
 each-event : (f g : Event Text → Answer) → events f ≡ events g → (e : Event Text) → f e ≡ g e
 each-event f g h startDocument = ap (λ t. t .0) h
@@ -156,8 +163,15 @@ untaught : (v : ℕ) (e : Event Text) → taught (atLevel v (productionFor e)) e
 unfolding kindOf nameOf isWildcard atLevel teaches productionFor taught
 untaught v e =
     elim e [
-      startDocument ↦ refl | endDocument ↦ refl | endElement ↦ refl | startElement q ↦ refl | attribute q x ↦ refl | characters x ↦ refl
-    | comment x ↦ refl | instruction x y ↦ refl ]
+      | startDocument ↦ refl
+      | endDocument ↦ refl
+      | endElement ↦ refl
+      | startElement q ↦ refl
+      | attribute q x ↦ refl
+      | characters x ↦ refl
+      | comment x ↦ refl
+      | instruction x y ↦ refl
+    ]
 
 defined-learned : (s : Settings) (ls : List Learned) (e : Event Text) (v : ℕ) (st : State) → firstFit (learnedOf st ls) e ≡ some (v, productionFor e)
     → defined s ls st e ≡ some (learnedPart (modeOf st) (length (learnedOf st ls)) v ∷ [], productionFor e, ls)
@@ -175,7 +189,7 @@ module _ (s : Settings) (ls : List Learned) (st : State) (e : Event Text) where
     pub fixed-coded : (q : ℕ × ℕ) (qs : List (ℕ × ℕ))
         → fixedParts (modeOf st) (length (learnedOf st ls)) (s .comments) (s .instructions) (kindNumber (kindOf e)) ≡ q ∷ qs
         → Coded s ls st e (q ∷ qs) (unnamed (kindOf e))
-          (learnedAfter st (cond (teachesIn (modeOf st) (kindNumber (kindOf e))) (some (productionFor e)) none) ls)
+        (learnedAfter st (cond (teachesIn (modeOf st) (kindNumber (kindOf e))) (some (productionFor e)) none) ls)
     fixed-coded q qs z =
         defined-coded s ls st e (rw z at (defined-asked (s .alignment) (s .cookie) ls st (s .comments) (s .instructions) e h))
 

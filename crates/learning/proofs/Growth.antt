@@ -212,7 +212,7 @@ module _ {m : Memory} {st : State} (h : Standing m st) where
       already n =
           elim (decLe 4 (st .mode)) [
             | yes l ↦ let five : 5 ≡ st .mode = omega (arith, h .mode .known) in
-            subst (λ k. Moved m st (restated st k (st .stack)) (inContent (contextOf m st .state))) five (content-begins h l)
+                subst (λ k. Moved m st (restated st k (st .stack)) (inContent (contextOf m st .state))) five (content-begins h l)
             | no l ↦ content-outside h (omega arith)
           ]
 
@@ -506,8 +506,7 @@ pub grow-asks : {m : Memory} {st : State} {e : Event Text} {kind name : ℕ} {te
     → GrowFits (m .work) st kind name × Teaching st teaches
 grow-asks x =
     let h = x .standing in
-    let z = h .tidy .sized in
-    (
+    let z = h .tidy .sized in (
       record {
         enters = record { room = room-grammars z (omega arith); few = z .grammars; small = x .small };
         room = room-learned z (omega arith);

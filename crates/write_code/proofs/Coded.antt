@@ -123,7 +123,7 @@ module _ (o : Options) {m : Memory} {st : state.State} (h : Standing m st) {kind
   pub learned-sent : n .hit ≡ true → {ps : List (ℕ × ℕ)} → ps ≡ learnedPart (st .mode) (n .count) (n .number) ∷ []
       → {stream stream′ : List ℕ} {at : ℕ} → Put stream (st .at) (partsBits (alignmentOf (o .aligned)) ps) stream′ at
       → Coded (settingsFrom o) m st kind name stream stream′
-        (record { fits = true; learned = true; teaches = false; row = rowOr name; state = moved st at (st .stored) })
+      (record { fits = true; learned = true; teaches = false; row = rowOr name; state = moved st at (st .stored) })
   unfolding settingsFrom levelsIn
   learned-sent hit {ps} is put =
       record {
@@ -155,7 +155,7 @@ module _ (o : Options) {m : Memory} {st : state.State} (h : Standing m st) {kind
     -- No production fits.
     pub none-sent : fixedParts (st .mode) (n .count) (o .comments) (o .instructions) kind ≡ [] → {stream : List ℕ}
         → Coded (settingsFrom o) m st kind name stream stream
-          (record { fits = false; learned = false; teaches = false; row = rowOr name; state = moved st (st .at) (st .stored) })
+        (record { fits = false; learned = false; teaches = false; row = rowOr name; state = moved st (st .at) (st .stored) })
     unfolding settingsFrom levelsIn
     none-sent empty =
         record {
@@ -173,7 +173,7 @@ module _ (o : Options) {m : Memory} {st : state.State} (h : Standing m st) {kind
     pub fixed-sent : (ps : List (ℕ × ℕ)) → ps ≡ fixedParts (st .mode) (n .count) (o .comments) (o .instructions) kind → (ps ≡ [] → ⊥)
         → length ps ≤ 3 → {stream stream′ : List ℕ} {at : ℕ} → Put stream (st .at) (partsBits (alignmentOf (o .aligned)) ps) stream′ at
         → Coded (settingsFrom o) m st kind name stream stream′
-          (record { fits = true; learned = false; teaches = teachesIn (st .mode) kind; row = rowOr name; state = moved st at (st .stored) })
+        (record { fits = true; learned = false; teaches = teachesIn (st .mode) kind; row = rowOr name; state = moved st at (st .stored) })
     unfolding settingsFrom levelsIn
     fixed-sent [] is some few put = absurd (some refl)
     fixed-sent (q ∷ qs) is some few put =

@@ -75,7 +75,10 @@ fn newest(st: State, kind: u32, name: Found, work: &[u32]) -> Newer
     let key = learning::key_of(st);
     let count = rows::count(work, LEARNED, st.learned, false, key);
     match name {
-        Found::At { number, row } => numbered(productions::locate(work, LEARNED, st.learned, key, kind, row), count),
+        Found::At { number, row } => numbered(
+            productions::locate(work, LEARNED, st.learned, key, kind, row),
+            count,
+        ),
         Found::Nothing => numbered(Found::Nothing, count),
     }
 }
@@ -105,14 +108,26 @@ fn answer(fits: bool, learned: bool, teaches: bool, row: u32, st: State, at: usi
 
 // Writes the code of an event of this kind. The name is the row of the event's name, or At 0 0 for a kind without one that can be learned; Nothing
 // says that no learned production can fit.
-pub fn put_code(o: Options, stream: &mut [u8], st: State, kind: u32, name: Found, work: &[u32]) -> Coding
+pub fn put_code(
+    o: Options,
+    stream: &mut [u8],
+    st: State,
+    kind: u32,
+    name: Found,
+    work: &[u32],
+) -> Coding
     requires { ⌜ CodeReady (now stream) (now work) st ⌝ }
     ensures { λ r. ⌜ Coded (settingsFrom o) (writerMemory (now (work .entry))) st kind name (now (stream .entry)) (now (stream .exit)) r ⌝ }
 {
     let n = newest(st, kind, name, work);
     let row = row_of(name);
     if n.hit {
-        let at = event_code::put_code(o.aligned, stream, st.at, event_code::learned_code(st.mode, n.count, n.number));
+        let at = event_code::put_code(
+            o.aligned,
+            stream,
+            st.at,
+            event_code::learned_code(st.mode, n.count, n.number),
+        );
         return answer(true, true, false, row, st, at);
     }
     let code = event_code::fixed_code(st.mode, n.count, o.comments, o.instructions, kind);

@@ -1,0 +1,56 @@
+-- `put_new_value` meets its contract.
+use native.Mathlib.Omega.{arith}
+use mathlib.Core.Path.{_∙_}
+use lib.ListN.{length}
+use borrow.Author.Tests.{eq-eqb, ne-eqb}
+use borrow.Author.Needs.{needs}
+use Rattle.write_content.proofs.Entries.{value-entry-asks, value-entry, empty-value}
+use Rattle.names.proofs.Laws.{is-empty}
+use Rattle.layout.specs.Layout.{urisAt, namesAt, valuesAt}
+use Rattle.format.specs.Sizes.{maxUris, maxNames, maxValues}
+use Rattle.write_content.proofs.put_new_value.Statement.{statement}
+use Rattle.write_content.proofs.put_new_value.Tie as tie
+
+send-text-requires : tie.Need-send-text-requires
+send-text-requires c κs = value-entry-asks (c .before .before .before .before .before .before .pre) .text
+
+same-length : tie.Need-same-length
+same-length c = search needs
+
+same-length-2 : tie.Need-same-length-2
+same-length-2 c = search needs
+
+returns : tie.Need-returns
+returns c = λ a. empty-value (c .before .before .before .before .before .before .before .before .before .before .before .pre) (is-empty (c .before .before .before .before .before .before .before .before .before .before .before .args .x .now) ∙ eq-eqb (length (c .before .before .before .before .before .before .before .before .before .before .before .args .x .now)) 0 (c .before .before .before .before .before .before .before .if1 .taken)) (c .before .before .before .before .send-text .ensures)
+
+send-entry-requires : tie.Need-send-entry-requires
+unfolding maxUris maxNames maxValues urisAt namesAt valuesAt
+send-entry-requires c κs = value-entry-asks (c .before .before .before .before .before .before .pre)
+
+add-t : tie.Need-add-t
+unfolding maxValues
+add-t c = omega (arith, c .before .before .before .before .before .before .before .before .before .before .before .before .before .pre .there .ready .ready .tidy .sized .values)
+
+same-length-3 : tie.Need-same-length-3
+same-length-3 c = search needs
+
+same-length-4 : tie.Need-same-length-4
+same-length-4 c = search needs
+
+returns-2 : tie.Need-returns-2
+unfolding maxUris maxNames maxValues urisAt namesAt valuesAt
+returns-2 c = λ a. value-entry (c .before .before .before .before .before .before .before .before .before .before .before .before .before .pre) (is-empty (c .before .before .before .before .before .before .before .before .before .before .before .before .before .args .x .now) ∙ ne-eqb (length (c .before .before .before .before .before .before .before .before .before .before .before .before .before .args .x .now)) 0 (c .before .before .before .before .before .before .before .before .before .if1 .left)) (c .before .before .before .before .before .before .send-entry .ensures)
+
+pub put-new-value-spec : {M : Type 1} → statement M
+put-new-value-spec =
+    tie.close
+    (tie.spec
+    send-text-requires
+    same-length
+    same-length-2
+    returns
+    send-entry-requires
+    add-t
+    same-length-3
+    same-length-4
+    returns-2)
