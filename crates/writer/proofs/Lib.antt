@@ -1,0 +1,5 @@
+pub mod Events
+pub mod Header
+pub mod Octets
+pub mod Reply
+pub mod Start

@@ -1,0 +1,71 @@
+-- Work memory with the initial entries, behind the header: the events can be written, and the context is the definitions' start.
+use mathlib.Core.Path.{_≡_, refl}
+use mathlib.Core.List.{List}
+use Prim.Native.Nat.{ℕ, _+_, _≤_}
+use native.Mathlib.Omega.{arith}
+use lib.ListN.{length}
+use Rattle.fields.proofs.Tests.{split}
+use Rattle.fields.proofs.Pack.{length-unpack}
+use Rattle.format.specs.Settings.{Settings, headerOf}
+use Rattle.format.specs.Sizes.{maxUris, maxNames, maxValues, maxLearned, maxGrammars, writerWork}
+use Rattle.format.specs.Context.{start}
+use Rattle.layout.specs.Layout.{urisAt, namesAt, valuesAt, learnedAt, grammarsAt, tableCells}
+use Rattle.layout.specs.Writer.{storeAt, writerMemory}
+use Rattle.initial.specs.Initial.{withText, withTables, startCounts}
+use Rattle.initial.proofs.Laws.{Begun, start-tables, start-tidy, withTables-length, withText-length, begun-inside}
+use Rattle.state.specs.declared.State.{State}
+use Rattle.state.specs.Stack.{started}
+use Rattle.standing.specs.Standing.{contextOf}
+use Rattle.standing.proofs.Laws.{start-standing, start-context}
+use Rattle.write_field.proofs.Written.{put-blank}
+use Rattle.writer.specs.Write.{HeaderPut, RunFits}
+
+tables-before : tableCells ≤ 8192
+unfolding tableCells grammarsAt learnedAt valuesAt namesAt urisAt maxUris maxNames maxValues maxLearned maxGrammars
+tables-before = omega arith
+
+short-header : (s : Settings) → length (headerOf s) ≤ 5
+unfolding headerOf
+short-header s = split (s .cookie) (λ e. rw e (omega arith)) (λ e. rw e (omega arith))
+
+-- The state at this position, over this memory, is that before the first event.
+pub record Begins (at : ℕ) (w : List ℕ) (st : State) : Type 0 where
+  pub there : st .at ≡ at
+  pub context : contextOf (writerMemory w) st ≡ start
+
+module _ (w : List ℕ) (room : writerWork ≤ length w) where
+  pub tables-fit : tableCells ≤ length w
+  unfolding writerWork
+  tables-fit = omega (arith, tables-before)
+
+  pub text-fits : 8192 + 99 ≤ length (withTables w 8192)
+  unfolding writerWork
+  text-fits = rw (withTables-length w 8192) (omega arith)
+
+  begun : Begun (writerMemory (withText (withTables w 8192) 8192))
+  unfolding storeAt writerWork
+  begun = begun-inside w 8192 tables-before (omega arith)
+
+  -- The rows are laid, then the text.
+  module _ (at : ℕ) {tables w′ : List ℕ} {st : State} (rows : tables ≡ withTables w 8192) (text : w′ ≡ withText tables 8192)
+      (begins : st ≡ started at 99 3 6) where
+    pub events-ask : (s : Settings) {stream mid : List ℕ} → HeaderPut s stream mid at → RunFits mid w′ st
+    unfolding startCounts started
+    events-ask s put =
+        rw (text, rows, begins)
+        (record {
+          blank = put-blank put;
+          near = omega (arith, put .next, length-unpack (headerOf s), short-header s);
+          standing = start-standing (writerMemory (withText (withTables w 8192) 8192)) at 99 3 6 (start-tidy _ begun);
+          room = rw (withText-length (withTables w 8192) 8192 text-fits, withTables-length w 8192) room;
+          first = refl;
+        })
+
+    pub list-begins : Begins at w′ st
+    unfolding start startCounts started
+    list-begins =
+        rw (text, rows, begins)
+        (record {
+          there = refl;
+          context = rw (start-context (writerMemory (withText (withTables w 8192) 8192)) at 99 3 6, start-tables _ begun);
+        })

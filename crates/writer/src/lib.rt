@@ -1,0 +1,215 @@
+// The writer: an event list to the octets of its strict form, or a refusal with its number and index. The definitions that the contracts cite are in
+// specs/Write.antt and, for the answer itself, in crates/format/specs/Writer.antt.
+ghost use mathlib.Core.Path.{_≡_};
+ghost use lib.ListN.{length, replicate};
+ghost use Rattle.format.specs.Writer.{writeReply};
+ghost use Rattle.settings.specs.Meant.{settingsFrom};
+ghost use Rattle.event.specs.Cells.{eventsOf};
+ghost use Rattle.writer.specs.Write.{HeaderFits, CookiePut, HeaderPut, RunFits, Ran, ListFits, ListPut, Attempted, answerOf, replyOf, filled};
+use event::Loaded;
+use settings::Options;
+use settings::Settings;
+use state::State;
+
+// The number of the refusal or 0, the index of the event concerned, and the count of octets.
+pub struct Written {
+    pub number: u32,
+    pub index: u32,
+    pub octets: u32,
+}
+
+// A list that was gone through: the number and index of its refusal, or 0, and the position behind its bits.
+struct Run {
+    number: u32,
+    index: usize,
+    at: usize,
+}
+
+const ROOM: u32 = 1;
+
+const SETTINGS: u32 = 2;
+
+const LONG: u32 = 3;
+
+const LIMIT: u32 = 12;
+
+const SHAPE: u32 = 14;
+
+// Where the text store begins in work memory.
+const STORE: usize = 8192;
+
+// The cookie "$EXI".
+fn put_cookie(stream: &mut [u8]) -> usize
+    requires { ⌜ HeaderFits (now stream) ⌝ }
+    ensures { λ r. ⌜ CookiePut (now (stream .entry)) (now (stream .exit)) r ⌝ }
+{
+    let first = write_field::put_number(true, stream, 0, 8, 36);
+    let second = write_field::put_number(true, stream, first, 8, 69);
+    let third = write_field::put_number(true, stream, second, 8, 88);
+    write_field::put_number(true, stream, third, 8, 73)
+}
+
+// The header (EXI 5): the cookie if set, then bits 10, no options, version 1.
+fn put_header(o: Options, stream: &mut [u8]) -> usize
+    requires { ⌜ HeaderFits (now stream) ⌝ }
+    ensures { λ r. ⌜ HeaderPut (settingsFrom o) (now (stream .entry)) (now (stream .exit)) r ⌝ }
+{
+    if o.cookie {
+        let at = put_cookie(stream);
+        return write_field::put_number(true, stream, at, 8, 128);
+    }
+    write_field::put_number(true, stream, 0, 8, 128)
+}
+
+// The events, one behind the other.
+fn put_events(
+    o: Options,
+    stream: &mut [u8],
+    st: State,
+    events: &[u32],
+    text: &[u32],
+    work: &mut [u32],
+) -> Run
+    requires { ⌜ RunFits (now stream) (now work) st ⌝ }
+    ensures { λ r. ⌜ Ran (settingsFrom o) (eventsOf (now (events .entry))) (now (text .entry)) (now (stream .entry)) (now (work .entry)) st (now (stream .exit)) r ⌝ }
+{
+    let mut t = st;
+    let mut cell: usize = 0;
+    while cell < events.len() {
+        if t.events == 4096 {
+            return Run {
+                number: LIMIT,
+                index: t.events,
+                at: t.at,
+            };
+        }
+        if events.len() - cell < 7 {
+            return Run {
+                number: SHAPE,
+                index: t.events,
+                at: t.at,
+            };
+        }
+        match event::load(events, cell) {
+            Loaded::Shape => {
+                return Run {
+                    number: SHAPE,
+                    index: t.events,
+                    at: t.at,
+                };
+            }
+            Loaded::Whole(e) => {
+                let r = write_event::step(o, stream, t, text, e, work);
+                if r.number != 0 {
+                    return Run {
+                        number: r.number,
+                        index: t.events,
+                        at: t.at,
+                    };
+                }
+                t = r.state;
+                t.events += 1;
+            }
+        }
+        cell += 7;
+    }
+    if t.mode != 3 {
+        return Run {
+            number: SHAPE,
+            index: t.events,
+            at: t.at,
+        };
+    }
+    Run {
+        number: 0,
+        index: 0,
+        at: t.at,
+    }
+}
+
+// The header and the events, with the initial entries in tables and store. LONG comes last.
+fn put_list(
+    o: Options,
+    stream: &mut [u8],
+    events: &[u32],
+    text: &[u32],
+    work: &mut [u32],
+) -> Written
+    requires { ⌜ ListFits (now stream) (now work) ⌝ }
+    ensures { λ r. ⌜ ListPut (settingsFrom o) (eventsOf (now (events .entry))) (now (text .entry)) (now (stream .entry)) (now (stream .exit)) r ⌝ }
+{
+    let at = put_header(o, stream);
+    initial::lay_rows(work, STORE as u32);
+    initial::lay_text(work, STORE);
+    let run = put_events(o, stream, state::start(at, 99, 3, 6), events, text, work);
+    if run.number != 0 {
+        return Written {
+            number: run.number,
+            index: run.index as u32,
+            octets: 0,
+        };
+    }
+    let octets = (run.at + 7) / 8;
+    if 16384 < octets {
+        return Written {
+            number: LONG,
+            index: 0,
+            octets: 0,
+        };
+    }
+    Written {
+        number: 0,
+        index: 0,
+        octets: octets as u32,
+    }
+}
+
+// The same, after what the lent parts and the settings are asked first.
+fn attempt(
+    s: Settings,
+    stream: &mut [u8],
+    events: &[u32],
+    text: &[u32],
+    work: &mut [u32],
+) -> Written
+    ensures { λ r. ⌜ Attempted (answerOf s (now (stream .entry)) (eventsOf (now (events .entry))) (now (text .entry)) (now (work .entry))) (now (stream .entry)) (now (stream .exit)) r ⌝ }
+{
+    if (stream.len() < 16384) | (work.len() < 24576) {
+        return Written {
+            number: ROOM,
+            index: 0,
+            octets: 0,
+        };
+    }
+    if !settings::are_meaningful(s) {
+        return Written {
+            number: SETTINGS,
+            index: 0,
+            octets: 0,
+        };
+    }
+    clear::octets(stream);
+    put_list(settings::options_of(s), stream, events, text, work)
+}
+
+// Writes the strict form of the list that the event cells and the text store hold: the octets, and zeros behind them. After a refusal every octet is zero.
+// Work memory is zero then, too.
+pub fn write(
+    s: Settings,
+    stream: &mut [u8],
+    events: &[u32],
+    text: &[u32],
+    work: &mut [u32],
+) -> Written
+    ensures { λ r. ⌜ replyOf r ≡ writeReply (answerOf s (now (stream .entry)) (eventsOf (now (events .entry))) (now (text .entry)) (now (work .entry))) ⌝ }
+    ensures { λ r. ⌜ now (stream .exit) ≡ filled (length (now (stream .entry))) (answerOf s (now (stream .entry)) (eventsOf (now (events .entry))) (now (text .entry)) (now (work .entry))) ⌝ }
+    ensures { λ r. ⌜ now (work .exit) ≡ replicate (length (now (work .entry))) 0 ⌝ }
+{
+    let r = attempt(s, stream, events, text, work);
+    clear::cells(work);
+    if r.number != 0 {
+        clear::octets(stream);
+        return r;
+    }
+    r
+}
