@@ -1,6 +1,6 @@
 -- What is claimed, with only definitions above it. crates/format/proofs/Claims.antt proves each.
 --
--- Throughout, s is the settings that the options o mean, r a room not below the sizes, and a stream a list of octets.
+-- Throughout, o is settings' numbers, r and p are lengths of lent parts, and a stream is a list of octets.
 use Prim.Native.Nat.{ℕ}
 use mathlib.Core.Path.{_≡_}
 use mathlib.Core.Logic.{_↔_}

@@ -1,13 +1,13 @@
 -- How long the tables are, which strings a table has room for, and where the tables lie, in numbers.
-use Prim.Native.Nat.{ℕ, zero, suc, _+_, _≤_, _<_}
+use Prim.Native.Nat.{ℕ, zero, suc, _+_, _≤_}
 use native.Mathlib.Omega.{arith}
 use native.Mathlib.Numerals.{add-one}
 use mathlib.Core.Path.{_≡_, refl, ap}
-use mathlib.Core.Bool.{Bool, true, false, _&&_, and-true, and-false}
+use mathlib.Core.Bool.{Bool, true, false, _&&_, and-true}
 use mathlib.Core.List.{[]}
 use lib.ListN.{length, length-append, length-map}
 use lib.Dec.{T, leb, ltb, leb→le}
-use borrow.Author.Tests.{le-leb, lt-leb}
+use borrow.Author.Tests.{le-leb}
 use Rattle.fields.proofs.Tests.{is-T, left, right}
 use Rattle.text.specs.Text.{Text, isEmpty}
 use Rattle.format.specs.Event.{QName}
@@ -97,10 +97,6 @@ tests : (t : Tables) (r : Role) (x : Text) → withinTables (added t r x)
     && leb (length (t .store) + length x) maxStore
 unfolding withinTables added
 tests t r x = simp length-append
-
--- The store has no room for it.
-pub within-full : (t : Tables) (r : Role) (x : Text) → maxStore < length (t .store) + length x → withinTables (added t r x) ≡ false
-within-full t r x h = rw (tests t r x, lt-leb (length (t .store) + length x) maxStore h, and-false)
 
 -- A literal that the store has room for is within the sizes if its table has a row left.
 module _ (t : Tables) (x : Text) (w : T (withinTables t)) (few : length (t .store) + length x ≤ maxStore) where

@@ -1,5 +1,6 @@
 -- What holds of lent memory between events: every row lies where it should and refers to rows that are there, and no string and no
--- learned production stands twice. A literal is refused where an entry has its text, so that equal numbers and equal texts are the same thing.
+-- learned production stands twice. The reader refuses a literal where an entry has its text, and the writer writes
+-- a hit, so that equal numbers and equal texts are the same thing.
 use Prim.Native.Nat.{ℕ, _+_, _/_, _≤_, _<_}
 use mathlib.Core.Path.{_≡_}
 use mathlib.Core.Bool.{false}

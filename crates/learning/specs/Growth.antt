@@ -10,7 +10,7 @@ use Rattle.format.specs.Grammar.{kindNumber, productionFor, firstFit, learnedAf
 use Rattle.format.specs.Context.{Context}
 use Rattle.format.specs.Lists.{withinGrammars}
 use Rattle.layout.specs.Meaning.{Memory}
-use Rattle.productions.proofs.Known.{Numbered}
+use Rattle.productions.specs.Numbered.{Numbered}
 use Rattle.state.specs.declared.State.{State}
 use Rattle.standing.specs.Standing.{countsOf, contextOf, Standing}
 use Rattle.event_code.specs.Parts.{learnedOf}

@@ -24,6 +24,7 @@ use Rattle.layout.specs.Meaning.{Memory, Counts, nameAt, kindAt, carries, carri
 use Rattle.layout.specs.Tidy.{Distinct, Grammars}
 use Rattle.layout.proofs.Productions.{name-test, kind-test, carried-test, kind-at, learned-count, learned-as, learned-at, learned-hit}
 use Rattle.productions.specs.Locate.{hasCells, hasKey}
+pub use Rattle.productions.specs.Numbered.{Numbered}
 use Rattle.productions.proofs.Located.{cells-row, row-cells, locate-hit, locate-miss}
 
 -- ---- element grammars
@@ -96,13 +97,6 @@ module _ (ev : Event Text) where
       next (some x) = let z : suc (length l + x .0) ≡ suc (length l) + x .0 = omega arith in λ i. some (z i, x .1)
 
 -- ---- learned productions
-
--- The event is of a kind that can be learned, and i is its name's number, or 0 where it has none.
-pub record Numbered (m : Memory) (c : Counts) (ev : Event Text) (i : ℕ) : Type 0 where
-  pub kind : kindNumber (kindOf ev) < 7
-  pub name : nameOf ev ≡ carriedName m (kindOf ev) i
-  pub below : i < c .names
-  pub plain : carries (kindOf ev) ≡ false → i ≡ 0
 
 -- The event's production stands in a row of the element and state, and v rows of its key follow.
 pub record Taught (m : Memory) (c : Counts) (e : ℕ) (tag : Bool) (ev : Event Text) (i v : ℕ) : Type 0 where

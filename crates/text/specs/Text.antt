@@ -10,7 +10,7 @@ use lib.Dec.{eqb, leb}
 abbrev pub Text : Type 0
 Text = List ℕ
 
--- The code points of a literal.
+-- The code points of a string of this language.
 unfoldable pub text : String → Text
 text String.[] = []
 text (String._∷_ c s) = code c ∷ text s

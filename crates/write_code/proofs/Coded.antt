@@ -23,9 +23,10 @@ use Rattle.write_form.specs.Form.{moved}
 use Rattle.event_code.specs.Parts.{partsBits, under, keptParts, documentParts, tagParts, contentParts, fixedParts, learnedPart, teachesIn, PartsFit, CodeFits}
 use Rattle.event_code.proofs.Parts.{fixed-fits, learned-fits, parts-length}
 use Rattle.event_code.proofs.Codes.{fixed-coded, fixed-none, learned-coded}
-use Rattle.write_code.specs.declared.Newer.{Newer}
-use Rattle.write_code.specs.Coding.{CodeReady, Newest, rowOr, Coded}
-use Rattle.write_code.proofs.Sought.{mode-is}
+use Rattle.fitting.specs.declared.Newer.{Newer}
+use Rattle.fitting.specs.Fitting.{rowOr, Newest}
+use Rattle.fitting.proofs.Sought.{mode-is}
+use Rattle.write_code.specs.Coding.{CodeReady, Coded}
 
 -- ---- where a kind can stand
 

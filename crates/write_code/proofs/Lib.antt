@@ -1,4 +1,2 @@
 pub mod Names
-pub mod Sought
-pub mod Fitting
 pub mod Coded

@@ -1,6 +1,5 @@
 -- A name's row, by its URI's row and its local name's.
 use Prim.Native.Nat.{ℕ, _<_}
-use native.Mathlib.Omega.{arith}
 use mathlib.Core.Path.{_≡_, refl, sym, ap, _∙_}
 use mathlib.Core.Bool.{true, false, true≢false}
 use borrow.Author.Tests.{eqb-true, eq-eqb}
@@ -17,10 +16,8 @@ use Rattle.layout.specs.Meaning.{Memory, uriText, nameAt}
 use Rattle.layout.specs.Tidy.{Tidy}
 use Rattle.state.specs.declared.State.{State}
 use Rattle.standing.specs.Standing.{countsOf}
-use Rattle.write_code.specs.Coding.{NameFound}
-
-pub apart : {number row : ℕ} → At number row ≡ Nothing → ⊥
-apart e = let z : _≡_ {A = ℕ} 0 1 = cc in omega arith
+use Rattle.fitting.specs.Fitting.{NameFound}
+use Rattle.fitting.proofs.Sought.{apart}
 
 -- A text is not unequal to itself.
 same-text : (x y : Text) → x ≡ y → eqText x y ≡ false → ⊥

@@ -1,77 +1,32 @@
 -- What a function asks that writes an event's code, and what it leaves, in the definitions' terms.
-use Prim.Native.Nat.{ℕ, _+_, _-_, _≤_, _<_}
+use Prim.Native.Nat.{ℕ, _+_, _≤_, _<_}
 use mathlib.Core.Path.{_≡_}
-use mathlib.Core.Bool.{Bool, true, false, cond}
+use mathlib.Core.Bool.{true, false, cond}
 use mathlib.Core.List.{List}
 use mathlib.Core.Option.{none, some}
-use lib.ListN.{length}
 use lib.Dec.{T}
 use Rattle.text.specs.Text.{Text}
-use Rattle.format.specs.Event.{QName, Event, kindOf}
-use Rattle.format.specs.Sizes.{maxLearned}
+use Rattle.format.specs.Event.{Event, kindOf}
 use Rattle.format.specs.Settings.{Settings}
-use Rattle.format.specs.Grammar.{Production, Code, codeOf, codeBits, kindNumber, unnamed, productionFor, firstFit, learnedIn, learnedAfter, taught}
+use Rattle.format.specs.Grammar.{Code, codeOf, codeBits, kindNumber, unnamed, productionFor, firstFit, learnedAfter, taught}
 use Rattle.format.specs.Context.{levelsIn}
 use Rattle.rows.specs.declared.Found.{Found}
-use Rattle.rows.specs.declared.Found.the-variants.{At, Nothing}
-use Rattle.layout.specs.Meaning.{Memory, nameAt, learnedFrom}
+use Rattle.layout.specs.Meaning.{Memory}
 use Rattle.layout.specs.Writer.{writerMemory}
 use Rattle.productions.proofs.Known.{Numbered}
 use Rattle.state.specs.declared.State.{State}
 use Rattle.standing.specs.Standing.{countsOf, contextOf, Standing}
-use Rattle.event_code.specs.Parts.{learnedOf}
 use Rattle.write_field.specs.Written.{blankFrom, Put}
 use Rattle.write_form.specs.Form.{midway, moved}
-use Rattle.write_code.specs.declared.Newer.{Newer}
+use Rattle.fitting.specs.Fitting.{Sought, learnedHere}
 use Rattle.write_code.specs.declared.Coding.{Coding}
 
--- The row of the name q, where it is in the tables.
-pub record NameFound (m : Memory) (st : State) (q : QName Text) (r : Found) : Type 0 where
-  pub below : {number row : ℕ} → r ≡ At number row → row < st .names
-  pub is : {number row : ℕ} → r ≡ At number row → nameAt m row ≡ q
-  pub missing : r ≡ Nothing → (n : ℕ) → n < st .names → nameAt m n ≡ q → ⊥
-
--- The event has this kind; in an element, a learned production of it would carry the name with this row, or none fits it.
-pub record Sought (m : Memory) (st : State) (kind : ℕ) (name : Found) (e : Event Text) : Type 0 where
-  pub kind-is : kind ≡ kindNumber (kindOf e)
-  pub found : {number row : ℕ} → name ≡ At number row → 4 ≤ st .mode → Numbered m (countsOf st) e row
-  pub missing : name ≡ Nothing → (n : ℕ) (tag : Bool) → n < st .names → firstFit (learnedIn (nameAt m n) tag (learnedFrom m (st .learned))) e ≡ none
+-- ---- what is asked
 
 pub record CodeReady (stream w : List ℕ) (st : State) : Type 0 where
   pub blank : T (blankFrom stream (st .at))
   pub near : st .at ≤ midway
   pub standing : Standing (writerMemory w) st
-
--- ---- the learned production that fits
-
-pub record NumberedFits (found : Found) (count : ℕ) : Type 0 where
-  pub below : {number row : ℕ} → found ≡ At number row → number < count
-
-unfoldable pub newerOf : Found → ℕ → Newer
-newerOf (At number row) count = record { count = count; hit = true; number = count - 1 - number }
-newerOf Nothing count = record { count = count; hit = false; number = 0 }
-
-unfoldable pub rowOr : Found → ℕ
-rowOr (At number row) = row
-rowOr Nothing = 0
-
--- The productions that the innermost element has learned in this state.
-abbrev pub learnedHere : Memory → State → List Production
-learnedHere m st = learnedOf (contextOf m st .state) (contextOf m st .learned)
-
-pub record Fitting (m : Memory) (st : State) (name : Found) (e : Event Text) (r : Newer) : Type 0 where
-  pub count : length (learnedHere m st) ≡ r .count
-  pub hit : r .hit ≡ true → firstFit (learnedHere m st) e ≡ some (r .number, productionFor e)
-  pub named : r .hit ≡ true → Numbered m (countsOf st) e (rowOr name)
-  pub miss : r .hit ≡ false → firstFit (learnedHere m st) e ≡ none
-
-pub record Newest (m : Memory) (st : State) (kind : ℕ) (name : Found) (r : Newer) : Type 0 where
-  pub few : r .count ≤ maxLearned
-  pub below : r .hit ≡ true → r .number < r .count
-  pub inner : r .hit ≡ true → 4 ≤ st .mode
-  pub kinds : r .hit ≡ true → 2 ≤ kind
-  -- for any event that this kind and name stand for
-  pub fitting : (e : Event Text) → Sought m st kind name e → Fitting m st name e r
 
 -- ---- the code
 

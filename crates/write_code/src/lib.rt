@@ -1,11 +1,12 @@
 // The event code of the strict form, written: a learned production where one fits. What the functions ask and leave is in specs/Coding.antt.
 ghost use mathlib.Core.Path.{_≡_};
-ghost use Rattle.standing.specs.Standing.{countsOf, Standing};
+ghost use Rattle.standing.specs.Standing.{countsOf};
 ghost use Rattle.layout.specs.Tidy.{Tidy};
 ghost use Rattle.settings.specs.Meant.{settingsFrom};
 ghost use Rattle.layout.specs.Writer.{writerMemory};
 ghost use Rattle.write_form.specs.Form.{moved};
-ghost use Rattle.write_code.specs.Coding.{NameFound, CodeReady, NumberedFits, newerOf, Newest, rowOr, Coded};
+ghost use Rattle.fitting.specs.Fitting.{NameFound, rowOr};
+ghost use Rattle.write_code.specs.Coding.{CodeReady, Coded};
 use event_code::Code;
 use rows::Found;
 use settings::Options;
@@ -15,15 +16,6 @@ use state::State;
 const URIS: usize = 0;
 
 const NAMES: usize = 48;
-
-const LEARNED: usize = 1968;
-
-// How many productions the innermost element has learned in this state, and the number of the one that fits.
-struct Newer {
-    count: u32,
-    hit: bool,
-    number: u32,
-}
 
 // Whether a production fits, and a learned one; whether it teaches one; the row of the event's name, or 0; and the state behind the code.
 pub struct Coding {
@@ -42,44 +34,6 @@ pub fn name_of(st: State, uri: &[u32], local: &[u32], work: &[u32]) -> Found
     match rows::find(work, work, URIS, st.uris, true, 0, uri) {
         Found::At { number, row } => rows::find(work, work, NAMES, st.names, false, row, local),
         Found::Nothing => Found::Nothing,
-    }
-}
-
-// The newest learned production has number 0, and the last row.
-fn numbered(found: Found, count: u32) -> Newer
-    requires { ⌜ NumberedFits found count ⌝ }
-    ensures { λ r. ⌜ r ≡ newerOf found count ⌝ }
-{
-    match found {
-        Found::At { number, row } => Newer {
-            count,
-            hit: true,
-            number: count - 1 - number,
-        },
-        Found::Nothing => Newer {
-            count,
-            hit: false,
-            number: 0,
-        },
-    }
-}
-
-// The learned production of this kind whose name has this row.
-fn newest(st: State, kind: u32, name: Found, work: &[u32]) -> Newer
-    requires { ⌜ Standing (writerMemory (now work)) st ⌝ }
-    ensures { λ r. ⌜ Newest (writerMemory (now (work .entry))) st kind name r ⌝ }
-{
-    if st.mode < 4 {
-        return numbered(Found::Nothing, 0);
-    }
-    let key = learning::key_of(st);
-    let count = rows::count(work, LEARNED, st.learned, false, key);
-    match name {
-        Found::At { number, row } => numbered(
-            productions::locate(work, LEARNED, st.learned, key, kind, row),
-            count,
-        ),
-        Found::Nothing => numbered(Found::Nothing, count),
     }
 }
 
@@ -119,7 +73,7 @@ pub fn put_code(
     requires { ⌜ CodeReady (now stream) (now work) st ⌝ }
     ensures { λ r. ⌜ Coded (settingsFrom o) (writerMemory (now (work .entry))) st kind name (now (stream .entry)) (now (stream .exit)) r ⌝ }
 {
-    let n = newest(st, kind, name, work);
+    let n = fitting::newest(st, kind, name, work);
     let row = row_of(name);
     if n.hit {
         let at = event_code::put_code(

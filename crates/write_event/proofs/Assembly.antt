@@ -1,42 +1,40 @@
 -- One event from its parts: the code, the strings, what it leaves in the grammars.
-use Prim.Native.Nat.{ℕ, _+_, _*_, _≤_, _<_}
+use Prim.Native.Nat.{ℕ, _≤_, _<_}
 use native.Mathlib.Omega.{arith}
 use mathlib.Core.Path.{_≡_, refl, sym, ap, subst, _∙_}
-use mathlib.Core.Bool.{Bool, true, false, cond}
-use mathlib.Core.List.{List, [], _∷_, _++_}
+use mathlib.Core.Bool.{true, false}
+use mathlib.Core.List.{List}
 use mathlib.Core.Option.{Option, none, some}
 use lib.ListN.{length}
-use Rattle.fields.specs.Refusal.{Refusal, numberOf, limit, shape, place}
+use Rattle.fields.specs.Refusal.{Refusal, numberOf}
 use Rattle.fields.specs.Field.{Alignment}
 use Rattle.text.specs.Text.{Text, Span, inside, part}
 use Rattle.format.specs.Event.{Event, startDocument, endDocument, endElement, startElement, attribute, characters, comment, instruction, mapEvent, stringsOf, kindOf}
 use Rattle.format.specs.Settings.{Settings}
 use Rattle.format.specs.Sizes.{writerWork}
-use Rattle.format.specs.Grammar.{State, Production, Code, codeOf, codeBits, kindNumber}
-use Rattle.format.specs.Context.{Context, levelsIn, nameItems, items, afterItems, after, afterCode, next}
-use Rattle.format.specs.Strict.{itemsBits, codedBits, eventBits}
+use Rattle.format.specs.Grammar.{State, Production, kindNumber}
+use Rattle.format.specs.Context.{nameItems, items, after, afterCode, next}
+use Rattle.format.specs.Strict.{codedBits, eventBits}
 use Rattle.format.specs.Lists.{every, withinGrammars}
 use Rattle.format.specs.Writer.{firstFailed, contentTests, faultOf}
-use Rattle.layout.specs.Meaning.{Memory, tablesIn, contextIn}
+use Rattle.layout.specs.Meaning.{contextIn}
 use Rattle.layout.specs.Writer.{writerMemory}
 use Rattle.productions.proofs.Known.{Numbered}
 use Rattle.state.specs.declared.State as state
-use Rattle.standing.specs.Standing.{countsOf, contextOf, Standing, Kept}
+use Rattle.standing.specs.Standing.{countsOf, contextOf, Standing}
 use Rattle.standing.proofs.Kept.{kept-standing, kept-context}
 use Rattle.standing.proofs.Laws.{reached-standing}
 use Rattle.literal.specs.Fault.{faultNumber}
 use Rattle.literal.proofs.Laws.{fault-none, some-fault, none-fault, refusal-number}
 use Rattle.write_field.specs.Written.{Put}
 use Rattle.write_field.proofs.Written.{put-then, put-blank}
-use Rattle.write_form.specs.Form.{moved}
 use Rattle.write_form.specs.declared.Sent.{Sent}
-use Rattle.write_content.specs.Sending.{tablesOf, Sending, Wrote}
+use Rattle.write_content.specs.Sending.{tablesOf, Wrote}
 use Rattle.learning.specs.declared.Grown.{Grown}
 use Rattle.learning.specs.Growth.{grownContext, Grows, Growth}
 use Rattle.write_code.specs.Coding.{Encoded, CodeSent}
 use Rattle.write_code.specs.declared.Coding.{Coding}
 use Rattle.write_event.specs.Step.{productionOf, StringsFit, StringsSent, Done, Step}
-use Rattle.write_event.specs.declared.Stepped.{Stepped}
 use Rattle.write_event.proofs.Fault.{fault-shape, fault-place, fault-content, fault-limit, fault-none-of}
 
 -- No event has more than three strings.

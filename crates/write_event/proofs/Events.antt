@@ -21,8 +21,8 @@ use Rattle.event.specs.Cells.{meaning}
 use Rattle.event.specs.declared.Event as declared
 use Rattle.event.specs.declared.Event.the-variants.{StartDocument, EndDocument, StartElement, Attribute, EndElement, Characters, Comment, Instruction}
 use Rattle.event.proofs.Event.{the-type}
-use Rattle.write_code.specs.Coding.{NameFound, Sought}
-use Rattle.write_code.proofs.Sought.{sought-start, sought-attribute, sought-none}
+use Rattle.fitting.specs.Fitting.{NameFound, Sought}
+use Rattle.fitting.proofs.Sought.{sought-start, sought-attribute, sought-none}
 
 -- ---- strings
 

@@ -1,9 +1,9 @@
 -- What is wrong with a stored event, by its parts: no production that fits, a string outside the store, a string that is refused, the sizes of the
 -- grammars.
 use mathlib.Core.Path.{_≡_, refl, sym, ap, _∙_}
-use mathlib.Core.Bool.{Bool, true, false, cond, true≢false}
+use mathlib.Core.Bool.{true, false, true≢false}
 use mathlib.Core.List.{List, [], _∷_, _++_, append-assoc}
-use mathlib.Core.Option.{Option, none, some}
+use mathlib.Core.Option.{none, some}
 use Rattle.fields.specs.Refusal.{Refusal, limit, shape, place}
 use Rattle.fields.proofs.Tests.{split}
 use Rattle.text.specs.Text.{Text, Span, inside, part}

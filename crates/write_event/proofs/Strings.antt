@@ -2,22 +2,21 @@
 use Prim.Native.Nat.{ℕ, _≤_, _<_}
 use native.Mathlib.Omega.{arith}
 use native.Mathlib.Decide.{decLe}
-use mathlib.Core.Path.{_≡_, refl, sym, ap, subst, _∙_}
-use mathlib.Core.Bool.{Bool, true, false, cond, not, true≢false}
-use mathlib.Core.List.{List, [], _∷_, _++_, map}
-use mathlib.Core.Option.{none, some}
-use lib.ListN.{length}
+use mathlib.Core.Path.{_≡_, refl, sym, subst}
+use mathlib.Core.Bool.{Bool, true, false, not}
+use mathlib.Core.List.{List, [], _∷_, _++_}
+use mathlib.Core.Option.{some}
 use Rattle.fields.specs.Field.{Alignment}
 use Rattle.fields.proofs.Tests.{split}
 use Rattle.text.specs.Text.{Text}
-use Rattle.format.specs.Event.{QName, Event, startDocument, endDocument, endElement, startElement, attribute, characters, comment, instruction, kindOf, nameOf, SE, AT, EE, CH}
+use Rattle.format.specs.Event.{QName, Event, endElement, startElement, attribute, characters, comment, instruction, kindOf, nameOf}
 use Rattle.format.specs.Sizes.{maxNames}
 use Rattle.format.specs.Tables.{value, target, plain}
-use Rattle.format.specs.Grammar.{kindNumber, isWildcard, productionFor, unnamed, startTag, elementContent}
+use Rattle.format.specs.Grammar.{kindNumber, isWildcard, productionFor, unnamed}
 use Rattle.format.specs.Context.{Item, item, nameItems, items, afterItems, characterRole}
 use Rattle.format.specs.Strict.{itemsBits}
 use Rattle.format.specs.Writer.{firstFailed, contentTests}
-use Rattle.layout.specs.Meaning.{nameAt, carriedName}
+use Rattle.layout.specs.Meaning.{nameAt}
 use Rattle.layout.specs.Writer.{writerMemory}
 use Rattle.productions.proofs.Known.{Numbered, start-numbered, attribute-numbered, end-numbered, characters-numbered}
 use Rattle.state.specs.Stack.{topOf}
@@ -25,13 +24,12 @@ use Rattle.state.specs.declared.State.{State}
 use Rattle.standing.specs.Standing.{countsOf, contextOf, Standing}
 use Rattle.standing.proofs.Laws.{startTag-state, elementContent-state, top-below}
 use Rattle.standing.proofs.Kept.{kept-refl}
-use Rattle.literal.specs.Fault.{faultNumber}
 use Rattle.literal.proofs.Laws.{none-fault}
 use Rattle.write_field.specs.Written.{Put}
 use Rattle.write_form.specs.declared.Sent.{Sent}
 use Rattle.write_content.specs.Sending.{Ready, Wrote, Sending, NameRow, nameAs}
 use Rattle.write_code.specs.declared.Coding.{Coding}
-use Rattle.write_event.specs.Step.{productionOf, StringsFit, StringsSent, AttributeSent, InstructionSent}
+use Rattle.write_event.specs.Step.{productionOf, StringsFit, StringsSent}
 
 -- ---- names
 

@@ -1,7 +1,7 @@
 -- What writing one event asks and leaves, in the definitions' terms.
 use Prim.Native.Nat.{ℕ, _+_, _≤_, _<_}
 use mathlib.Core.Path.{_≡_}
-use mathlib.Core.Bool.{Bool, true, false, cond, not}
+use mathlib.Core.Bool.{true, cond, not}
 use mathlib.Core.List.{List, [], _∷_, _++_}
 use mathlib.Core.Option.{some}
 use lib.ListN.{length}
@@ -18,7 +18,7 @@ use Rattle.format.specs.Strict.{eventBits}
 use Rattle.format.specs.Writer.{faultOf}
 use Rattle.layout.specs.Meaning.{nameAt}
 use Rattle.layout.specs.Writer.{writerMemory}
-use Rattle.productions.proofs.Known.{Numbered}
+use Rattle.productions.specs.Numbered.{Numbered}
 use Rattle.state.specs.declared.State.{State}
 use Rattle.standing.specs.Standing.{countsOf, contextOf, Standing}
 use Rattle.literal.specs.Fault.{faultNumber}

@@ -1,6 +1,7 @@
 // One event of a list, written: its code, its strings, and what it leaves in tables and grammars. What the functions ask and leave is in
 // specs/Step.antt.
 ghost use mathlib.Core.Path.{_≡_};
+ghost use mathlib.Core.Bool.{not};
 ghost use Prim.Native.Nat.{_+_, _≤_};
 ghost use Rattle.text.specs.Text.{inside, part};
 ghost use Rattle.format.specs.Event.{kindOf, mapEvent, stringsOf};
@@ -11,7 +12,7 @@ ghost use Rattle.layout.specs.Writer.{writerMemory};
 ghost use Rattle.settings.specs.Meant.{settingsFrom};
 ghost use Rattle.read_field.specs.View.{alignmentOf};
 ghost use Rattle.write_form.specs.Form.{midway};
-ghost use Rattle.write_content.specs.Sending.{Ready};
+ghost use Rattle.write_content.specs.Sending.{Ready, ReadyName, Sending, NameRow, nameAs};
 ghost use Rattle.write_code.specs.Coding.{CodeReady, CodeSent};
 ghost use Rattle.write_event.specs.Step.{NamedCode, StringsFit, StringsSent, AttributeFit, AttributeSent, InstructionSent, StepReady, Step};
 use event::Event;
@@ -137,6 +138,34 @@ fn put_event_code(
     }
 }
 
+// The name of a start element or an attribute.
+fn put_name(
+    aligned: bool,
+    stream: &mut [u8],
+    code: Coding,
+    attr: bool,
+    uri: &[u32],
+    local: &[u32],
+    work: &mut [u32],
+) -> Sent
+    requires { ⌜ ReadyName (now stream) (now work) (code .state) (code .learned) (code .row) (record { uri = now uri; local = now local }) ⌝ }
+    ensures { λ r. ⌜ Sending (alignmentOf aligned) (nameAs (not (code .learned)) attr (record { uri = now (uri .entry); local = now (local .entry) })) (now (stream .entry)) (now (work .entry)) (code .state) (now (stream .exit)) (now (work .exit)) (r .number) (r .state) ⌝ }
+    ensures { λ r. ⌜ NameRow (record { uri = now (uri .entry); local = now (local .entry) }) (now (work .exit)) r ⌝ }
+{
+    let st = code.state;
+    write_content::put_name(
+        aligned,
+        stream,
+        st,
+        attr,
+        uri,
+        local,
+        code.learned,
+        code.row,
+        work,
+    )
+}
+
 fn put_attribute(
     aligned: bool,
     stream: &mut [u8],
@@ -149,18 +178,7 @@ fn put_attribute(
     requires { ⌜ AttributeFit (now stream) (now work) code (record { uri = now uri; local = now local }) ⌝ }
     ensures { λ r. ⌜ AttributeSent (alignmentOf aligned) (record { uri = now (uri .entry); local = now (local .entry) }) (now (value .entry)) code (now (stream .entry)) (now (work .entry)) (now (stream .exit)) (now (work .exit)) r ⌝ }
 {
-    let st = code.state;
-    let sent = write_content::put_name(
-        aligned,
-        stream,
-        st,
-        true,
-        uri,
-        local,
-        code.learned,
-        code.row,
-        work,
-    );
+    let sent = put_name(aligned, stream, code, true, uri, local, work);
     if sent.number != 0 {
         return sent;
     }
@@ -222,17 +240,7 @@ fn put_strings(
         Event::StartElement(uri, local) => {
             let u = text::look_up(text, uri.place, uri.size);
             let l = text::look_up(text, local.place, local.size);
-            write_content::put_name(
-                aligned,
-                stream,
-                st,
-                false,
-                u,
-                l,
-                code.learned,
-                code.row,
-                work,
-            )
+            put_name(aligned, stream, code, false, u, l, work)
         }
         Event::Attribute(uri, local, value) => {
             let u = text::look_up(text, uri.place, uri.size);
@@ -242,14 +250,8 @@ fn put_strings(
         }
         Event::Characters(value) => {
             let v = text::look_up(text, value.place, value.size);
-            bare(write_content::put_value(
-                aligned,
-                stream,
-                st,
-                state::top(st.stack) as u32,
-                v,
-                work,
-            ))
+            let key = state::top(st.stack) as u32;
+            bare(write_content::put_value(aligned, stream, st, key, v, work))
         }
         Event::Comment(x) => {
             let y = text::look_up(text, x.place, x.size);

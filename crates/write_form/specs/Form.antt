@@ -16,7 +16,7 @@ use Rattle.write_field.specs.Written.{blankFrom, farthest, Put}
 use Rattle.literal.specs.Fault.{faultNumber, stringFault}
 use Rattle.write_form.specs.declared.Sent.{Sent}
 
--- The farthest position that a string is written at: what one event writes behind it stays below `farthest`.
+-- The farthest position at which a string of an event begins: what the event writes from there on stays below `farthest`.
 abbrev pub midway : ℕ
 midway = 2147483648
 

@@ -1,6 +1,5 @@
-// The forms of a string in a stream: a hit by its compact identifier, or a literal, whose text the writer keeps behind its own text store, with a row
+// The forms of a string in a stream: a hit by its compact identifier, or a literal, whose text the writer keeps at the end of its own text store, with a row
 // in a table or without. Each is judged before anything is written. The definitions that the contracts cite are in specs/Form.antt.
-ghost use mathlib.Core.Path.{_≡_};
 ghost use mathlib.Core.List.{_++_};
 ghost use Rattle.fields.specs.Field.{unsignedBits, choiceBits};
 ghost use Rattle.read_field.specs.View.{alignmentOf};
@@ -11,7 +10,8 @@ use state::State;
 // Where the writer's text store begins in work memory, behind the tables.
 const STORE: usize = 8192;
 
-// What a string that was sent leaves: the number of its refusal or 0, the row that it has in its table or 0, and the state behind it.
+// What a string that was sent leaves: the number of its refusal or 0, the row of a URI or a name, and 0 for other
+// strings, and the state behind it.
 pub struct Sent {
     pub number: u32,
     pub row: u32,

@@ -44,7 +44,7 @@ pub record Attempted (x : Answer (List ℕ)) (stream stream′ : List ℕ) (r : 
 
 -- ---- the list
 
--- Zeros, and enough of them.
+-- The octets are zeros; octets and work memory are long enough.
 pub record ListFits (stream w : List ℕ) : Type 0 where
   pub blank : T (blankFrom stream 0)
   pub octets : maxStream ≤ length stream

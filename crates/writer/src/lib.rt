@@ -43,10 +43,10 @@ fn put_cookie(stream: &mut [u8]) -> usize
     requires { ⌜ HeaderFits (now stream) ⌝ }
     ensures { λ r. ⌜ CookiePut (now (stream .entry)) (now (stream .exit)) r ⌝ }
 {
-    let first = write_field::put_number(true, stream, 0, 8, 36);
-    let second = write_field::put_number(true, stream, first, 8, 69);
-    let third = write_field::put_number(true, stream, second, 8, 88);
-    write_field::put_number(true, stream, third, 8, 73)
+    let first = write_field::put_number(true, stream, 0, 8, 0x24);
+    let second = write_field::put_number(true, stream, first, 8, 0x45);
+    let third = write_field::put_number(true, stream, second, 8, 0x58);
+    write_field::put_number(true, stream, third, 8, 0x49)
 }
 
 // The header (EXI 5): the cookie if set, then bits 10, no options, version 1.
@@ -56,9 +56,20 @@ fn put_header(o: Options, stream: &mut [u8]) -> usize
 {
     if o.cookie {
         let at = put_cookie(stream);
-        return write_field::put_number(true, stream, at, 8, 128);
+        return write_field::put_number(true, stream, at, 8, 0x80);
     }
-    write_field::put_number(true, stream, 0, 8, 128)
+    write_field::put_number(true, stream, 0, 8, 0x80)
+}
+
+// A refusal of the event that comes next.
+fn stopped(number: u32, t: State) -> Run
+    ensures { λ r. ⌜ r ≡ record { number = number; index = t .events; at = t .at } ⌝ }
+{
+    Run {
+        number,
+        index: t.events,
+        at: t.at,
+    }
 }
 
 // The events, one behind the other.
@@ -77,35 +88,19 @@ fn put_events(
     let mut cell: usize = 0;
     while cell < events.len() {
         if t.events == 4096 {
-            return Run {
-                number: LIMIT,
-                index: t.events,
-                at: t.at,
-            };
+            return stopped(LIMIT, t);
         }
         if events.len() - cell < 7 {
-            return Run {
-                number: SHAPE,
-                index: t.events,
-                at: t.at,
-            };
+            return stopped(SHAPE, t);
         }
         match event::load(events, cell) {
             Loaded::Shape => {
-                return Run {
-                    number: SHAPE,
-                    index: t.events,
-                    at: t.at,
-                };
+                return stopped(SHAPE, t);
             }
             Loaded::Whole(e) => {
                 let r = write_event::step(o, stream, t, text, e, work);
                 if r.number != 0 {
-                    return Run {
-                        number: r.number,
-                        index: t.events,
-                        at: t.at,
-                    };
+                    return stopped(r.number, t);
                 }
                 t = r.state;
                 t.events += 1;
@@ -114,11 +109,7 @@ fn put_events(
         cell += 7;
     }
     if t.mode != 3 {
-        return Run {
-            number: SHAPE,
-            index: t.events,
-            at: t.at,
-        };
+        return stopped(SHAPE, t);
     }
     Run {
         number: 0,
@@ -164,7 +155,7 @@ fn put_list(
     }
 }
 
-// The same, after what the lent parts and the settings are asked first.
+// First tests the lent lengths and the settings.
 fn attempt(
     s: Settings,
     stream: &mut [u8],
@@ -193,7 +184,7 @@ fn attempt(
 }
 
 // Writes the strict form of the list that the event cells and the text store hold: the octets, and zeros behind them. After a refusal every octet is zero.
-// Work memory is zero then, too.
+// Work memory is zero after either.
 pub fn write(
     s: Settings,
     stream: &mut [u8],
@@ -205,11 +196,11 @@ pub fn write(
     ensures { λ r. ⌜ now (stream .exit) ≡ filled (length (now (stream .entry))) (answerOf s (now (stream .entry)) (eventsOf (now (events .entry))) (now (text .entry)) (now (work .entry))) ⌝ }
     ensures { λ r. ⌜ now (work .exit) ≡ replicate (length (now (work .entry))) 0 ⌝ }
 {
-    let r = attempt(s, stream, events, text, work);
+    let answer = attempt(s, stream, events, text, work);
     clear::cells(work);
-    if r.number != 0 {
+    if answer.number != 0 {
         clear::octets(stream);
-        return r;
+        return answer;
     }
-    r
+    answer
 }

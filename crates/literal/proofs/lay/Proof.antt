@@ -5,8 +5,6 @@ use borrow.Author.Needs.{needs}
 use Rattle.literal.proofs.Turn.{Laid, none-laid, one-laid, all-laid}
 use Rattle.literal.proofs.lay.Statement.{statement}
 use Rattle.literal.proofs.lay.Tie as tie
-use Rattle.literal.proofs.lay.Reads as reads
-use Rattle.literal.proofs.lay.Lts as lts
 
 abbrev Inv-loop : tie.InvT-loop
 Inv-loop cells₀ at x i₀ cells i = Laid cells₀ at x cells i

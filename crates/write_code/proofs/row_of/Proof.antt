@@ -1,6 +1,6 @@
 -- `row_of` meets its contract.
 use borrow.Author.Needs.{needs}
-use Rattle.write_code.specs.Coding.{rowOr}
+use Rattle.fitting.specs.Fitting.{rowOr}
 use Rattle.write_code.proofs.row_of.Statement.{statement}
 use Rattle.write_code.proofs.row_of.Tie as tie
 

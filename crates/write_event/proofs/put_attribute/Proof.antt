@@ -5,7 +5,7 @@ use Rattle.write_event.proofs.put_attribute.Statement.{statement}
 use Rattle.write_event.proofs.put_attribute.Tie as tie
 
 put-name-requires : tie.Need-put-name-requires
-put-name-requires c κs = name-fits (c .before .before .before .before .before .before .before .before .pre)
+put-name-requires c κs = name-fits (c .before .before .before .before .before .before .before .pre)
 
 same-length : tie.Need-same-length
 same-length c = search needs
@@ -16,14 +16,14 @@ same-length-2 c = search needs
 returns : tie.Need-returns
 returns c =
     name-refused
-    (c .before .before .before .before .before .before .before .before .before .before .before .before .before .before .before .args .value .now)
+    (c .before .before .before .before .before .before .before .before .before .before .before .before .before .before .args .value .now)
     (c .before .before .before .before .before .before .put-name .ensures .0)
     (c .if1 .taken)
 
 put-value-requires : tie.Need-put-value-requires
 put-value-requires c κs =
     let b = c .before .before .before .before .before .before .before .before .before in
-    value-fits (b .before .before .before .before .before .before .before .before .before .pre) (b .put-name .ensures .0) (b .put-name .ensures .1) (c .before .before .before .if1 .left)
+    value-fits (b .before .before .before .before .before .before .before .before .pre) (b .put-name .ensures .0) (b .put-name .ensures .1) (c .before .before .before .if1 .left)
 
 same-length-3 : tie.Need-same-length-3
 same-length-3 c = search needs
@@ -34,7 +34,7 @@ same-length-4 c = search needs
 returns-2 : tie.Need-returns-2
 returns-2 c =
     value-behind
-    (c .before .before .before .before .before .before .before .before .before .before .before .before .before .before .before .before .before .before .before .before .before .before .before .before .args .value .now)
+    (c .before .before .before .before .before .before .before .before .before .before .before .before .before .before .before .before .before .before .before .before .before .before .before .args .value .now)
     (c .before .before .before .before .before .before .before .before .before .before .before .before .before .before .before .put-name .ensures .0)
     (c .before .before .before .before .before .before .before .before .before .before .before .before .before .before .before .put-name .ensures .1)
     (c .before .before .before .before .before .before .before .before .before .if1 .left)

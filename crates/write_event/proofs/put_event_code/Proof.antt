@@ -4,7 +4,7 @@ use borrow.Author.Needs.{needs}
 use Rattle.format.specs.Event.{kindOf, nameOf, mapName, mapEvent}
 use Rattle.format.specs.Grammar.{kindNumber}
 use Rattle.event.specs.Cells.{meaning, asName}
-use Rattle.write_code.proofs.Sought.{sought-end, sought-characters}
+use Rattle.fitting.proofs.Sought.{sought-end, sought-characters}
 use Rattle.write_event.proofs.Events.{sought-other}
 use Rattle.write_event.proofs.put_event_code.Statement.{statement}
 use Rattle.write_event.proofs.put_event_code.Tie as tie

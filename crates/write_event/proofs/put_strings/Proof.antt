@@ -49,16 +49,16 @@ look-up-requires-6 c κs = search needs
 
 top-requires : tie.Need-top-requires
 unfolding mapEvent meaning
-top-requires c κs = let b = c .before .before .before in top-asks (rw (b .e3 .given .1) at (b .before .before .before .before .before .before .pre))
+top-requires c κs = let b = c .before .before in top-asks (rw (b .e3 .given .1) at (b .before .before .before .before .before .before .pre))
 
-cast-put-value : tie.Need-cast-put-value
-cast-put-value c = search needs
+cast-key : tie.Need-cast-key
+cast-key c = search needs
 
 put-value-requires : tie.Need-put-value-requires
 unfolding mapEvent meaning
 put-value-requires c κs =
     let b = c .before .before .before .before .before in
-    characters-ask (rw (b .e3 .given .1) at (b .before .before .before .before .before .before .pre)) (c .before .top .ensures)
+    characters-ask (rw (b .e3 .given .1) at (b .before .before .before .before .before .before .pre)) (c .before .before .top .ensures)
 
 bare-requires : tie.Need-bare-requires
 bare-requires c κs = search needs
@@ -131,7 +131,7 @@ returns-3 c =
     let fit = rw (b .e3 .given .1) at (b .before .before .before .before .before .before .pre) in
     rw (c .bare .ensures, b .e3 .given .1, ← (c .before .before .before .before .before .before .before .before .before .look-up6 .ensures .0))
     (characters-strings _ _ (fit .standing) (in-element fit) _
-    (rw (c .before .before .before .before .before .before .before .top .ensures) at (c .before .before .before .before .before .put-value .ensures)))
+    (rw (c .before .before .before .before .before .before .before .before .top .ensures) at (c .before .before .before .before .before .put-value .ensures)))
 
 same-length-7 : tie.Need-same-length-7
 same-length-7 c = search needs
@@ -177,7 +177,7 @@ put-strings-spec =
     enum-known-e-3
     look-up-requires-6
     top-requires
-    cast-put-value
+    cast-key
     put-value-requires
     bare-requires
     enum-known-e-4
