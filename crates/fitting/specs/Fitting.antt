@@ -25,7 +25,7 @@ use Rattle.fitting.specs.declared.Newer.{Newer}
 
 -- ---- what an event is sought by
 
--- The row of the name q, where it is in the tables.
+-- The row of the name q, where it is in the tables. (The number in At is free.)
 pub record NameFound (m : Memory) (st : State) (q : QName Text) (r : Found) : Type 0 where
   pub below : {number row : ℕ} → r ≡ At number row → row < st .names
   pub is : {number row : ℕ} → r ≡ At number row → nameAt m row ≡ q

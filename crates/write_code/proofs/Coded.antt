@@ -4,7 +4,7 @@ use native.Mathlib.Omega.{arith}
 use mathlib.Core.Path.{_≡_, refl, sym, ap, _∙_}
 use mathlib.Core.Bool.{Bool, true, false, and-false, true≢false}
 use mathlib.Core.List.{List, [], _∷_}
-use mathlib.Core.Option.{none}
+use mathlib.Core.Option.{none, Option·none-ne-some}
 use lib.ListN.{length}
 use lib.Dec.{eqb, leb, ltb}
 use borrow.Author.Tests.{eqb-true, ne-eqb, leb-true, ltb-true, ltb-false}
@@ -128,11 +128,14 @@ module _ (o : Options) {m : Memory} {st : state.State} (h : Standing m st) {kind
   unfolding settingsFrom levelsIn
   learned-sent hit {ps} is put =
       record {
+        row-is = refl;
         sent = λ e s.
             let f = w .fitting e s in
             let x = learned-coded (settingsFrom o) (contextOf m st .learned) (contextOf m st .state) e (n .number) (f .hit hit) in
             record {
               no-code = λ z. absurd (true≢false z);
+              neither = λ z. absurd (true≢false z);
+              unchanged = λ z. absurd (true≢false z);
               encoded = λ _.
                   record {
                     code = x .code;
@@ -141,6 +144,8 @@ module _ (o : Options) {m : Memory} {st : state.State} (h : Standing m st) {kind
                     near = omega (arith, put .next, parts-length (alignmentOf (o .aligned)) ps (learned-asks w hit is), ap length is);
                     moved-is = refl;
                     production = x .production;
+                    strict = λ z. absurd (true≢false z);
+                    fitting = λ _ z. Option·none-ne-some _ (sym z ∙ f .hit hit);
                     row = λ _. f .named hit;
                     taught-is = x .teaches ∙ sym (learned-none (contextOf m st .state) (contextOf m st .learned));
                     new = λ z. absurd (true≢false (sym z));
@@ -160,6 +165,7 @@ module _ (o : Options) {m : Memory} {st : state.State} (h : Standing m st) {kind
     unfolding settingsFrom levelsIn
     none-sent empty =
         record {
+          row-is = refl;
           sent = λ e s.
               let f = w .fitting e s in
               record {
@@ -167,6 +173,8 @@ module _ (o : Options) {m : Memory} {st : state.State} (h : Standing m st) {kind
                     fixed-none (settingsFrom o) (contextOf m st .learned) (contextOf m st .state) e (f .miss miss)
                     (rw (mode-is h, f .count, ← s .kind-is) empty);
                 encoded = λ z. absurd (true≢false (sym z));
+                neither = λ _. (refl, refl);
+                unchanged = λ _. (refl, refl);
               };
         }
 
@@ -180,6 +188,7 @@ module _ (o : Options) {m : Memory} {st : state.State} (h : Standing m st) {kind
     fixed-sent (q ∷ qs) is some few put =
         let has : (fixedParts (st .mode) (n .count) (o .comments) (o .instructions) kind ≡ [] → ⊥) = λ z. some (is ∙ z) in
         record {
+          row-is = refl;
           sent = λ e s.
               let f = w .fitting e s in
               let x =
@@ -187,6 +196,8 @@ module _ (o : Options) {m : Memory} {st : state.State} (h : Standing m st) {kind
               (rw (mode-is h, f .count, ← s .kind-is) (sym is)) in
               record {
                 no-code = λ z. absurd (true≢false z);
+                neither = λ z. absurd (true≢false z);
+                unchanged = λ z. absurd (true≢false z);
                 encoded = λ _.
                     record {
                       code = x .code;
@@ -195,6 +206,8 @@ module _ (o : Options) {m : Memory} {st : state.State} (h : Standing m st) {kind
                       near = omega (arith, put .next, parts-length (alignmentOf (o .aligned)) (q ∷ qs) (fixed-asks w (o .comments) (o .instructions) is));
                       moved-is = refl;
                       production = x .production;
+                      strict = λ _. f .miss miss;
+                      fitting = λ z. absurd (true≢false (sym z));
                       row = λ z. absurd (true≢false (sym z));
                       taught-is = x .teaches ∙ rw (mode-is h, s .kind-is);
                       new = λ _. f .miss miss;

@@ -13,12 +13,12 @@ use Rattle.format.specs.Context.{levelsIn}
 use Rattle.rows.specs.declared.Found.{Found}
 use Rattle.layout.specs.Meaning.{Memory}
 use Rattle.layout.specs.Writer.{writerMemory}
-use Rattle.productions.proofs.Known.{Numbered}
+use Rattle.productions.specs.Numbered.{Numbered}
 use Rattle.state.specs.declared.State.{State}
 use Rattle.standing.specs.Standing.{countsOf, contextOf, Standing}
 use Rattle.write_field.specs.Written.{blankFrom, Put}
 use Rattle.write_form.specs.Form.{midway, moved}
-use Rattle.fitting.specs.Fitting.{Sought, learnedHere}
+use Rattle.fitting.specs.Fitting.{Sought, rowOr, learnedHere}
 use Rattle.write_code.specs.declared.Coding.{Coding}
 
 -- ---- what is asked
@@ -27,6 +27,11 @@ pub record CodeReady (stream w : List ℕ) (st : State) : Type 0 where
   pub blank : T (blankFrom stream (st .at))
   pub near : st .at ≤ midway
   pub standing : Standing (writerMemory w) st
+
+-- The kind and the name stand for an event.
+pub record Stands (m : Memory) (st : State) (kind : ℕ) (name : Found) : Type 0 where
+  pub event : Event Text
+  pub sought : Sought m st kind name event
 
 -- ---- the code
 
@@ -37,7 +42,10 @@ pub record Encoded (s : Settings) (m : Memory) (st : State) (e : Event Text) (st
   pub near : r .state .at ≤ st .at + 48
   pub moved-is : r .state ≡ moved st (r .state .at) (st .stored)
   pub production : code .production ≡ cond (r .learned) (productionFor e) (unnamed (kindOf e))
-  -- a learned production carries the name with this row
+  -- a learned production where one fits
+  pub strict : r .learned ≡ false → firstFit (learnedHere m st) e ≡ none
+  pub fitting : r .learned ≡ true → firstFit (learnedHere m st) e ≡ none → ⊥
+  -- it carries the name with this row
   pub row : r .learned ≡ true → Numbered m (countsOf st) e (r .row)
   pub taught-is : learnedAfter (contextOf m st .state) (taught code e) (contextOf m st .learned)
       ≡ learnedAfter (contextOf m st .state) (cond (r .teaches) (some (productionFor e)) none) (contextOf m st .learned)
@@ -52,7 +60,11 @@ pub record Encoded (s : Settings) (m : Memory) (st : State) (e : Event Text) (st
 pub record CodeSent (s : Settings) (m : Memory) (st : State) (e : Event Text) (stream stream′ : List ℕ) (r : Coding) : Type 0 where
   pub no-code : r .fits ≡ false → codeOf (levelsIn s (contextOf m st)) e ≡ none
   pub encoded : r .fits ≡ true → Encoded s m st e stream stream′ r
+  -- where none fits, nothing is learned or taught, and octets and state are as they were
+  pub neither : r .fits ≡ false → (r .learned ≡ false) × (r .teaches ≡ false)
+  pub unchanged : r .fits ≡ false → (stream′ ≡ stream) × (r .state ≡ st)
 
 -- For any event that this kind and name stand for.
 pub record Coded (s : Settings) (m : Memory) (st : State) (kind : ℕ) (name : Found) (stream stream′ : List ℕ) (r : Coding) : Type 0 where
+  pub row-is : r .row ≡ rowOr name
   pub sent : (e : Event Text) → Sought m st kind name e → CodeSent s m st e stream stream′ r

@@ -6,7 +6,7 @@ ghost use Rattle.settings.specs.Meant.{settingsFrom};
 ghost use Rattle.layout.specs.Writer.{writerMemory};
 ghost use Rattle.write_form.specs.Form.{moved};
 ghost use Rattle.fitting.specs.Fitting.{NameFound, rowOr};
-ghost use Rattle.write_code.specs.Coding.{CodeReady, Coded};
+ghost use Rattle.write_code.specs.Coding.{CodeReady, Stands, Coded};
 use event_code::Code;
 use rows::Found;
 use settings::Options;
@@ -71,6 +71,7 @@ pub fn put_code(
     work: &[u32],
 ) -> Coding
     requires { ⌜ CodeReady (now stream) (now work) st ⌝ }
+    requires { ⌜ Stands (writerMemory (now work)) st kind name ⌝ }
     ensures { λ r. ⌜ Coded (settingsFrom o) (writerMemory (now (work .entry))) st kind name (now (stream .entry)) (now (stream .exit)) r ⌝ }
 {
     let n = fitting::newest(st, kind, name, work);

@@ -5,11 +5,14 @@ use mathlib.Core.Path.{_≡_, refl, sym, ap, _∙_}
 use mathlib.Core.Bool.{Bool, true, false}
 use mathlib.Core.List.{List, [], _∷_}
 use lib.ListN.{length, getD, length-append}
+use lib.Dec.{eqb}
+use borrow.Author.Tests.{eqb-true, eqb-false}
+use Rattle.fields.proofs.Tests.{split}
 use Rattle.fields.specs.Field.{Alignment, unsignedBits, choiceBits}
 use Rattle.text.specs.Text.{Text}
 use Rattle.format.specs.Sizes.{maxStore}
 use Rattle.format.specs.Tables.{Placed, Tables, Role, literals, partitionsOf, hit, literal, formOf, formBits, added, tablesAfter, nameAllowed}
-use Rattle.format.specs.Context.{item, afterItem}
+use Rattle.format.specs.Context.{Item, item, afterItem}
 use Rattle.format.specs.Strict.{itemBits}
 use Rattle.format.specs.Lists.{withinTables}
 use Rattle.layout.specs.Writer.{writerMemory}
@@ -22,10 +25,10 @@ use Rattle.literal.specs.Fault.{faultNumber, stringFault}
 use Rattle.literal.proofs.Laws.{fault-kept, fault-added, Passed}
 use Rattle.write_field.specs.Written.{Put}
 use Rattle.write_field.proofs.Lengths.{unsigned-length, choice-length}
-use Rattle.write_form.specs.Form.{moved, HitSent}
+use Rattle.write_form.specs.Form.{moved, HitSent, EntrySent, TextSent}
 use Rattle.write_form.specs.declared.Sent.{Sent}
 use Rattle.write_form.proofs.Laws.{sound}
-use Rattle.write_content.specs.Sending.{tablesOf, Ready, Wrote, Sending}
+use Rattle.write_content.specs.Sending.{tablesOf, Ready, Wrote, Sending, Unmoved, Rowless}
 use Rattle.write_content.proofs.Items.{one-fault, one-bits, one-after}
 
 -- The state at another position, with other counts.
@@ -43,6 +46,34 @@ recounted st at stored uris names values =
       mode = st .mode;
       stack = st .stack;
     }
+
+-- ---- a refusal
+
+-- Of a refusal's octets, work memory and state nothing is said.
+pub refused-sending : {a : Alignment} {is : List Item} {s w s′ w′ s″ w″ : List ℕ} {st st′ st″ : State} {n : ℕ} → (n ≡ 0 → ⊥)
+    → Sending a is s w st s′ w′ n st′ → Sending a is s w st s″ w″ n st″
+refused-sending refused f = record { fault = f .fault; wrote = λ z. absurd (refused z) }
+
+-- What write_form leaves then.
+module _ {x : Text} {allowed : Bool} {s s′ : List ℕ} {st : State} {sent : Sent} where
+  pub hit-unmoved : {a : Alignment} {j among i row : ℕ} → HitSent a x allowed j among i row s st s′ sent → Unmoved st sent
+  hit-unmoved f = record { row = λ l. f .refused l .0; state = λ l. f .refused l .1 }
+
+  pub hit-rowless : {a : Alignment} {j among i : ℕ} → HitSent a x allowed j among i 0 s st s′ sent → Rowless st sent
+  hit-rowless f =
+      record {
+        row = split (eqb (sent .number) 0)
+            (λ e. f .done (eqb-true (sent .number) 0 e) .row-is)
+            (λ e. let some = eqb-false (sent .number) 0 e in f .refused (omega arith) .0);
+        state = λ l. f .refused l .1;
+      }
+
+  module _ {w w′ : List ℕ} where
+    pub entry-unmoved : {raised base n most key : ℕ} → EntrySent raised x allowed base n most key s w st s′ w′ sent → Unmoved st sent
+    entry-unmoved f = record { row = λ l. f .refused l .0; state = λ l. f .refused l .1 }
+
+    pub text-rowless : {raised : ℕ} → TextSent raised x allowed s w st s′ w′ sent → Rowless st sent
+    text-rowless f = record { row = f .row; state = λ l. f .refused l .0 }
 
 -- ---- a hit
 

@@ -1,5 +1,5 @@
 -- What a function asks that writes strings of an event, and what it leaves, in the definitions' terms. Work memory itself is the team's choice: what
--- holds of it is the tables that it means, and that it is tidy. After a refusal nothing is said of it (the caller clears all).
+-- holds of it is the tables that it means, and that it is tidy. After a refusal nothing is said of octets and work memory (`write` clears both).
 use Prim.Native.Nat.{ℕ, _+_, _*_, _≤_, _<_}
 use mathlib.Core.Path.{_≡_}
 use mathlib.Core.Bool.{Bool, true, false}
@@ -86,10 +86,20 @@ pub record UriRow (x : Text) (w′ : List ℕ) (r : Sent) : Type 0 where
   pub below : r .number ≡ 0 → r .row < r .state .uris
   pub is : r .number ≡ 0 → uriText (writerMemory w′) (r .row) ≡ x
 
--- The row that a name then has.
+-- The row that a name then has. `put_name` says no more of row and state: after a refusal they are free.
 pub record NameRow (q : QName Text) (w′ : List ℕ) (r : Sent) : Type 0 where
   pub below : r .number ≡ 0 → r .row < r .state .names
   pub is : r .number ≡ 0 → nameAt (writerMemory w′) (r .row) ≡ q
+
+-- After a refusal the row is 0 and the state as it was.
+pub record Unmoved (st : State) (r : Sent) : Type 0 where
+  pub row : 0 < r .number → r .row ≡ 0
+  pub state : 0 < r .number → r .state ≡ st
+
+-- A string without a row: after a refusal the state is as it was.
+pub record Rowless (st : State) (r : Sent) : Type 0 where
+  pub row : r .row ≡ 0
+  pub state : 0 < r .number → r .state ≡ st
 
 -- The two parts of a name, written or not.
 unfoldable pub nameAs : Bool → Bool → QName Text → List Item

@@ -1,5 +1,5 @@
-// The strings of an event (EXI 7: content items), each written in the strict form by the string tables, which it then joins. What the functions
-// ask and leave is in specs/Sending.antt.
+// The strings of an event (EXI 7: content items), each written in the strict form by the string tables; a literal joins its table. What the
+// functions ask and leave is in specs/Sending.antt.
 ghost use mathlib.Core.Path.{_≡_};
 ghost use mathlib.Core.Bool.{cond, not};
 ghost use mathlib.Core.List.{[], _∷_};
@@ -11,7 +11,7 @@ ghost use Rattle.format.specs.Context.{item};
 ghost use Rattle.layout.specs.Meaning.{nameAt};
 ghost use Rattle.layout.specs.Writer.{writerMemory};
 ghost use Rattle.read_field.specs.View.{alignmentOf};
-ghost use Rattle.write_content.specs.Sending.{Ready, ReadyLocal, ReadyValue, ReadyName, NewUri, NewValue, OtherValue, Sending, UriRow, NameRow, nameAs, skipped};
+ghost use Rattle.write_content.specs.Sending.{Ready, ReadyLocal, ReadyValue, ReadyName, NewUri, NewValue, OtherValue, Sending, UriRow, NameRow, Unmoved, Rowless, nameAs, skipped};
 use rows::Found;
 use state::State;
 use write_form::Sent;
@@ -28,6 +28,7 @@ fn put_new_uri(aligned: bool, stream: &mut [u8], st: State, x: &[u32], work: &mu
     requires { ⌜ NewUri (now stream) (now work) st (now x) ⌝ }
     ensures { λ r. ⌜ Sending (alignmentOf aligned) (item uri (now (x .entry)) ∷ []) (now (stream .entry)) (now (work .entry)) st (now (stream .exit)) (now (work .exit)) (r .number) (r .state) ⌝ }
     ensures { λ r. ⌜ UriRow (now (x .entry)) (now (work .exit)) r ⌝ }
+    ensures { λ r. ⌜ Unmoved st r ⌝ }
 {
     let number = literal::fault(x, true, st.stored, true, st.uris < 16);
     if number != 0 {
@@ -53,6 +54,7 @@ pub fn put_uri(aligned: bool, stream: &mut [u8], st: State, x: &[u32], work: &mu
     requires { ⌜ Ready (now stream) (now work) st ⌝ }
     ensures { λ r. ⌜ Sending (alignmentOf aligned) (item uri (now (x .entry)) ∷ []) (now (stream .entry)) (now (work .entry)) st (now (stream .exit)) (now (work .exit)) (r .number) (r .state) ⌝ }
     ensures { λ r. ⌜ UriRow (now (x .entry)) (now (work .exit)) r ⌝ }
+    ensures { λ r. ⌜ Unmoved st r ⌝ }
 {
     match rows::find(work, work, URIS, st.uris, true, 0, x) {
         Found::At { number, row } => {
@@ -90,6 +92,7 @@ pub fn put_local(
     requires { ⌜ ReadyLocal (now stream) (now work) st key (now uri) ⌝ }
     ensures { λ r. ⌜ Sending (alignmentOf aligned) (item (local attr (now (uri .entry))) (now (x .entry)) ∷ []) (now (stream .entry)) (now (work .entry)) st (now (stream .exit)) (now (work .exit)) (r .number) (r .state) ⌝ }
     ensures { λ r. ⌜ NameRow (record { uri = now (uri .entry); local = now (x .entry) }) (now (work .exit)) r ⌝ }
+    ensures { λ r. ⌜ Unmoved st r ⌝ }
 {
     let allowed = names::local_allowed(attr, uri, x);
     let n = st.names;
@@ -100,6 +103,9 @@ pub fn put_local(
         }
         Found::Nothing => {
             let sent = write_form::send_entry(stream, st, 1, x, allowed, work, NAMES, n, 128, key);
+            if sent.number != 0 {
+                return sent;
+            }
             let mut t = sent.state;
             t.names = n + 1;
             Sent {
@@ -115,11 +121,15 @@ pub fn put_local(
 fn put_new_value(stream: &mut [u8], st: State, key: u32, x: &[u32], work: &mut [u32]) -> Sent
     requires { ⌜ NewValue (now stream) (now work) st key (now x) ⌝ }
     ensures { λ r. ⌜ ((a : Alignment) → Sending a (item (value (nameAt (writerMemory (now (work .entry))) key)) (now (x .entry)) ∷ []) (now (stream .entry)) (now (work .entry)) st (now (stream .exit)) (now (work .exit)) (r .number) (r .state)) ⌝ }
+    ensures { λ r. ⌜ Rowless st r ⌝ }
 {
     if x.len() == 0 {
         return write_form::send_text(stream, st, 2, x, true, work);
     }
     let sent = write_form::send_entry(stream, st, 2, x, true, work, VALUES, st.values, 512, key);
+    if sent.number != 0 {
+        return sent;
+    }
     let mut t = sent.state;
     t.values = st.values + 1;
     Sent {
@@ -140,6 +150,7 @@ fn put_other_value(
 ) -> Sent
     requires { ⌜ OtherValue (now stream) (now work) st key (now x) ⌝ }
     ensures { λ r. ⌜ Sending (alignmentOf aligned) (item (value (nameAt (writerMemory (now (work .entry))) key)) (now (x .entry)) ∷ []) (now (stream .entry)) (now (work .entry)) st (now (stream .exit)) (now (work .exit)) (r .number) (r .state) ⌝ }
+    ensures { λ r. ⌜ Rowless st r ⌝ }
 {
     match rows::find(work, work, VALUES, st.values, true, 0, x) {
         Found::At { number, row } => write_form::send_hit(
@@ -168,6 +179,7 @@ pub fn put_value(
 ) -> Sent
     requires { ⌜ ReadyValue (now stream) (now work) st key ⌝ }
     ensures { λ r. ⌜ Sending (alignmentOf aligned) (item (value (nameAt (writerMemory (now (work .entry))) key)) (now (x .entry)) ∷ []) (now (stream .entry)) (now (work .entry)) st (now (stream .exit)) (now (work .exit)) (r .number) (r .state) ⌝ }
+    ensures { λ r. ⌜ Rowless st r ⌝ }
 {
     match rows::find(work, work, VALUES, st.values, false, key, x) {
         Found::At { number, row } => {
@@ -182,6 +194,7 @@ pub fn put_value(
 pub fn put_text(stream: &mut [u8], st: State, named: bool, x: &[u32], work: &mut [u32]) -> Sent
     requires { ⌜ Ready (now stream) (now work) st ⌝ }
     ensures { λ r. ⌜ ((a : Alignment) → Sending a (item (cond named target plain) (now (x .entry)) ∷ []) (now (stream .entry)) (now (work .entry)) st (now (stream .exit)) (now (work .exit)) (r .number) (r .state)) ⌝ }
+    ensures { λ r. ⌜ Rowless st r ⌝ }
 {
     let allowed = !named | names::target_allowed(x);
     write_form::send_text(stream, st, 0, x, allowed, work)
@@ -214,7 +227,7 @@ fn skip_name(st: State, attr: bool, uri: &[u32], local: &[u32], name: u32) -> Se
     }
 }
 
-// The name of an attribute or an element: its two parts, or nothing where a learned production carries it (then this is its row).
+// The name of an attribute or an element: its two parts, or nothing where a learned production carries it (then `name` is its row).
 pub fn put_name(
     aligned: bool,
     stream: &mut [u8],

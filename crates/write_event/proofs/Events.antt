@@ -8,6 +8,9 @@ use mathlib.Core.Option.{some, Option·none-ne-some}
 use mathlib.Core.Logic.{inl, inr}
 use denote.Enum.Declared.{tagOf}
 use types.Run.{OneOf}
+use lib.Dec.{eqb}
+use borrow.Author.Tests.{eqb-true, eqb-false}
+use Rattle.fields.proofs.Tests.{split}
 use Rattle.text.specs.Text.{Text, Span}
 use Rattle.format.specs.Event.{QName, Event, startDocument, endDocument, endElement, startElement, attribute, characters, comment, instruction, kindOf, nameOf, mapEvent}
 use Rattle.format.specs.Grammar.{kindNumber}
@@ -23,6 +26,7 @@ use Rattle.event.specs.declared.Event.the-variants.{StartDocument, EndDocument,
 use Rattle.event.proofs.Event.{the-type}
 use Rattle.fitting.specs.Fitting.{NameFound, Sought}
 use Rattle.fitting.proofs.Sought.{sought-start, sought-attribute, sought-none}
+use Rattle.write_code.specs.Coding.{Stands}
 
 -- ---- strings
 
@@ -89,6 +93,16 @@ module _ {m : Memory} {st : State} (h : Standing m st) where
     | comment x ↦ λ k n. absurd (Option·none-ne-some _ n)
     | instruction x y ↦ λ k n. absurd (Option·none-ne-some _ n)
   ]
+
+  -- A start element or an attribute.
+  pub named-stands : {q : QName Text} {f : Found} → NameFound m st q f → {kind : ℕ} → 2 ≤ kind → kind ≤ 3 → Stands m st kind f
+  named-stands {q} found {kind} l u =
+      split (eqb kind 2)
+      (λ e. record { event = startElement q; sought = rw (eqb-true kind 2 e) (sought-start h found) })
+      (λ e.
+      let other : (kind ≡ 2 → ⊥) = eqb-false kind 2 e in
+      let three : kind ≡ 3 = omega arith in
+      record { event = attribute q []; sought = rw three (sought-attribute h [] found) })
 
   -- In the last arm of a `match` that has one for each kind that is learned.
   pub sought-other : (f : Span → Text) (e : declared.Event) → OneOf (0 ∷ 1 ∷ 6 ∷ 7 ∷ []) (tagOf the-type e) → {kind : ℕ}

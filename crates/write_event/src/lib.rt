@@ -86,6 +86,8 @@ fn put_named_code(
     work: &[u32],
 ) -> Coding
     requires { ⌜ CodeReady (now stream) (now work) st ⌝ }
+    requires { ⌜ 2 ≤ kind ⌝ }
+    requires { ⌜ kind ≤ 3 ⌝ }
     ensures { λ r. ⌜ NamedCode (settingsFrom o) kind (part (now (text .entry)) (asSpan uri)) (part (now (text .entry)) (asSpan local)) (now (work .entry)) st (now (stream .entry)) (now (stream .exit)) r ⌝ }
 {
     let u = text::look_up(text, uri.place, uri.size);

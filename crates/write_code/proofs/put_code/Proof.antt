@@ -8,16 +8,16 @@ use Rattle.write_code.proofs.put_code.Statement.{statement}
 use Rattle.write_code.proofs.put_code.Tie as tie
 
 newest-requires : tie.Need-newest-requires
-newest-requires c κs = newest-asks (c .before .before .pre .standing)
+newest-requires c κs = newest-asks (c .before .before .pre .0 .standing)
 
 row-of-requires : tie.Need-row-of-requires
 row-of-requires c κs = search needs
 
 learned-code-requires : tie.Need-learned-code-requires
-learned-code-requires c κs = (newest-means (c .before .before .before .before .before .before .pre .standing) (c .before .before .before .newest .ensures)) .few
+learned-code-requires c κs = (newest-means (c .before .before .before .before .before .before .pre .0 .standing) (c .before .before .before .newest .ensures)) .few
 
 put-code-requires : tie.Need-put-code-requires
-put-code-requires c κs = code-asks (c .before .before .before .before .before .before .before .pre) (learned-asks (newest-means (c .before .before .before .before .before .before .before .pre .standing) (c .before .before .before .before .newest .ensures)) (c .before .before .if1 .taken) (c .learned-code .ensures))
+put-code-requires c κs = code-asks (c .before .before .before .before .before .before .before .pre .0) (learned-asks (newest-means (c .before .before .before .before .before .before .before .pre .0 .standing) (c .before .before .before .before .newest .ensures)) (c .before .before .if1 .taken) (c .learned-code .ensures))
 
 answer-requires : tie.Need-answer-requires
 answer-requires c κs = search needs
@@ -26,10 +26,10 @@ same-length : tie.Need-same-length
 same-length c = search needs
 
 returns : tie.Need-returns
-returns c = rw (c .answer .ensures, c .before .before .before .before .before .before .before .row-of .ensures) (learned-sent (c .before .before .before .before .before .before .before .before .before .before .before .args .o) (c .before .before .before .before .before .before .before .before .before .before .before .pre .standing) (newest-means (c .before .before .before .before .before .before .before .before .before .before .before .pre .standing) (c .before .before .before .before .before .before .before .before .newest .ensures)) (c .before .before .before .before .before .before .if1 .taken) (c .before .before .before .before .learned-code .ensures) (c .before .before .before .put-code .ensures))
+returns c = rw (c .answer .ensures, c .before .before .before .before .before .before .before .row-of .ensures) (learned-sent (c .before .before .before .before .before .before .before .before .before .before .before .args .o) (c .before .before .before .before .before .before .before .before .before .before .before .pre .0 .standing) (newest-means (c .before .before .before .before .before .before .before .before .before .before .before .pre .0 .standing) (c .before .before .before .before .before .before .before .before .newest .ensures)) (c .before .before .before .before .before .before .if1 .taken) (c .before .before .before .before .learned-code .ensures) (c .before .before .before .put-code .ensures))
 
 fixed-code-requires : tie.Need-fixed-code-requires
-fixed-code-requires c κs = (newest-means (c .before .before .before .before .before .pre .standing) (c .before .before .newest .ensures)) .few
+fixed-code-requires c κs = (newest-means (c .before .before .before .before .before .pre .0 .standing) (c .before .before .newest .ensures)) .few
 
 enum-told : tie.Need-enum-told
 enum-told c = search needs
@@ -38,7 +38,7 @@ answer-requires-2 : tie.Need-answer-requires-2
 answer-requires-2 c κs = search needs
 
 put-code-requires-2 : tie.Need-put-code-requires-2
-put-code-requires-2 c κs = code-asks (c .before .before .before .before .before .before .before .before .pre) (fixed-asks (newest-means (c .before .before .before .before .before .before .before .before .pre .standing) (c .before .before .before .before .before .newest .ensures)) (c .before .before .before .before .before .before .before .before .args .o .comments) (c .before .before .before .before .before .before .before .before .args .o .instructions) (c .before .before .fixed-code .ensures))
+put-code-requires-2 c κs = code-asks (c .before .before .before .before .before .before .before .before .pre .0) (fixed-asks (newest-means (c .before .before .before .before .before .before .before .before .pre .0 .standing) (c .before .before .before .before .before .newest .ensures)) (c .before .before .before .before .before .before .before .before .args .o .comments) (c .before .before .before .before .before .before .before .before .args .o .instructions) (c .before .before .fixed-code .ensures))
 
 teaches-requires : tie.Need-teaches-requires
 teaches-requires c κs = search needs
@@ -47,13 +47,13 @@ answer-requires-3 : tie.Need-answer-requires-3
 answer-requires-3 c κs = search needs
 
 returns-2 : tie.Need-returns-2
-returns-2 c = rw (c .answer2 .ensures, c .before .before .before .before .before .row-of .ensures) (none-sent (c .before .before .before .before .before .before .before .before .before .args .o) (c .before .before .before .before .before .before .before .before .before .pre .standing) (newest-means (c .before .before .before .before .before .before .before .before .before .pre .standing) (c .before .before .before .before .before .before .newest .ensures)) (c .before .before .before .before .if1 .left) (sym (c .before .before .before .fixed-code .ensures) ∙ parts-none (c .before .enum-told .given .1)))
+returns-2 c = rw (c .answer2 .ensures, c .before .before .before .before .before .row-of .ensures) (none-sent (c .before .before .before .before .before .before .before .before .before .args .o) (c .before .before .before .before .before .before .before .before .before .pre .0 .standing) (newest-means (c .before .before .before .before .before .before .before .before .before .pre .0 .standing) (c .before .before .before .before .before .before .newest .ensures)) (c .before .before .before .before .if1 .left) (sym (c .before .before .before .fixed-code .ensures) ∙ parts-none (c .before .enum-told .given .1)))
 
 same-length-2 : tie.Need-same-length-2
 same-length-2 c = search needs
 
 returns-3 : tie.Need-returns-3
-returns-3 c = rw (c .answer3 .ensures, c .before .before .before .before .before .before .before .before .before .row-of .ensures, c .before .teaches .ensures) (fixed-sent (c .before .before .before .before .before .before .before .before .before .before .before .before .before .args .o) (c .before .before .before .before .before .before .before .before .before .before .before .before .before .pre .standing) (newest-means (c .before .before .before .before .before .before .before .before .before .before .before .before .before .pre .standing) (c .before .before .before .before .before .before .before .before .before .before .newest .ensures)) (c .before .before .before .before .before .before .before .before .if1 .left) _ (c .before .before .before .before .before .before .before .fixed-code .ensures) (some-parts _ (c .before .before .before .before .before .before .match .keys2)) (parts-of-few _) (c .before .before .before .before .put-code2 .ensures))
+returns-3 c = rw (c .answer3 .ensures, c .before .before .before .before .before .before .before .before .before .row-of .ensures, c .before .teaches .ensures) (fixed-sent (c .before .before .before .before .before .before .before .before .before .before .before .before .before .args .o) (c .before .before .before .before .before .before .before .before .before .before .before .before .before .pre .0 .standing) (newest-means (c .before .before .before .before .before .before .before .before .before .before .before .before .before .pre .0 .standing) (c .before .before .before .before .before .before .before .before .before .before .newest .ensures)) (c .before .before .before .before .before .before .before .before .if1 .left) _ (c .before .before .before .before .before .before .before .fixed-code .ensures) (some-parts _ (c .before .before .before .before .before .before .match .keys2)) (parts-of-few _) (c .before .before .before .before .put-code2 .ensures))
 
 pub put-code-spec : {M : Type 1} → statement M
 put-code-spec =

@@ -2,6 +2,7 @@
 use native.Mathlib.Omega.{arith}
 use borrow.Author.Needs.{needs}
 use Rattle.write_content.proofs.Entries.{local-entry-asks, local-entry}
+use Rattle.write_content.proofs.Forms.{refused-sending, hit-unmoved, entry-unmoved}
 use Rattle.write_content.proofs.Hits.{local-missing, local-asks, local-hit}
 use Rattle.layout.proofs.Sizes.{room-names}
 use Rattle.layout.specs.Layout.{urisAt, namesAt}
@@ -34,10 +35,6 @@ send-entry-requires : tie.Need-send-entry-requires
 unfolding maxUris maxNames urisAt namesAt
 send-entry-requires c κs = local-entry-asks (c .before .before .before .before .before .before .before .before .before .before .before .pre) (c .before .before .before .before .before .before .before .before .before .before .before .args .x .now)
 
-add-t : tie.Need-add-t
-unfolding maxNames
-add-t c = omega (arith, c .before .before .before .before .before .before .before .before .before .before .before .before .before .before .before .before .before .pre .ready .tidy .sized .names)
-
 same-length : tie.Need-same-length
 same-length c = search needs
 
@@ -45,8 +42,14 @@ same-length-2 : tie.Need-same-length-2
 same-length-2 c = search needs
 
 returns : tie.Need-returns
-unfolding maxUris urisAt namesAt
-returns c = local-hit (c .before .before .before .before .before .before .before .before .before .before .before .before .before .before .before .before .pre) (c .before .before .before .before .before .before .before .before .before .before .before .before .before .before .before .before .args .x .now) (c .before .before .before .before .before .before .before .before .before .find .ensures) (c .before .before .before .before .before .before .before .number .given .1) (c .before .before .before .before .count .ensures) (c .before .before .send-hit .ensures) (c .before .before .before .before .before .before .before .before .before .before .before .before .before .before .before .before .args .attr) (c .before .before .before .before .before .before .before .before .before .before .before .local-allowed .ensures)
+unfolding maxUris maxNames urisAt namesAt
+returns c =
+    let h = local-entry (c .before .before .before .before .before .before .before .before .before .before .before .before .before .before .before .before .before .before .pre) (c .before .before .before .before .before .before .before .before .before .before .before .before .before .before .before .before .before .before .args .x .now) (local-missing (c .before .before .before .before .before .before .before .before .before .before .before .before .before .before .before .before .before .before .pre) (c .before .before .before .before .before .before .before .before .before .before .before .before .before .before .before .before .before .before .args .x .now) (c .before .before .before .before .before .before .before .before .before .before .before .find .ensures) (c .before .before .before .before .before .before .before .before .before .enum-told .given .1)) (c .before .before .before .before .before .before .send-entry .ensures) (c .before .before .before .before .before .before .before .before .before .before .before .before .before .before .before .before .before .before .args .attr) (c .before .before .before .before .before .before .before .before .before .before .before .before .before .local-allowed .ensures) in
+    (refused-sending (c .if1 .taken) (h .0), (record { below = λ z. absurd (c .if1 .taken z); is = λ z. absurd (c .if1 .taken z) }, entry-unmoved (c .before .before .before .before .before .before .send-entry .ensures)))
+
+add-t : tie.Need-add-t
+unfolding maxNames
+add-t c = omega (arith, c .before .before .before .before .before .before .before .before .before .before .before .before .before .before .before .before .before .before .before .pre .ready .tidy .sized .names)
 
 same-length-3 : tie.Need-same-length-3
 same-length-3 c = search needs
@@ -55,8 +58,22 @@ same-length-4 : tie.Need-same-length-4
 same-length-4 c = search needs
 
 returns-2 : tie.Need-returns-2
+unfolding maxUris urisAt namesAt
+returns-2 c =
+    let h = local-hit (c .before .before .before .before .before .before .before .before .before .before .before .before .before .before .before .before .pre) (c .before .before .before .before .before .before .before .before .before .before .before .before .before .before .before .before .args .x .now) (c .before .before .before .before .before .before .before .before .before .find .ensures) (c .before .before .before .before .before .before .before .number .given .1) (c .before .before .before .before .count .ensures) (c .before .before .send-hit .ensures) (c .before .before .before .before .before .before .before .before .before .before .before .before .before .before .before .before .args .attr) (c .before .before .before .before .before .before .before .before .before .before .before .local-allowed .ensures) in
+    (h .0, (h .1, hit-unmoved (c .before .before .send-hit .ensures)))
+
+same-length-5 : tie.Need-same-length-5
+same-length-5 c = search needs
+
+same-length-6 : tie.Need-same-length-6
+same-length-6 c = search needs
+
+returns-3 : tie.Need-returns-3
 unfolding maxUris maxNames urisAt namesAt
-returns-2 c = local-entry (c .before .before .before .before .before .before .before .before .before .before .before .before .before .before .before .before .before .pre) (c .before .before .before .before .before .before .before .before .before .before .before .before .before .before .before .before .before .args .x .now) (local-missing (c .before .before .before .before .before .before .before .before .before .before .before .before .before .before .before .before .before .pre) (c .before .before .before .before .before .before .before .before .before .before .before .before .before .before .before .before .before .args .x .now) (c .before .before .before .before .before .before .before .before .before .before .find .ensures) (c .before .before .before .before .before .before .before .before .enum-told .given .1)) (c .before .before .before .before .before .send-entry .ensures) (c .before .before .before .before .before .before .before .before .before .before .before .before .before .before .before .before .before .args .attr) (c .before .before .before .before .before .before .before .before .before .before .before .before .local-allowed .ensures)
+returns-3 c =
+    let h = local-entry (c .before .before .before .before .before .before .before .before .before .before .before .before .before .before .before .before .before .before .before .pre) (c .before .before .before .before .before .before .before .before .before .before .before .before .before .before .before .before .before .before .before .args .x .now) (local-missing (c .before .before .before .before .before .before .before .before .before .before .before .before .before .before .before .before .before .before .before .pre) (c .before .before .before .before .before .before .before .before .before .before .before .before .before .before .before .before .before .before .before .args .x .now) (c .before .before .before .before .before .before .before .before .before .before .before .before .find .ensures) (c .before .before .before .before .before .before .before .before .before .before .enum-told .given .1)) (c .before .before .before .before .before .before .before .send-entry .ensures) (c .before .before .before .before .before .before .before .before .before .before .before .before .before .before .before .before .before .before .before .args .attr) (c .before .before .before .before .before .before .before .before .before .before .before .before .before .before .local-allowed .ensures) in
+    (h .0, (h .1, record { row = λ l. absurd (omega (arith, c .before .if1 .left)); state = λ l. absurd (omega (arith, c .before .if1 .left)) }))
 
 pub put-local-spec : {M : Type 1} → statement M
 put-local-spec =
@@ -69,10 +86,13 @@ put-local-spec =
     send-hit-requires
     enum-told
     send-entry-requires
-    add-t
     same-length
     same-length-2
     returns
+    add-t
     same-length-3
     same-length-4
-    returns-2)
+    returns-2
+    same-length-5
+    same-length-6
+    returns-3)

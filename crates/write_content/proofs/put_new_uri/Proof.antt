@@ -1,6 +1,6 @@
 -- `put_new_uri` meets its contract.
 use native.Mathlib.Omega.{arith}
-use mathlib.Core.Path.{sym, _∙_}
+use mathlib.Core.Path.{refl, sym, _∙_}
 use borrow.Author.Needs.{needs}
 use Rattle.write_content.proofs.Entries.{new-uri-asks, new-uri-sending, uri-entry-asks, new-uri-put, new-uri-is}
 use Rattle.write_form.proofs.Laws.{sound}
@@ -15,7 +15,7 @@ fault-requires c κs = search needs
 
 returns : tie.Need-returns
 unfolding maxUris
-returns c = (new-uri-sending (c .before .before .before .before .before .before .pre) (c .before .fault .ensures) (λ z. absurd (c .if1 .taken z)), record { below = λ z. absurd (c .if1 .taken z); is = λ z. absurd (c .if1 .taken z) })
+returns c = (new-uri-sending (c .before .before .before .before .before .before .pre) (c .before .fault .ensures) (λ z. absurd (c .if1 .taken z)), (record { below = λ z. absurd (c .if1 .taken z); is = λ z. absurd (c .if1 .taken z) }, record { row = λ _. refl; state = λ _. refl }))
 
 cast-put-choice : tie.Need-cast-put-choice
 unfolding maxUris
@@ -48,7 +48,7 @@ same-length-2 c = search needs
 
 returns-2 : tie.Need-returns-2
 unfolding maxUris urisAt
-returns-2 c = (new-uri-sending (c .before .before .before .before .before .before .before .before .before .before .before .before .before .before .before .before .before .before .before .before .pre) (sym (c .before .before .before .before .before .before .before .before .before .before .before .before .before .before .if1 .left) ∙ c .before .before .before .before .before .before .before .before .before .before .before .before .before .before .before .fault .ensures) (λ _. new-uri-put (c .before .before .before .before .before .before .before .before .before .before .before .before .before .before .before .before .before .before .before .before .pre) (alignmentOf (c .before .before .before .before .before .before .before .before .before .before .before .before .before .before .before .before .before .before .before .before .args .aligned)) (sound (c .before .before .before .before .before .before .before .before .before .before .before .before .before .before .before .fault .ensures) (c .before .before .before .before .before .before .before .before .before .before .before .before .before .before .if1 .left)) (c .before .before .before .before .before .before .before .before .before .before .before .put-choice .ensures) (c .before .before .before .before .before .before .put-entry .ensures)), record { below = λ _. omega arith; is = λ _. new-uri-is (c .before .before .before .before .before .before .before .before .before .before .before .before .before .before .before .before .before .before .before .before .pre) (alignmentOf (c .before .before .before .before .before .before .before .before .before .before .before .before .before .before .before .before .before .before .before .before .args .aligned)) (sound (c .before .before .before .before .before .before .before .before .before .before .before .before .before .before .before .fault .ensures) (c .before .before .before .before .before .before .before .before .before .before .before .before .before .before .if1 .left)) (c .before .before .before .before .before .before .before .before .before .before .before .put-choice .ensures) (c .before .before .before .before .before .before .put-entry .ensures) })
+returns-2 c = (new-uri-sending (c .before .before .before .before .before .before .before .before .before .before .before .before .before .before .before .before .before .before .before .before .pre) (sym (c .before .before .before .before .before .before .before .before .before .before .before .before .before .before .if1 .left) ∙ c .before .before .before .before .before .before .before .before .before .before .before .before .before .before .before .fault .ensures) (λ _. new-uri-put (c .before .before .before .before .before .before .before .before .before .before .before .before .before .before .before .before .before .before .before .before .pre) (alignmentOf (c .before .before .before .before .before .before .before .before .before .before .before .before .before .before .before .before .before .before .before .before .args .aligned)) (sound (c .before .before .before .before .before .before .before .before .before .before .before .before .before .before .before .fault .ensures) (c .before .before .before .before .before .before .before .before .before .before .before .before .before .before .if1 .left)) (c .before .before .before .before .before .before .before .before .before .before .before .put-choice .ensures) (c .before .before .before .before .before .before .put-entry .ensures)), (record { below = λ _. omega arith; is = λ _. new-uri-is (c .before .before .before .before .before .before .before .before .before .before .before .before .before .before .before .before .before .before .before .before .pre) (alignmentOf (c .before .before .before .before .before .before .before .before .before .before .before .before .before .before .before .before .before .before .before .before .args .aligned)) (sound (c .before .before .before .before .before .before .before .before .before .before .before .before .before .before .before .fault .ensures) (c .before .before .before .before .before .before .before .before .before .before .before .before .before .before .if1 .left)) (c .before .before .before .before .before .before .before .before .before .before .before .put-choice .ensures) (c .before .before .before .before .before .before .put-entry .ensures) }, record { row = λ l. absurd (omega arith); state = λ l. absurd (omega arith) }))
 
 pub put-new-uri-spec : {M : Type 1} → statement M
 put-new-uri-spec =

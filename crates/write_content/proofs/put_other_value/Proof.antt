@@ -1,6 +1,7 @@
 -- `put_other_value` meets its contract.
 use native.Mathlib.Omega.{arith}
 use borrow.Author.Needs.{needs}
+use Rattle.write_content.proofs.Forms.{hit-rowless}
 use Rattle.write_content.proofs.Hits.{any-new, any-asks, any-hit}
 use Rattle.read_field.specs.View.{alignmentOf}
 use Rattle.layout.proofs.Sizes.{room-values}
@@ -39,7 +40,7 @@ same-length-2 c = search needs
 
 returns : tie.Need-returns
 unfolding maxUris maxNames urisAt namesAt valuesAt
-returns c = any-hit (c .before .before .before .before .before .before .before .before .before .before .before .before .before .pre) (c .before .before .before .before .before .before .before .before .find .ensures) (c .before .before .before .before .before .before .number .given .1) (c .before .before .send-hit .ensures)
+returns c = (any-hit (c .before .before .before .before .before .before .before .before .before .before .before .before .before .pre) (c .before .before .before .before .before .before .before .before .find .ensures) (c .before .before .before .before .before .before .number .given .1) (c .before .before .send-hit .ensures), hit-rowless (c .before .before .send-hit .ensures))
 
 same-length-3 : tie.Need-same-length-3
 same-length-3 c = search needs
@@ -48,7 +49,7 @@ same-length-4 : tie.Need-same-length-4
 same-length-4 c = search needs
 
 returns-2 : tie.Need-returns-2
-returns-2 c = c .before .before .before .before .put-new-value .ensures (alignmentOf (c .before .before .before .before .before .before .before .before .before .before .before .before .before .before .args .aligned))
+returns-2 c = let h = c .before .before .before .before .put-new-value .ensures in (h .0 (alignmentOf (c .before .before .before .before .before .before .before .before .before .before .before .before .before .before .args .aligned)), h .1)
 
 pub put-other-value-spec : {M : Type 1} → statement M
 put-other-value-spec =

@@ -1,5 +1,6 @@
 -- `put_value` meets its contract.
 use borrow.Author.Needs.{needs}
+use Rattle.write_content.proofs.Forms.{hit-rowless}
 use Rattle.write_content.proofs.Hits.{own-other, own-asks, own-hit}
 use Rattle.layout.proofs.Sizes.{room-values}
 use Rattle.layout.specs.Layout.{urisAt, namesAt, valuesAt}
@@ -37,7 +38,7 @@ same-length-2 c = search needs
 
 returns : tie.Need-returns
 unfolding maxUris maxNames urisAt namesAt valuesAt
-returns c = own-hit (c .before .before .before .before .before .before .before .before .before .before .before .before .before .before .pre) (c .before .before .before .before .before .before .before .before .before .before .before .before .before .before .args .x .now) (c .before .before .before .before .before .before .before .before .before .find .ensures) (c .before .before .before .before .before .before .before .number .given .1) (c .before .before .before .before .count .ensures) (c .before .before .send-hit .ensures)
+returns c = (own-hit (c .before .before .before .before .before .before .before .before .before .before .before .before .before .before .pre) (c .before .before .before .before .before .before .before .before .before .before .before .before .before .before .args .x .now) (c .before .before .before .before .before .before .before .before .before .find .ensures) (c .before .before .before .before .before .before .before .number .given .1) (c .before .before .before .before .count .ensures) (c .before .before .send-hit .ensures), hit-rowless (c .before .before .send-hit .ensures))
 
 same-length-3 : tie.Need-same-length-3
 same-length-3 c = search needs

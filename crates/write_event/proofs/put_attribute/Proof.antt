@@ -38,7 +38,7 @@ returns-2 c =
     (c .before .before .before .before .before .before .before .before .before .before .before .before .before .before .before .put-name .ensures .0)
     (c .before .before .before .before .before .before .before .before .before .before .before .before .before .before .before .put-name .ensures .1)
     (c .before .before .before .before .before .before .before .before .before .if1 .left)
-    (c .before .before .before .before .before .put-value .ensures)
+    (c .before .before .before .before .before .put-value .ensures .0)
 
 pub put-attribute-spec : {M : Type 1} → statement M
 put-attribute-spec =

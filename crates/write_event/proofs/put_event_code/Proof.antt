@@ -1,7 +1,9 @@
 -- `put_event_code` meets its contract: each arm is told which event e is, and seeks its production by kind and name.
+use native.Mathlib.Omega.{arith}
 use mathlib.Core.Path.{refl}
+use mathlib.Core.List.{[]}
 use borrow.Author.Needs.{needs}
-use Rattle.format.specs.Event.{kindOf, nameOf, mapName, mapEvent}
+use Rattle.format.specs.Event.{endElement, characters, kindOf, nameOf, mapName, mapEvent}
 use Rattle.format.specs.Grammar.{kindNumber}
 use Rattle.event.specs.Cells.{meaning, asName}
 use Rattle.fitting.proofs.Sought.{sought-end, sought-characters}
@@ -13,31 +15,37 @@ enum-known-e : tie.Need-enum-known-e
 enum-known-e c = search needs
 
 put-named-code-requires : tie.Need-put-named-code-requires
-put-named-code-requires c κs = search needs
+put-named-code-requires c κs = (c .before .before .before .before .before .before .before .pre, (omega arith, omega arith))
 
 enum-known-e-2 : tie.Need-enum-known-e-2
 enum-known-e-2 c = search needs
 
 put-named-code-requires-2 : tie.Need-put-named-code-requires-2
-put-named-code-requires-2 c κs = search needs
+put-named-code-requires-2 c κs = (c .before .before .before .before .before .before .before .pre, (omega arith, omega arith))
 
 enum-told : tie.Need-enum-told
 enum-told c = search needs
 
 put-code-requires : tie.Need-put-code-requires
-put-code-requires c κs = search needs
+put-code-requires c κs =
+    let pre = c .before .before .before .before .before .before .pre in
+    (pre, record { event = endElement; sought = sought-end (pre .standing) })
 
 enum-known-e-3 : tie.Need-enum-known-e-3
 enum-known-e-3 c = search needs
 
 put-code-requires-2 : tie.Need-put-code-requires-2
-put-code-requires-2 c κs = search needs
+put-code-requires-2 c κs =
+    let pre = c .before .before .before .before .before .before .before .pre in
+    (pre, record { event = characters []; sought = sought-characters (pre .standing) [] })
 
 kind-of-requires : tie.Need-kind-of-requires
 kind-of-requires c κs = search needs
 
 put-code-requires-3 : tie.Need-put-code-requires-3
-put-code-requires-3 c κs = search needs
+put-code-requires-3 c κs =
+    let pre = c .before .before .before .before .before .before .pre in
+    (pre, record { event = _; sought = sought-other (pre .standing) (λ _. []) _ (c .before .before .match .keys5) (c .kind-of .ensures) })
 
 same-length : tie.Need-same-length
 same-length c = search needs

@@ -131,7 +131,7 @@ returns-3 c =
     let fit = rw (b .e3 .given .1) at (b .before .before .before .before .before .before .pre) in
     rw (c .bare .ensures, b .e3 .given .1, ← (c .before .before .before .before .before .before .before .before .before .look-up6 .ensures .0))
     (characters-strings _ _ (fit .standing) (in-element fit) _
-    (rw (c .before .before .before .before .before .before .before .before .top .ensures) at (c .before .before .before .before .before .put-value .ensures)))
+    (rw (c .before .before .before .before .before .before .before .before .top .ensures) at (c .before .before .before .before .before .put-value .ensures .0)))
 
 same-length-7 : tie.Need-same-length-7
 same-length-7 c = search needs
@@ -143,7 +143,7 @@ returns-4 : tie.Need-returns-4
 unfolding mapEvent meaning asSpan
 returns-4 c =
     let b = c .before .before .before .before .before .before .before .before in
-    rw (c .bare2 .ensures, b .before .before .e4 .given .1, ← (b .look-up7 .ensures .0)) (comment-strings _ _ _ (c .before .before .before .before .before .put-text .ensures _))
+    rw (c .bare2 .ensures, b .before .before .e4 .given .1, ← (b .look-up7 .ensures .0)) (comment-strings _ _ _ (c .before .before .before .before .before .put-text .ensures .0 _))
 
 same-length-9 : tie.Need-same-length-9
 same-length-9 c = search needs
