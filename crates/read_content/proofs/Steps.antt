@@ -1,0 +1,232 @@
+-- A string step by step: the field before its form, its form, and what is judged behind it.
+use Prim.Native.Nat.{ℕ, zero, suc, _+_, _*_, _-_, _≤_, _<_}
+use native.Mathlib.Nat.{le-refl}
+use native.Mathlib.Numerals.{add-one}
+use native.Mathlib.Omega.{arith}
+use mathlib.Core.Path.{_≡_, refl, sym, _∙_}
+use mathlib.Core.Logic.{inl}
+use mathlib.Core.Bool.{Bool, true, false, not}
+use mathlib.Core.List.{List, [], _∷_, map}
+use mathlib.Core.Option.{Option, none, some, Option·none-ne-some}
+use lib.ListN.{length, drop, getElem?, length-map}
+use Rattle.fields.specs.Bits.{Bits, unpack}
+use Rattle.fields.specs.Refusal.{numberOf, reference, loose, name, limit}
+use Rattle.fields.specs.Parser.{Result, bad, got, Parser, return, andThen, _>>=_}
+use Rattle.fields.specs.Field.{Alignment, numberField, width, choice, unsigned}
+use Rattle.text.specs.Text.{Text}
+use Rattle.format.specs.Tables.{Placed, Tables, Role, uri, literals, partitionsOf, Form, hit, eqForm, formOf, tablesAfter, nameAllowed}
+use Rattle.format.specs.Lists.{withinTables}
+use Rattle.format.specs.Reader.{readIn, readByLiterals, readEntry, readForm, readString}
+use Rattle.layout.specs.Layout.{urisAt}
+use Rattle.layout.proofs.Sizes.{length-uris}
+use Rattle.standing.specs.Standing.{countsOf}
+use Rattle.read_field.specs.declared.Field.{Field}
+use Rattle.read_field.specs.declared.Field.the-variants.{Value, Refused}
+use Rattle.read_field.specs.View.{fieldAt}
+use Rattle.state.specs.declared.State.{State}
+use Rattle.reading.specs.Outcome.{Declined, Gotten}
+use Rattle.reading.specs.Memory.{readerMemory, tablesOf, ReadReady}
+use Rattle.reading.proofs.Outcome.{declined-number, refused-outcome, outcome-as, outcome-then, declined-then, need-true, need-declined, declined-as, return-got, refused-declined, unsigned-gotten, number-gotten, choice-declined, choice-gotten, choice-none}
+use Rattle.read_content.specs.declared.Got.{Got}
+use Rattle.read_content.specs.Content.{StringRead, UriRow, NameRow}
+use Rattle.read_content.specs.Parts.{admit, judge, readAsNew, readAsHit, refusedGot, PartRead}
+
+-- ---- a test, negated
+
+pub test-failed : (b : Bool) → not b ≡ true → b ≡ false
+test-failed true e = sym e
+test-failed false e = refl
+
+pub test-passed : (b : Bool) → not b ≡ false → b ≡ true
+test-passed true e = refl
+test-passed false e = sym e
+
+-- ---- one step after the other
+
+pub then-assoc : {A B C : Type 0} (p : Parser A) (f : A → Parser B) (g : B → Parser C) (bs : Bits) → ((p >>= f) >>= g) bs ≡ (p >>= λ a. f a >>= g) bs
+unfolding _>>=_ andThen
+then-assoc {A} p f g bs = go (p bs)
+  where
+    go : (r : Result A) → andThen (andThen r f) g ≡ andThen r (λ a. f a >>= g)
+    go (bad k) = refl
+    go (got a rest) = refl
+
+module _ {base n : ℕ} {s : List ℕ} {work text : List ℕ} {st : State} where
+  module _ {work′ text′ : List ℕ} {g : Got} where
+    -- The same by a parser that does the same there.
+    pub part-as : {p p′ : Parser (Placed × Tables)} {at : ℕ} → p′ (drop at (unpack s)) ≡ p (drop at (unpack s))
+        → PartRead p base n s at work text st work′ text′ g → PartRead p′ base n s at work text st work′ text′ g
+    part-as e h = record { outcome = outcome-as e (h .outcome); unchanged = h .unchanged; one-row = h .one-row; counted = h .counted }
+
+    pub part-then : {A : Type 0} {p : Parser A} (f : A → Parser (Placed × Tables)) {at q : ℕ} (v : Gotten p s at q)
+        → PartRead (f (v .value)) base n s q work text st work′ text′ g → PartRead (p >>= f) base n s at work text st work′ text′ g
+    part-then f v h = record { outcome = outcome-then f v (h .outcome); unchanged = h .unchanged; one-row = h .one-row; counted = h .counted }
+
+    part-string : {a : Alignment} {r : Role} → PartRead (readString a (tablesOf work text st) r) base n s (st .at) work text st work′ text′ g
+        → StringRead a r base n s work text st work′ text′ g
+    part-string h = record { outcome = h .outcome; unchanged = h .unchanged; one-row = h .one-row; counted = h .counted }
+
+  -- A refusal leaves memory as it was.
+  pub part-declined : {p : Parser (Placed × Tables)} {at k : ℕ} {text′ : List ℕ} → text′ ≡ text → Declined p s at k
+      → PartRead p base n s at work text st work text′ (refusedGot k st)
+  part-declined e d = record { outcome = refused-outcome d; unchanged = λ _. (refl, e, refl); one-row = inl refl; counted = inl (refl, refl) }
+
+-- ---- a refusal names no row
+
+module _ {st : State} {work′ text′ : List ℕ} {k : ℕ} (b : 0 < k) where
+  pub no-uri : UriRow st work′ text′ (refusedGot k st)
+  no-uri = record { below = λ z. absurd (omega arith); is = λ z. absurd (omega arith); names = refl; values = refl }
+
+  pub no-name : {u : Text} → NameRow u st work′ text′ (refusedGot k st)
+  no-name = record { below = λ z. absurd (omega arith); is = λ z. absurd (omega arith); uris = refl; values = refl }
+
+pub field-positive : (p : Parser ℕ) (s : List ℕ) (at : ℕ) {f : Field} {k : ℕ} → f ≡ fieldAt p s at → f ≡ Refused k → 0 < k
+field-positive p s at answer z = declined-number (refused-declined p s at (sym answer ∙ z))
+
+-- ---- the form of a string
+
+module _ (a : Alignment) (t : Tables) (r : Role) where
+  string-form : (bs : Bits) → readString a t r bs ≡ (readForm a t (partitionsOf t r) >>= judge t r) bs
+  unfolding readString judge admit
+  string-form bs = refl
+
+  -- By partitions for literals.
+  module _ {ess : List (List Placed)} (e : partitionsOf t r ≡ literals ess) where
+    literals-form : (bs : Bits) → readString a t r bs ≡ (unsigned >>= λ v. readIn a t (length ess) v (getElem? ess v) >>= judge t r) bs
+    unfolding readForm readByLiterals
+    literals-form bs =
+        string-form bs ∙ rw e (then-assoc unsigned (λ v. readIn a t (length ess) v (getElem? ess v)) (judge t r) bs)
+
+-- ---- what is judged behind the form
+
+module _ (t : Tables) (r : Role) (v : Form × Placed) where
+  pub admit-got : nameAllowed r (v .1 .text) ≡ true → withinTables (tablesAfter t r (v .0) (v .1 .text)) ≡ true
+      → (bs : Bits) → admit t r v bs ≡ got (v .1, tablesAfter t r (v .0) (v .1 .text)) bs
+  unfolding admit
+  admit-got e w bs = need-true _ name _ _ e ∙ need-true _ limit _ _ w ∙ return-got _ _
+
+module _ (t : Tables) (r : Role) (v : Form × Placed) {s : List ℕ} {at : ℕ} where
+  pub judge-loose : eqForm (v .0) (formOf (partitionsOf t r) (v .1 .text)) ≡ false → Declined (judge t r v) s at 10
+  unfolding judge numberOf
+  judge-loose e = need-declined _ loose (admit t r v) e
+
+  pub admit-name : nameAllowed r (v .1 .text) ≡ false → Declined (admit t r v) s at 11
+  unfolding admit numberOf
+  admit-name e = need-declined _ name _ e
+
+  pub admit-limit : nameAllowed r (v .1 .text) ≡ true → withinTables (tablesAfter t r (v .0) (v .1 .text)) ≡ false → Declined (admit t r v) s at 12
+  unfolding admit numberOf
+  admit-limit e w = declined-as (need-true _ name _ _ e) (need-declined _ limit _ w)
+
+  abbrev pub admit-gotten : nameAllowed r (v .1 .text) ≡ true → withinTables (tablesAfter t r (v .0) (v .1 .text)) ≡ true → at ≤ 8 * length s
+      → Gotten (admit t r v) s at at
+  admit-gotten e w l =
+      record { value = (v .1, tablesAfter t r (v .0) (v .1 .text)); result = admit-got t r v e w (drop at (unpack s)); after = le-refl at; inside = l }
+
+pub strict-judge : (t : Tables) (r : Role) (v : Form × Placed) → eqForm (v .0) (formOf (partitionsOf t r) (v .1 .text)) ≡ true
+    → (bs : Bits) → judge t r v bs ≡ admit t r v bs
+unfolding judge
+strict-judge t r v e bs = need-true _ loose (admit t r v) bs e
+
+-- ---- a form and what is judged
+
+module _ (a : Alignment) {s work text : List ℕ} {st : State} {base n : ℕ} (r : Role) where
+  string-declined : {k : ℕ} → Declined (readForm a (tablesOf work text st) (partitionsOf (tablesOf work text st) r)) s (st .at) k
+      → StringRead a r base n s work text st work text (refusedGot k st)
+  string-declined d =
+      part-string (part-declined refl (declined-as (string-form a (tablesOf work text st) r (drop (st .at) (unpack s)))
+      (declined-then (judge (tablesOf work text st) r) d)))
+
+  -- By partitions for literals.
+  module _ {ess : List (List Placed)} (e : partitionsOf (tablesOf work text st) r ≡ literals ess) (h : ReadReady s work text st) {f : Field}
+      (answer : f ≡ fieldAt unsigned s (st .at)) where
+    pub literals-refused : {k : ℕ} → f ≡ Refused k → StringRead a r base n s work text st work text (refusedGot k st)
+    unfolding readForm readByLiterals
+    literals-refused z = string-declined (rw e (declined-then _ (refused-declined unsigned s (st .at) (sym answer ∙ z))))
+
+    module _ {v q : ℕ} (z : f ≡ Value v q) {work′ text′ : List ℕ} {g : Got} where
+      literals-then : PartRead (readIn a (tablesOf work text st) (length ess) v (getElem? ess v) >>= judge (tablesOf work text st) r) base n s q
+          work text st work′ text′ g
+          → StringRead a r base n s work text st work′ text′ g
+      literals-then p =
+          part-string (part-as (literals-form a (tablesOf work text st) r e (drop (st .at) (unpack s)))
+          (part-then _ (unsigned-gotten s (st .at) (h .place) (sym answer ∙ z)) p))
+
+      pub literals-new : getElem? ess v ≡ none
+          → PartRead (readAsNew (tablesOf work text st) r (v - length ess)) base n s q work text st work′ text′ g
+          → StringRead a r base n s work text st work′ text′ g
+      unfolding readIn readAsNew
+      literals-new o p = literals-then (rw o p)
+
+      pub literals-hit : {es : List Placed} → getElem? ess v ≡ some es
+          → PartRead (readAsHit a (tablesOf work text st) r v es) base n s q work text st work′ text′ g
+          → StringRead a r base n s work text st work′ text′ g
+      unfolding readIn readAsHit
+      literals-hit o p = literals-then (rw o p)
+
+-- ---- a URI, by its choice
+
+some-member : (es : List Placed) (i : ℕ) {e : Placed} → getElem? es i ≡ some e → getElem? (map some es) i ≡ some (some e)
+some-member [] i o = absurd (Option·none-ne-some _ o)
+some-member (x ∷ es) zero o = cc
+some-member (x ∷ es) (suc i) o = some-member es i o
+
+uri-choices : (work text : List ℕ) (st : State) → length (none ∷ map some (tablesOf work text st .uris)) ≡ st .uris + 1
+uri-choices work text st = rw (length-map, length-uris (readerMemory work text) (countsOf st), add-one)
+
+module _ (a : Alignment) {s work text : List ℕ} {st : State} (h : ReadReady s work text st) {f : Field}
+    (answer : f ≡ fieldAt (numberField a (width (st .uris + 1))) s (st .at)) where
+  wide : f ≡ fieldAt (numberField a (width (length (none ∷ map some (tablesOf work text st .uris))))) s (st .at)
+  wide = rw (uri-choices work text st) answer
+
+  uri-declined : {k : ℕ} → Declined (choice a reference (none ∷ map some (tablesOf work text st .uris))) s (st .at) k
+      → StringRead a uri urisAt (st .uris) s work text st work text (refusedGot k st)
+  unfolding partitionsOf readForm
+  uri-declined d = string-declined a uri (declined-then _ d)
+
+  pub uri-refused : {k : ℕ} → f ≡ Refused k → StringRead a uri urisAt (st .uris) s work text st work text (refusedGot k st)
+  uri-refused z = uri-declined (choice-declined a reference _ (refused-declined _ s (st .at) (sym wide ∙ z)))
+
+  module _ {v q : ℕ} (z : f ≡ Value v q) where
+    pub uri-inside : q ≤ 8 * length s
+    uri-inside = number-gotten s (st .at) (h .place) a _ (sym answer ∙ z) .inside
+
+    pub uri-past : st .uris < v → StringRead a uri urisAt (st .uris) s work text st work text (refusedGot 9 st)
+    unfolding numberOf
+    uri-past b =
+        uri-declined (choice-none a reference _ (number-gotten s (st .at) (h .place) a _ (sym wide ∙ z))
+        (omega (arith, uri-choices work text st)))
+
+    module _ {work′ text′ : List ℕ} {g : Got} where
+      uri-entry : {x : Option Placed} → getElem? (none ∷ map some (tablesOf work text st .uris)) v ≡ some x
+          → PartRead (readEntry a (tablesOf work text st) v x >>= judge (tablesOf work text st) uri) urisAt (st .uris) s q work text st work′ text′ g
+          → StringRead a uri urisAt (st .uris) s work text st work′ text′ g
+      unfolding partitionsOf readForm
+      uri-entry o p =
+          let t : Tables = tablesOf work text st in
+          let bs : Bits = drop (st .at) (unpack s) in
+          part-string (part-as (string-form a t uri bs ∙ then-assoc _ _ (judge t uri) bs)
+          (part-then _ (choice-gotten a reference _ (number-gotten s (st .at) (h .place) a _ (sym wide ∙ z)) o) p))
+
+      pub uri-hit : {i : ℕ} {e : Placed} → v ≡ suc i → getElem? (tablesOf work text st .uris) i ≡ some e
+          → PartRead (judge (tablesOf work text st) uri (hit 0 (v - 1), e)) urisAt (st .uris) s q work text st work′ text′ g
+          → StringRead a uri urisAt (st .uris) s work text st work′ text′ g
+      unfolding readEntry return _>>=_ andThen
+      uri-hit {i} {e} y o p = uri-entry {x = some e} (rw y (some-member (tablesOf work text st .uris) i o)) p
+
+    module _ (y : v ≡ 0) {u : Field} (second : u ≡ fieldAt unsigned s q) where
+      pub new-uri-refused : {k : ℕ} → u ≡ Refused k → StringRead a uri urisAt (st .uris) s work text st work text (refusedGot k st)
+      unfolding readEntry readByLiterals
+      new-uri-refused w =
+          uri-entry {x = none} (rw y)
+          (part-declined refl (declined-then _ (declined-then _ (refused-declined unsigned s q (sym second ∙ w)))))
+
+      pub new-uri : {work′ text′ : List ℕ} {g : Got} {l q′ : ℕ} → u ≡ Value l q′
+          → PartRead (readAsNew (tablesOf work text st) uri l) urisAt (st .uris) s q′ work text st work′ text′ g
+          → StringRead a uri urisAt (st .uris) s work text st work′ text′ g
+      unfolding readEntry readByLiterals readIn readAsNew
+      new-uri {l} w p =
+          let t : Tables = tablesOf work text st in
+          let m : l - 0 ≡ l = omega arith in
+          uri-entry {x = none} (rw y) (part-as (then-assoc unsigned _ (judge t uri) (drop q (unpack s)))
+          (part-then _ (unsigned-gotten s q uri-inside (sym second ∙ w)) (rw m p)))

@@ -1,0 +1,108 @@
+-- What an event leaves in learned rows and element grammars, as cells: nothing where it is refused, else zeros behind the counts.
+use Prim.Native.Nat.{ℕ, _+_, _<_}
+use native.Mathlib.Omega.{arith}
+use mathlib.Core.Path.{_≡_, refl, sym}
+use mathlib.Core.Logic.{inr}
+use mathlib.Core.Bool.{Bool, true, false, cond, true≢false}
+use mathlib.Core.List.{List}
+use lib.Dec.{eqb, ltb}
+use borrow.Author.Tests.{eqb-true, ltb-true}
+use Rattle.fields.proofs.Tests.{split}
+use Rattle.format.specs.Sizes.{maxOpen, maxLearned, maxGrammars}
+use Rattle.rows.specs.Rows.{rows, withRowBelow}
+use Rattle.productions.specs.Locate.{hasKey}
+use Rattle.layout.specs.Layout.{grammarsAt}
+use Rattle.state.specs.declared.Stack.{Stack}
+use Rattle.state.specs.declared.State.{State}
+use Rattle.state.specs.Stack.{pushed, popped}
+use Rattle.reading.specs.Memory.{Clear}
+use Rattle.reading.proofs.Memory.{Grown, clear-learned, clear-grammar, clear-same}
+use Rattle.learning.specs.declared.Grown as learning
+use Rattle.learning.specs.Learning.{regrown, grammarRowOf, entered, withGrammarRow, left, contentBegun, turned, withTurn, learnedRowOf, alsoLearnt, grown, withLearnt, withGrowth}
+
+-- Work memory v behind an event that leaves r.
+pub record Cells (w v : List ℕ) (st : State) (r : learning.Grown) : Type 0 where
+  pub refused : r .ok ≡ false → v ≡ w
+  pub clear : r .ok ≡ true → {text : List ℕ} → Clear w text st → Clear v text (r .state)
+
+record Turns (w v : List ℕ) (st : State) (r : learning.Grown) : Type 0 where
+  cells : Cells w v st r
+  learned : r .state .learned ≡ st .learned
+
+-- Another state of the grammar, other open elements.
+restacked-clear : {w text : List ℕ} {st : State} (mode : ℕ) (stack : Stack) → Clear w text st
+    → Clear w text (regrown st (st .learned) (st .grammars) mode stack)
+restacked-clear mode stack c =
+    clear-same c (c .store)
+    (record { uris = omega arith; names = omega arith; values = omega arith; learned = omega arith; grammars = omega arith })
+    refl
+
+module _ (w : List ℕ) (st : State) where
+  stays-cells : (mode : ℕ) (stack : Stack) → Turns w w st (record { ok = true; state = regrown st (st .learned) (st .grammars) mode stack })
+  stays-cells mode stack = record { cells = record { refused = λ e. refl; clear = λ _ c. restacked-clear mode stack c }; learned = refl }
+
+  no-cells : {v : List ℕ} → v ≡ w → Turns w v st (record { ok = false; state = st })
+  no-cells e = record { cells = record { refused = λ _. e; clear = λ t. absurd (true≢false (sym t)) }; learned = refl }
+
+  module _ (name : ℕ) where
+    enter-cells : Turns w (withGrammarRow w st name) st (entered st name (hasKey name (rows w grammarsAt (st .grammars))))
+    unfolding entered withGrammarRow withRowBelow
+    enter-cells =
+        split (ltb (st .stack .depth) maxOpen)
+        (λ d. split (hasKey name (rows w grammarsAt (st .grammars)))
+        (λ k. let z : st .grammars + 0 ≡ st .grammars = omega arith in rw (d, k, z) (stays-cells 4 (pushed (st .stack) name .stack)))
+        (λ k. split (ltb (st .grammars) maxGrammars)
+        (λ f. rw (d, k, f) (record {
+          cells = record {
+            refused = λ e. absurd (true≢false e);
+            clear = λ _ c.
+                clear-grammar c (c .store)
+                (record { uris = omega arith; names = omega arith; values = omega arith; learned = omega arith; grammars = omega arith })
+                (inr (grammarRowOf name, refl)) (omega arith) (ltb-true (st .grammars) maxGrammars f);
+          };
+          learned = refl;
+        }))
+        (λ f. rw (d, k, f) (no-cells refl))))
+        (λ d. rw d (no-cells refl))
+
+    turn-cells : (kind : ℕ) → Turns w (withTurn w st kind name) st (turned st kind name (hasKey name (rows w grammarsAt (st .grammars))))
+    unfolding turned withTurn left contentBegun
+    turn-cells kind =
+        split (eqb kind 0)
+        (λ e. let z : kind ≡ 0 = eqb-true kind 0 e in rw z (stays-cells 1 (st .stack)))
+        (λ a. split (eqb kind 1)
+        (λ e. let z : kind ≡ 1 = eqb-true kind 1 e in rw z (stays-cells 3 (st .stack)))
+        (λ b. split (eqb kind 2)
+        (λ e. rw (a, b, e) enter-cells)
+        (λ c. split (eqb kind 3)
+        (λ e. rw (a, b, c, e) (stays-cells (st .mode) (st .stack)))
+        (λ d. split (eqb kind 4)
+        (λ e. rw (a, b, c, d, e) (stays-cells (cond (eqb (st .stack .depth) 1) 2 5) (popped (st .stack))))
+        (λ e. rw (a, b, c, d, e) (stays-cells (cond (eqb (st .mode) 4) 5 (st .mode)) (st .stack)))))))
+
+-- ---- learning
+
+learnt-cells : {w v : List ℕ} {st : State} (kind name : ℕ) (t : learning.Grown) → st .learned < maxLearned → Turns w v st t
+    → Cells w (withLearnt v st kind name (t .ok)) st (alsoLearnt st t)
+unfolding alsoLearnt withLearnt
+learnt-cells {w} {v} {st} kind name t few x =
+    split (t .ok)
+    (λ e. rw e (record {
+      refused = λ z. absurd (true≢false z);
+      clear = λ _ c.
+          let d = x .cells .clear e c in
+          clear-learned d (d .store)
+          (record { uris = omega arith; names = omega arith; values = omega arith; learned = omega (arith, x .learned); grammars = omega arith })
+          (rw (x .learned) (inr (learnedRowOf st kind name, refl))) (omega (arith, x .learned)) (omega (arith, x .learned));
+    }))
+    (λ e. rw e (record { refused = λ _. x .cells .refused e; clear = λ z. absurd (true≢false (sym z)) }))
+
+pub growth-cells : (w : List ℕ) (st : State) (kind : ℕ) (teaches : Bool) (name : ℕ)
+    → Cells w (withGrowth w st kind teaches name) st (grown st kind teaches name (hasKey name (rows w grammarsAt (st .grammars))))
+unfolding grown withGrowth
+growth-cells w st kind teaches name =
+    split teaches
+    (λ e. split (ltb (st .learned) maxLearned)
+    (λ f. rw (e, f) (learnt-cells kind name (turned st kind name (hasKey name (rows w grammarsAt (st .grammars)))) (ltb-true (st .learned) maxLearned f) (turn-cells w st name kind)))
+    (λ f. rw (e, f) (no-cells w st refl .cells)))
+    (λ e. rw e (turn-cells w st name kind .cells))

@@ -1,0 +1,5 @@
+pub mod Assembly
+pub mod Growth
+pub mod Memory
+pub mod Names
+pub mod Strings

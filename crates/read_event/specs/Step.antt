@@ -1,0 +1,79 @@
+-- What reading one event asks and leaves, in the definitions' terms.
+use Prim.Native.Nat.{ℕ, _+_, _*_, _-_, _≤_, _<_}
+use mathlib.Core.Path.{_≡_}
+use mathlib.Core.Bool.{Bool, false, cond, _||_}
+use mathlib.Core.List.{List, _++_}
+use lib.ListN.{length, take, drop, replicate}
+use lib.Dec.{ltb}
+use Rattle.format.specs.Event.{Event, mapEvent}
+use Rattle.format.specs.Sizes.{maxStream, maxStore, maxEvents, maxUris, maxNames, maxValues, eventCells}
+use Rattle.format.specs.Settings.{Settings}
+use Rattle.format.specs.Tables.{Placed, spanOf}
+use Rattle.format.specs.Context.{next}
+use Rattle.format.specs.Reader.{step, eventText}
+use Rattle.event.specs.Cells.{cellsOf}
+use Rattle.rows.specs.declared.Row.{Row}
+use Rattle.rows.specs.declared.Found.the-variants.{At}
+use Rattle.rows.specs.Rows.{withRowBelow}
+use Rattle.layout.specs.Layout.{urisAt, namesAt, valuesAt}
+use Rattle.state.specs.declared.State.{State}
+use Rattle.standing.specs.Standing.{contextOf, Standing}
+use Rattle.fitting.specs.Fitting.{newestOf}
+use Rattle.reading.specs.Outcome.{Outcome}
+use Rattle.reading.specs.Memory.{readerMemory, Clear}
+use Rattle.read_code.specs.declared.Decoded.{Decoded}
+use Rattle.read_event.specs.declared.Stepped.{Stepped}
+
+-- ---- taking back
+
+abbrev pub zeroRow : Row
+zeroRow = record { key = 0; place = 0; size = 0 }
+
+-- Zeros in the row behind each string table's rows.
+unfoldable pub undoneWork : List ℕ → State → List ℕ
+undoneWork work st =
+    withRowBelow maxValues
+    (withRowBelow maxNames (withRowBelow maxUris work urisAt (st .uris) zeroRow) namesAt (st .names) zeroRow)
+    valuesAt (st .values) zeroRow
+
+-- Zeros behind the store.
+unfoldable pub undoneText : List ℕ → State → List ℕ
+undoneText text st = take (st .stored) text ++ replicate (length text - st .stored) 0
+
+-- ---- LOOSE
+
+-- A learned production fits an event with this row of its name, whose code is not a learned one.
+unfoldable pub looseIn : List ℕ → State → Decoded → ℕ → Bool
+looseIn work st code row =
+    cond (code .learned) false (cond (ltb (code .kind) 2 || ltb 5 (code .kind)) false (newestOf work st (code .kind) (At 0 row) .hit))
+
+-- ---- the event
+
+-- A position in the stream, memory that means a context, zeros past the counts, and cells for one event more.
+pub record StepReady (stream events text work : List ℕ) (st : State) : Type 0 where
+  pub size : length stream ≤ maxStream
+  pub place : st .at ≤ 8 * length stream
+  pub standing : Standing (readerMemory work text) st
+  pub room : maxStore ≤ length text
+  pub clear : Clear work text st
+  pub cells : eventCells ≤ length events
+  pub few : st .events < maxEvents
+
+-- The cells with the event behind those of the events before.
+unfoldable pub withEvent : List ℕ → State → Event Placed → List ℕ
+withEvent events st e = take (7 * st .events) events ++ cellsOf (mapEvent spanOf e) ++ drop (7 * st .events + 7) events
+
+-- The event e was read: its cells, and memory and state mean what it leaves.
+pub record Done (s : Settings) (events text work : List ℕ) (st : State) (events′ text′ work′ : List ℕ) (r : Stepped) (e : Event Placed) : Type 0 where
+  pub cells : events′ ≡ withEvent events st e
+  pub context : contextOf (readerMemory work′ text′) (r .state) ≡ next s (contextOf (readerMemory work text) st) (eventText e)
+  pub standing : Standing (readerMemory work′ text′) (r .state)
+  pub clear : Clear work′ text′ (r .state)
+  pub count : r .state .events ≡ st .events + 1
+  pub sameText : length text′ ≡ length text
+  pub sameWork : length work′ ≡ length work
+
+-- By the definitions' step at the state's position. A refused step leaves everything as it was.
+pub record Step (s : Settings) (stream events text work : List ℕ) (st : State) (events′ text′ work′ : List ℕ) (r : Stepped) : Type 0 where
+  pub outcome : Outcome (step s (contextOf (readerMemory work text) st)) stream (st .at) (r .number) (r .state .at) (Done s events text work st events′ text′ work′ r)
+  pub unchanged : 0 < r .number → (r .state ≡ st) × (events′ ≡ events) × (text′ ≡ text) × (work′ ≡ work)
