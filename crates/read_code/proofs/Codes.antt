@@ -41,7 +41,7 @@ use Rattle.event_code.proofs.Codes.{fixed-coded, fixed-none, learned-coded}
 use Rattle.learning.specs.Learning.{keyOf}
 use Rattle.fitting.specs.Fitting.{countHere, learnedHere}
 use Rattle.fitting.proofs.Sought.{mode-is}
-use Rattle.reading.proofs.Outcome.{gotten-outcome, refused-outcome, outcome-weaken, fail-declined}
+use Rattle.outcome.proofs.Outcome.{gotten-outcome, refused-outcome, outcome-weaken, fail-declined}
 use Rattle.read_code.specs.declared.Part.{Part}
 use Rattle.read_code.specs.declared.Decoded.{Decoded}
 use Rattle.read_code.specs.Levels.{plainAs, refusedAs, learnedAs, PartRead, Stands, unnamedAt, lower, LevelRead, RowRead}

@@ -9,8 +9,8 @@ use Rattle.fields.specs.Refusal.{code}
 use Rattle.fields.specs.Field.{Alignment, choice}
 use Rattle.format.specs.Grammar.{Production, Code, allEmpty, choices, atLevel, below}
 use Rattle.format.specs.Reader.{readPart, readCode}
-use Rattle.reading.specs.Outcome.{Gotten, Outcome}
-use Rattle.reading.proofs.Outcome.{declined-outcome, outcome-then, outcome-map, return-outcome}
+use Rattle.outcome.specs.Outcome.{Gotten, Outcome}
+use Rattle.outcome.proofs.Outcome.{declined-outcome, outcome-then, outcome-map, return-outcome}
 use Rattle.read_code.specs.declared.Part.{Part}
 use Rattle.read_code.specs.Levels.{PartRead}
 

@@ -11,7 +11,7 @@ use Rattle.format.specs.Sizes.{maxStream}
 use Rattle.layout.specs.Meaning.{Memory}
 use Rattle.state.specs.declared.State.{State}
 use Rattle.read_field.specs.View.{fieldAt, InStream}
-use Rattle.reading.proofs.Outcome.{declined-number, refused-declined, number-gotten, choice-declined, choice-got, choice-none}
+use Rattle.outcome.proofs.Outcome.{declined-number, refused-declined, number-gotten, choice-declined, choice-got, choice-none}
 use Rattle.read_code.specs.Levels.{PartRead}
 use Rattle.read_code.specs.Decoding.{CodeReady}
 

@@ -18,7 +18,7 @@ use Rattle.productions.specs.Numbered.{Numbered}
 use Rattle.standing.specs.Standing.{countsOf, contextOf, Standing}
 use Rattle.event_code.specs.Parts.{teachesIn}
 use Rattle.fitting.specs.Fitting.{learnedHere}
-use Rattle.reading.specs.Outcome.{Outcome}
+use Rattle.outcome.specs.Outcome.{Outcome}
 use Rattle.read_code.specs.declared.Decoded.{Decoded}
 
 pub record CodeReady (stream : List ℕ) (m : Memory) (st : State) : Type 0 where

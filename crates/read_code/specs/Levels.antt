@@ -19,7 +19,7 @@ use Rattle.rows.specs.declared.Row.{Row}
 use Rattle.rows.specs.Rows.{Room, rowAt, rows, countOf, nthOf}
 use Rattle.layout.specs.Layout.{learnedAt}
 use Rattle.layout.specs.Meaning.{kindAt}
-use Rattle.reading.specs.Outcome.{Declined, Outcome}
+use Rattle.outcome.specs.Outcome.{Declined, Outcome}
 use Rattle.read_code.specs.declared.Part.{Part}
 use Rattle.read_code.specs.declared.Decoded.{Decoded}
 

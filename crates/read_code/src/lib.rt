@@ -6,12 +6,12 @@ ghost use Prim.Native.Nat.{_≤_, _<_};
 ghost use lib.ListN.{length, getD};
 ghost use Rattle.settings.specs.Meant.{settingsFrom};
 ghost use Rattle.read_field.specs.View.{alignmentOf, InStream, NumberIn};
-ghost use Rattle.reading.specs.Memory.{readerMemory};
+ghost use Rattle.outcome.specs.Memory.{readerMemory};
 ghost use Rattle.read_code.specs.Levels.{refusedAs, plainAs, PartRead, KeptRead, LevelRead, RowFits, RowRead, kindsIn, lower};
 ghost use Rattle.read_code.specs.Decoding.{CodeReady, CodeRead};
 use read_field::Field;
 use rows::Found;
-use settings::Options;
+use settings::Settings;
 use state::State;
 
 // The number of a refusal or 0; the kind of the production that the code names; whether it is a learned one and, if so, the row of the name that it
@@ -149,7 +149,7 @@ fn kind_in(mode: u32, v: u32) -> u32
 }
 
 // In the last level: comments and instructions, as kept.
-fn read_kept(o: Options, stream: &[u8], at: usize) -> Decoded
+fn read_kept(o: Settings, stream: &[u8], at: usize) -> Decoded
     requires { ⌜ InStream (now stream) at ⌝ }
     ensures { λ r. ⌜ KeptRead (settingsFrom o) (now (stream .entry)) at r ⌝ }
 {
@@ -165,7 +165,7 @@ fn read_kept(o: Options, stream: &[u8], at: usize) -> Decoded
 }
 
 // In a state's level of productions that are not learned, and in the kept one below it.
-fn read_lower(o: Options, stream: &[u8], at: usize, mode: u32) -> Decoded
+fn read_lower(o: Settings, stream: &[u8], at: usize, mode: u32) -> Decoded
     requires { ⌜ InStream (now stream) at ⌝ }
     ensures { λ r. ⌜ LevelRead (settingsFrom o) mode (lower (settingsFrom o) mode) (now (stream .entry)) at r ⌝ }
 {
@@ -201,7 +201,7 @@ fn row_read(work: &[u32], n: usize, key: u32, number: u32, at: usize) -> Decoded
 }
 
 // In an element: the learned productions, the newest first; in its content EE; then the levels below.
-fn read_inner(o: Options, stream: &[u8], st: State, text: &[u32], work: &[u32]) -> Decoded
+fn read_inner(o: Settings, stream: &[u8], st: State, text: &[u32], work: &[u32]) -> Decoded
     requires { ⌜ CodeReady (now stream) (readerMemory (now work) (now text)) st ⌝ }
     requires { ⌜ 4 ≤ st .mode ⌝ }
     ensures { λ r. ⌜ CodeRead (settingsFrom o) (readerMemory (now (work .entry)) (now (text .entry))) st (now (stream .entry)) r ⌝ }
@@ -225,7 +225,7 @@ fn read_inner(o: Options, stream: &[u8], st: State, text: &[u32], work: &[u32]) 
 }
 
 // Reads the code of an event. The text store is not looked at.
-pub fn read_code(o: Options, stream: &[u8], st: State, text: &[u32], work: &[u32]) -> Decoded
+pub fn read_code(o: Settings, stream: &[u8], st: State, text: &[u32], work: &[u32]) -> Decoded
     requires { ⌜ CodeReady (now stream) (readerMemory (now work) (now text)) st ⌝ }
     ensures { λ r. ⌜ CodeRead (settingsFrom o) (readerMemory (now (work .entry)) (now (text .entry))) st (now (stream .entry)) r ⌝ }
 {

@@ -26,8 +26,8 @@ use Rattle.standing.specs.Standing.{countsOf, reached}
 use Rattle.read_field.specs.declared.Field.{Field}
 use Rattle.read_field.specs.declared.Field.the-variants.{Value, Refused}
 use Rattle.read_field.specs.View.{fieldAt, NumberIn}
-use Rattle.reading.specs.Memory.{readerMemory, tablesOf, ReadReady}
-use Rattle.reading.proofs.Outcome.{unsigned-gotten}
+use Rattle.outcome.specs.Memory.{readerMemory, tablesOf, ReadReady}
+use Rattle.outcome.proofs.Outcome.{unsigned-gotten}
 use Rattle.read_content.specs.declared.Got.{Got}
 use Rattle.read_content.specs.Content.{StringRead, UriRow, NameRow, ValueRow}
 use Rattle.read_content.specs.Parts.{readAsHit, ReadFrom, LocalFrom, ValueFrom, HitFit, refusedGot, PartRead, Taken, EntryTaken, HitRead}

@@ -21,10 +21,10 @@ use Rattle.layout.proofs.Adding.{After, countsAfter}
 use Rattle.state.specs.declared.State.{State}
 use Rattle.standing.specs.Standing.{countsOf, Kept}
 use Rattle.read_field.specs.View.{InStream}
-use Rattle.reading.specs.Outcome.{Declined, Gotten}
-use Rattle.reading.specs.Memory.{readerMemory, tablesOf, ReadReady, OneRow}
-use Rattle.reading.proofs.Outcome.{gotten-outcome, declined-then, then-got, declined-as}
-use Rattle.reading.proofs.Memory.{longer-laid}
+use Rattle.outcome.specs.Outcome.{Declined, Gotten}
+use Rattle.outcome.specs.Memory.{readerMemory, tablesOf, ReadReady, OneRow}
+use Rattle.outcome.proofs.Outcome.{gotten-outcome, declined-then, then-got, declined-as}
+use Rattle.outcome.proofs.Memory.{longer-laid}
 use Rattle.read_string.specs.Literal.{laidAt, LiteralFit, Laid, LiteralRead}
 use Rattle.read_string.specs.declared.Literal as declared
 use Rattle.read_content.specs.declared.Got.{Got}

@@ -35,9 +35,9 @@ use Rattle.standing.specs.Standing.{countsOf, reached, Kept}
 use Rattle.read_field.specs.declared.Field.{Field}
 use Rattle.read_field.specs.declared.Field.the-variants.{Value, Refused}
 use Rattle.read_field.specs.View.{fieldAt, NumberIn}
-use Rattle.reading.specs.Outcome.{Declined, Gotten, Outcome}
-use Rattle.reading.specs.Memory.{readerMemory, tablesOf, ReadReady, Longer}
-use Rattle.reading.proofs.Outcome.{refused-outcome, gotten-outcome, declined-then, gotten-declined, declined-as, refused-declined, number-gotten, choice-declined, choice-gotten, choice-none}
+use Rattle.outcome.specs.Outcome.{Declined, Gotten, Outcome}
+use Rattle.outcome.specs.Memory.{readerMemory, tablesOf, ReadReady, Longer}
+use Rattle.outcome.proofs.Outcome.{refused-outcome, gotten-outcome, declined-then, gotten-declined, declined-as, refused-declined, number-gotten, choice-declined, choice-gotten, choice-none}
 use Rattle.read_content.specs.declared.Got.{Got}
 use Rattle.read_content.specs.Content.{Read, rowsOf}
 use Rattle.read_content.specs.Parts.{judge, readAsHit, HitFit, refusedGot, PartRead, Taken, EntryTaken, HitRead}

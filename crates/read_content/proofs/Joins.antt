@@ -28,7 +28,7 @@ use Rattle.layout.proofs.Strings.{numberOf, find-answer, uris-listed, names-lis
 use Rattle.layout.proofs.Adding.{Grows, newRow, countsAfter, After, grows-text, grows-row, after-uri, after-local, after-value, after-target, after-empty, name-new}
 use Rattle.state.specs.declared.State.{State}
 use Rattle.standing.specs.Standing.{countsOf}
-use Rattle.reading.specs.Memory.{readerMemory, tablesOf, ReadReady}
+use Rattle.outcome.specs.Memory.{readerMemory, tablesOf, ReadReady}
 use Rattle.read_string.specs.Literal.{laidAt}
 use Rattle.read_string.specs.declared.Literal as declared
 use Rattle.read_content.specs.declared.Got.{Got}

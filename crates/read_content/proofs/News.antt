@@ -18,10 +18,10 @@ use Rattle.format.specs.Reader.{readLiteral}
 use Rattle.rows.specs.declared.Found.{Found}
 use Rattle.rows.specs.declared.Found.the-variants.{At, Nothing}
 use Rattle.rows.specs.Rows.{rows, hasText, findThat, found}
-use Rattle.reading.specs.Outcome.{Gotten}
-use Rattle.reading.specs.Memory.{ZeroFrom}
-use Rattle.reading.proofs.Outcome.{refused-outcome, gotten-outcome, declined-then, gotten-declined, gotten-then, need-declined, need-gotten, return-gotten}
-use Rattle.reading.proofs.Memory.{laid-length, laid-before, cleared-back}
+use Rattle.outcome.specs.Outcome.{Gotten}
+use Rattle.outcome.specs.Memory.{ZeroFrom}
+use Rattle.outcome.proofs.Outcome.{refused-outcome, gotten-outcome, declined-then, gotten-declined, gotten-then, need-declined, need-gotten, return-gotten}
+use Rattle.outcome.proofs.Memory.{laid-length, laid-before, cleared-back}
 use Rattle.read_string.specs.Literal.{laidAt, Laid, LiteralRead}
 use Rattle.read_string.specs.declared.Literal as declared
 use Rattle.read_content.specs.Parts.{admit, judge, readAsNew, readNew, NewFit, missing, Tells, NewRead}

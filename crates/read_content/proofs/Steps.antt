@@ -24,9 +24,9 @@ use Rattle.read_field.specs.declared.Field.{Field}
 use Rattle.read_field.specs.declared.Field.the-variants.{Value, Refused}
 use Rattle.read_field.specs.View.{fieldAt}
 use Rattle.state.specs.declared.State.{State}
-use Rattle.reading.specs.Outcome.{Declined, Gotten}
-use Rattle.reading.specs.Memory.{readerMemory, tablesOf, ReadReady}
-use Rattle.reading.proofs.Outcome.{declined-number, refused-outcome, outcome-as, outcome-then, declined-then, need-true, need-declined, declined-as, return-got, refused-declined, unsigned-gotten, number-gotten, choice-declined, choice-gotten, choice-none}
+use Rattle.outcome.specs.Outcome.{Declined, Gotten}
+use Rattle.outcome.specs.Memory.{readerMemory, tablesOf, ReadReady}
+use Rattle.outcome.proofs.Outcome.{declined-number, refused-outcome, outcome-as, outcome-then, declined-then, need-true, need-declined, declined-as, return-got, refused-declined, unsigned-gotten, number-gotten, choice-declined, choice-gotten, choice-none}
 use Rattle.read_content.specs.declared.Got.{Got}
 use Rattle.read_content.specs.Content.{StringRead, UriRow, NameRow}
 use Rattle.read_content.specs.Parts.{admit, judge, readAsNew, readAsHit, refusedGot, PartRead}

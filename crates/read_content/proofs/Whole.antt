@@ -23,8 +23,8 @@ use Rattle.state.specs.declared.State.{State}
 use Rattle.read_field.specs.declared.Field.{Field}
 use Rattle.read_field.specs.declared.Field.the-variants.{Value, Refused}
 use Rattle.read_field.specs.View.{fieldAt}
-use Rattle.reading.specs.Memory.{tablesOf, ReadReady}
-use Rattle.reading.proofs.Outcome.{unsigned-gotten}
+use Rattle.outcome.specs.Memory.{tablesOf, ReadReady}
+use Rattle.outcome.proofs.Outcome.{unsigned-gotten}
 use Rattle.read_string.specs.Literal.{LiteralRead}
 use Rattle.read_string.specs.declared.Literal as declared
 use Rattle.read_content.specs.declared.Got.{Got}

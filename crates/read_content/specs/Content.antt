@@ -11,8 +11,8 @@ use Rattle.format.specs.Reader.{readString}
 use Rattle.layout.specs.Meaning.{uriText, nameAt}
 use Rattle.state.specs.declared.State.{State}
 use Rattle.standing.specs.Standing.{Kept}
-use Rattle.reading.specs.Outcome.{Outcome}
-use Rattle.reading.specs.Memory.{readerMemory, tablesOf, ReadReady, OneRow, Longer}
+use Rattle.outcome.specs.Outcome.{Outcome}
+use Rattle.outcome.specs.Memory.{readerMemory, tablesOf, ReadReady, OneRow, Longer}
 use Rattle.read_content.specs.declared.Got.{Got}
 
 -- ---- what is asked

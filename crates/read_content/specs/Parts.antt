@@ -20,8 +20,8 @@ use Rattle.layout.specs.Meaning.{placedAt}
 use Rattle.layout.proofs.Strings.{Listed}
 use Rattle.state.specs.declared.State.{State}
 use Rattle.standing.specs.Standing.{reached}
-use Rattle.reading.specs.Outcome.{Outcome}
-use Rattle.reading.specs.Memory.{readerMemory, ReadReady, OneRow}
+use Rattle.outcome.specs.Outcome.{Outcome}
+use Rattle.outcome.specs.Memory.{readerMemory, ReadReady, OneRow}
 use Rattle.read_string.specs.Literal.{laidAt, LiteralFit, Laid}
 use Rattle.read_string.specs.declared.Literal as declared
 use Rattle.read_content.specs.declared.Got.{Got}

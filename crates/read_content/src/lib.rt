@@ -12,7 +12,7 @@ ghost use Rattle.rows.specs.Rows.{Room};
 ghost use Rattle.layout.specs.Layout.{urisAt, namesAt, valuesAt, tableCells};
 ghost use Rattle.layout.specs.Meaning.{nameAt, uriText};
 ghost use Rattle.read_field.specs.View.{alignmentOf};
-ghost use Rattle.reading.specs.Memory.{readerMemory, tablesOf, ReadReady};
+ghost use Rattle.outcome.specs.Memory.{readerMemory, tablesOf, ReadReady};
 ghost use Rattle.read_content.specs.Content.{ReadyLocal, ReadyValue, StringRead, UriRow, NameRow, ValueRow};
 ghost use Rattle.read_content.specs.Parts.{readAsNew, readAsHit, ReadFrom, HitFit, NewFit, LocalFrom, ValueFrom, refusedGot, readGot, laidState, PartRead, EntryTaken, HitRead, NewRead};
 use read_field::Field;

@@ -38,9 +38,9 @@ use Rattle.learning.proofs.Growth.{grow-means, grow-asks}
 use Rattle.fitting.specs.Fitting.{Sought, NewestFits, newerOf, locatedHere, newestOf, learnedHere}
 use Rattle.fitting.proofs.Sought.{apart, sought-none}
 use Rattle.fitting.proofs.Fitting.{newest-asks, newest-means}
-use Rattle.reading.specs.Outcome.{Declined, Outcome}
-use Rattle.reading.specs.Memory.{readerMemory, tablesOf, Clear}
-use Rattle.reading.proofs.Outcome.{refused-outcome, outcome-as, declined-as, declined-then, gotten-declined, outcome-then, need-true, need-passed, need-declined, return-outcome}
+use Rattle.outcome.specs.Outcome.{Declined, Outcome}
+use Rattle.outcome.specs.Memory.{readerMemory, tablesOf, Clear}
+use Rattle.outcome.proofs.Outcome.{refused-outcome, outcome-as, declined-as, declined-then, gotten-declined, outcome-then, need-true, need-passed, need-declined, return-outcome}
 use Rattle.read_code.specs.declared.Decoded.{Decoded}
 use Rattle.read_code.specs.Decoding.{CodeReady, productionIn, Strict, CodeRead}
 use Rattle.read_event.specs.Content.{ContentFits, Held, ContentRead}

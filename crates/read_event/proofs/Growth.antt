@@ -15,8 +15,8 @@ use Rattle.layout.specs.Layout.{grammarsAt}
 use Rattle.state.specs.declared.Stack.{Stack}
 use Rattle.state.specs.declared.State.{State}
 use Rattle.state.specs.Stack.{pushed, popped}
-use Rattle.reading.specs.Memory.{Clear}
-use Rattle.reading.proofs.Memory.{Grown, clear-learned, clear-grammar, clear-same}
+use Rattle.outcome.specs.Memory.{Clear}
+use Rattle.outcome.proofs.Memory.{Grown, clear-learned, clear-grammar, clear-same}
 use Rattle.learning.specs.declared.Grown as learning
 use Rattle.learning.specs.Learning.{regrown, grammarRowOf, entered, withGrammarRow, left, contentBegun, turned, withTurn, learnedRowOf, alsoLearnt, grown, withLearnt, withGrowth}
 

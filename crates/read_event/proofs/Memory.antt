@@ -21,8 +21,8 @@ use Rattle.layout.specs.Layout.{urisAt, namesAt, valuesAt, tableCells}
 use Rattle.layout.proofs.Sizes.{urisAt-is, namesAt-is, valuesAt-is, tableCells-is}
 use Rattle.state.specs.declared.State.{State}
 use Rattle.standing.specs.Standing.{Kept}
-use Rattle.reading.specs.Memory.{readerMemory, ZeroFrom, ZeroRows, Clear, OneRow}
-use Rattle.reading.proofs.Memory.{longer-refl, longer-then, cleared-back, Grown, clear-uri, clear-name, clear-value, clear-same}
+use Rattle.outcome.specs.Memory.{readerMemory, ZeroFrom, ZeroRows, Clear, OneRow}
+use Rattle.outcome.proofs.Memory.{longer-refl, longer-then, cleared-back, Grown, clear-uri, clear-name, clear-value, clear-same}
 use Rattle.read_content.specs.declared.Got.{Got}
 use Rattle.read_content.specs.Content.{rowsOf, Counted, StringRead, UriRow, NameRow, ValueRow}
 use Rattle.read_event.specs.Content.{Beside, Off, Left}

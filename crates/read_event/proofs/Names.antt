@@ -34,9 +34,9 @@ use Rattle.event.specs.Cells.{asSpan, asName}
 use Rattle.event.specs.declared.Part.{Part}
 use Rattle.state.specs.declared.State.{State}
 use Rattle.standing.proofs.Kept.{kept-refl, kept-then}
-use Rattle.reading.specs.Outcome.{Gotten, Outcome}
-use Rattle.reading.specs.Memory.{readerMemory, tablesOf}
-use Rattle.reading.proofs.Outcome.{declined-outcome, outcome-as, outcome-then, outcome-map, return-outcome}
+use Rattle.outcome.specs.Outcome.{Gotten, Outcome}
+use Rattle.outcome.specs.Memory.{readerMemory, tablesOf}
+use Rattle.outcome.proofs.Outcome.{declined-outcome, outcome-as, outcome-then, outcome-map, return-outcome}
 use Rattle.read_code.specs.declared.Decoded.{Decoded}
 use Rattle.read_content.specs.declared.Got.{Got}
 use Rattle.read_content.specs.Content.{ReadyLocal, StringRead, UriRow, NameRow}

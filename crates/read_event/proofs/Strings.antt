@@ -29,8 +29,8 @@ use Rattle.state.specs.declared.State.{State}
 use Rattle.standing.specs.Standing.{countsOf, contextOf, Standing, Kept}
 use Rattle.standing.proofs.Laws.{startTag-state, elementContent-state, top-below}
 use Rattle.standing.proofs.Kept.{kept-refl, kept-then}
-use Rattle.reading.specs.Memory.{readerMemory, tablesOf, ReadReady}
-use Rattle.reading.proofs.Outcome.{declined-outcome, outcome-as, outcome-then, outcome-map, return-outcome}
+use Rattle.outcome.specs.Memory.{readerMemory, tablesOf, ReadReady}
+use Rattle.outcome.proofs.Outcome.{declined-outcome, outcome-as, outcome-then, outcome-map, return-outcome}
 use Rattle.read_code.specs.declared.Decoded.{Decoded}
 use Rattle.read_code.specs.Decoding.{productionIn}
 use Rattle.read_content.specs.declared.Got.{Got}

@@ -23,8 +23,8 @@ use Rattle.event.specs.Cells.{asName, meaning}
 use Rattle.event.specs.declared.Part.{Part}
 use Rattle.state.specs.declared.State.{State}
 use Rattle.standing.specs.Standing.{countsOf, contextOf, Standing, Kept}
-use Rattle.reading.specs.Outcome.{Outcome}
-use Rattle.reading.specs.Memory.{readerMemory, tablesOf, ReadReady, Clear, Longer}
+use Rattle.outcome.specs.Outcome.{Outcome}
+use Rattle.outcome.specs.Memory.{readerMemory, tablesOf, ReadReady, Clear, Longer}
 use Rattle.read_code.specs.declared.Decoded.{Decoded}
 use Rattle.read_event.specs.declared.Named.{Named}
 use Rattle.read_event.specs.declared.Content.{Content}

@@ -19,8 +19,8 @@ use Rattle.layout.specs.Layout.{urisAt, namesAt, valuesAt}
 use Rattle.state.specs.declared.State.{State}
 use Rattle.standing.specs.Standing.{contextOf, Standing}
 use Rattle.fitting.specs.Fitting.{newestOf}
-use Rattle.reading.specs.Outcome.{Outcome}
-use Rattle.reading.specs.Memory.{readerMemory, Clear}
+use Rattle.outcome.specs.Outcome.{Outcome}
+use Rattle.outcome.specs.Memory.{readerMemory, Clear}
 use Rattle.read_code.specs.declared.Decoded.{Decoded}
 use Rattle.read_event.specs.declared.Stepped.{Stepped}
 

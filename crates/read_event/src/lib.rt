@@ -7,7 +7,7 @@ ghost use Rattle.layout.specs.Layout.{tableCells};
 ghost use Rattle.fitting.specs.Fitting.{NewestFits};
 ghost use Rattle.settings.specs.Meant.{settingsFrom};
 ghost use Rattle.read_field.specs.View.{alignmentOf};
-ghost use Rattle.reading.specs.Memory.{readerMemory};
+ghost use Rattle.outcome.specs.Memory.{readerMemory};
 ghost use Rattle.read_code.specs.Decoding.{productionIn};
 ghost use Rattle.read_event.specs.Content.{CarriedFits, carriedAt, nameIn, NameFits, NameRead, ContentFits, ContentRead};
 ghost use Rattle.read_event.specs.Step.{undoneWork, undoneText, looseIn, StepReady, Step};
@@ -16,7 +16,7 @@ use event::Part;
 use read_code::Decoded;
 use read_content::Got;
 use rows::Found;
-use settings::Options;
+use settings::Settings;
 use state::State;
 
 // Where the tables begin in work memory.
@@ -285,7 +285,7 @@ fn is_loose(st: State, code: Decoded, row: u32, work: &[u32]) -> bool
 
 // Reads one event behind the state.
 pub fn step(
-    o: Options,
+    o: Settings,
     stream: &[u8],
     st: State,
     events: &mut [u32],

@@ -18,9 +18,9 @@ use Rattle.format.specs.Tables.{literal, laid}
 use Rattle.format.specs.Reader.{readCharacter, readLiteral}
 use Rattle.read_field.specs.declared.Field.the-variants.{Value, Refused}
 use Rattle.read_field.specs.View.{fieldAt, InStream}
-use Rattle.reading.specs.Outcome.{Declined, Gotten}
-use Rattle.reading.proofs.Outcome.{refused-outcome, gotten-outcome, declined-then, gotten-then, gotten-declined, return-gotten, outcome-map, need-passed, need-failed, need-gotten, need-declined, times-empty, times-declined, times-gotten, unsigned-gotten, refused-declined}
-use Rattle.reading.proofs.Memory.{laid-length, cleared-back, laid-before}
+use Rattle.outcome.specs.Outcome.{Declined, Gotten}
+use Rattle.outcome.proofs.Outcome.{refused-outcome, gotten-outcome, declined-then, gotten-then, gotten-declined, return-gotten, outcome-map, need-passed, need-failed, need-gotten, need-declined, times-empty, times-declined, times-gotten, unsigned-gotten, refused-declined}
+use Rattle.outcome.proofs.Memory.{laid-length, cleared-back, laid-before}
 use Rattle.read_string.specs.declared.Literal as declared
 use Rattle.read_string.specs.Literal.{CharactersFit, laidAt, CharactersRead, LiteralRead}
 

@@ -8,8 +8,8 @@ use Rattle.text.specs.Text.{Text}
 use Rattle.format.specs.Sizes.{maxStream, maxStore, maxString}
 use Rattle.format.specs.Tables.{Tables, Form, literal, Placed}
 use Rattle.format.specs.Reader.{readCharacter, readLiteral}
-use Rattle.reading.specs.Outcome.{Outcome}
-use Rattle.reading.specs.Memory.{ZeroFrom}
+use Rattle.outcome.specs.Outcome.{Outcome}
+use Rattle.outcome.specs.Memory.{ZeroFrom}
 use Rattle.read_string.specs.declared.Literal as declared
 
 pub record LiteralFit (stream : List ℕ) (at : ℕ) (text : List ℕ) (stored : ℕ) : Type 0 where

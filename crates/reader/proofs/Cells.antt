@@ -10,8 +10,8 @@ use Rattle.format.specs.Tables.{Placed, spanOf}
 use Rattle.event.specs.Cells.{cellsOf}
 use Rattle.event.proofs.Laws.{cells-length}
 use Rattle.state.specs.declared.State.{State}
-use Rattle.reading.specs.Memory.{ZeroFrom}
-use Rattle.reading.proofs.Memory.{zero-drop, zero-cleared, cleared-back}
+use Rattle.outcome.specs.Memory.{ZeroFrom}
+use Rattle.outcome.proofs.Memory.{zero-drop, zero-cleared, cleared-back}
 use Rattle.read_event.specs.Step.{withEvent}
 use Rattle.reader.specs.Read.{cellsOfAll}
 

@@ -20,11 +20,11 @@ use Rattle.layout.specs.Meaning.{Memory, tablesIn, contextIn}
 use Rattle.state.specs.declared.State.{State}
 use Rattle.standing.specs.Standing.{contextOf, Standing}
 use Rattle.standing.proofs.Laws.{document-state, docContent-state, docEnd-state, finished-state, startTag-state, elementContent-state}
-use Rattle.reading.specs.Memory.{readerMemory, Clear}
+use Rattle.outcome.specs.Memory.{readerMemory, Clear}
 use Rattle.read_event.specs.Step.{StepReady, Step, Done}
 use Rattle.read_event.specs.declared.Stepped.{Stepped}
 use Rattle.reader.specs.Read.{replyOf, cellsOfAll, eventsFilled, textFilled, Attempted, refusalOf, PlaceIn, RunReady, answerFrom}
-use Rattle.reader.specs.declared.Reading as declared
+use Rattle.reader.specs.declared.ReadReply as declared
 use Rattle.reader.proofs.Cells.{zeros-behind, cells-size, event-added}
 use Rattle.reader.proofs.Reply.{attempted-refused}
 
@@ -134,7 +134,7 @@ module _ {s : Settings} {stream events₀ text₀ work₀ : List ℕ} {st : Stat
       ∙ omega (arith, length-append (cellsOfAll (h .before)) (replicate (length events₀ - 7 * t .events) 0), cells-size (h .before), h .count, h .few, length-replicate {A = ℕ} (length events₀ - 7 * t .events) 0)
 
   -- What is left is refused at its first event.
-  run-refused : (k : Refusal) → x ≡ refused k 0 → {number : ℕ} {events′ text′ : List ℕ} {r : declared.Reading} → number ≡ numberOf k → r ≡ refusalOf number (t .events)
+  run-refused : (k : Refusal) → x ≡ refused k 0 → {number : ℕ} {events′ text′ : List ℕ} {r : declared.ReadReply} → number ≡ numberOf k → r ≡ refusalOf number (t .events)
       → Attempted (answerFrom s stream text₀ work₀ st) events₀ text₀ events′ text′ r
   unfolding shifted
   run-refused k e {number} n is =
@@ -160,7 +160,7 @@ module _ {s : Settings} {stream events₀ text₀ work₀ : List ℕ} {st : Stat
 
 module _ {s : Settings} {stream events₀ text₀ work₀ : List ℕ} {st : State} {events text work : List ℕ} {t : State}
     (h : Turning s stream events₀ text₀ work₀ st events text work t) where
-  pub too-many : 4096 ≤ t .events → {events′ text′ : List ℕ} {r : declared.Reading} → r ≡ refusalOf 12 (t .events)
+  pub too-many : 4096 ≤ t .events → {events′ text′ : List ℕ} {r : declared.ReadReply} → r ≡ refusalOf 12 (t .events)
       → Attempted (answerFrom s stream text₀ work₀ st) events₀ text₀ events′ text′ r
   unfolding maxEvents numberOf
   too-many l is =
@@ -189,7 +189,7 @@ module _ {s : Settings} {stream events₀ text₀ work₀ : List ℕ} {st : Stat
         }
 
     module _ {events′ text′ work′ : List ℕ} {r : Stepped} (step : Step s stream events text work t events′ text′ work′ r) where
-      pub refused-event : (r .number ≡ 0 → ⊥) → {a b : List ℕ} {answer : declared.Reading} → answer ≡ refusalOf (r .number) (t .events)
+      pub refused-event : (r .number ≡ 0 → ⊥) → {a b : List ℕ} {answer : declared.ReadReply} → answer ≡ refusalOf (r .number) (t .events)
           → Attempted (answerFrom s stream text₀ work₀ st) events₀ text₀ a b answer
       refused-event some-number is =
           let d = step .outcome .refused (omega (arith, some-number)) in
@@ -243,7 +243,7 @@ module _ {s : Settings} {stream events₀ text₀ work₀ : List ℕ} {st : Stat
   padding-asks f = record { size = f .there .size; place = h .there }
 
   module _ (last : t .mode ≡ 3) {padded : Bool} (p : padded ≡ isPadding (drop (t .at) (unpack stream))) where
-    pub run-tail : padded ≡ false → {events′ text′ : List ℕ} {r : declared.Reading} → r ≡ refusalOf 13 (t .events)
+    pub run-tail : padded ≡ false → {events′ text′ : List ℕ} {r : declared.ReadReply} → r ≡ refusalOf 13 (t .events)
         → Attempted (answerFrom s stream text₀ work₀ st) events₀ text₀ events′ text′ r
     unfolding behind ending isFinished numberOf
     run-tail f is = run-refused h tail (rw (finished-state (h .standing) last, ← p, f)) refl is

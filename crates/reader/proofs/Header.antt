@@ -17,8 +17,8 @@ use Rattle.format.specs.Settings.{Settings, headerOf}
 use Rattle.format.specs.Reader.{readHeader}
 use Rattle.read_field.specs.declared.Field.the-variants.{Value, Refused}
 use Rattle.read_field.specs.View.{fieldAt}
-use Rattle.reading.specs.Outcome.{Declined, Gotten}
-use Rattle.reading.proofs.Outcome.{refused-outcome, gotten-outcome, declined-then, gotten-declined, then-got, need-true, need-declined, refused-declined, octet-gotten, return-got}
+use Rattle.outcome.specs.Outcome.{Declined, Gotten}
+use Rattle.outcome.proofs.Outcome.{refused-outcome, gotten-outcome, declined-then, gotten-declined, then-got, need-true, need-declined, refused-declined, octet-gotten, return-got}
 use Rattle.reader.specs.Read.{headerOctets, Passes}
 
 -- The octets before this one stand there.

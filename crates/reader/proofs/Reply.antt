@@ -6,16 +6,16 @@ use native.Mathlib.Omega.{arith}
 use lib.ListN.{length, replicate}
 use Rattle.fields.specs.Refusal.{Refusal, numberOf, Answer, refused, accepted}
 use Rattle.format.specs.Reader.{Reading, readReply}
-use Rattle.reading.proofs.Outcome.{refusal-number}
+use Rattle.outcome.proofs.Outcome.{refusal-number}
 use Rattle.reader.specs.Read.{replyOf, eventsFilled, textFilled, Attempted, refusalOf}
-use Rattle.reader.specs.declared.Reading as declared
+use Rattle.reader.specs.declared.ReadReply as declared
 
-module _ {events text events′ text′ : List ℕ} {r : declared.Reading} where
+module _ {events text events′ text′ : List ℕ} {r : declared.ReadReply} where
   pub attempted-refused : {x : Answer Reading} (k : Refusal) (i number index : ℕ) → x ≡ refused k i → number ≡ numberOf k → index ≡ i → r ≡ refusalOf number index
       → Attempted x events text events′ text′ r
   unfolding replyOf readReply refusalOf
   attempted-refused {x} k i number index e n m is =
-      let some : 0 < r .number = omega (arith, refusal-number k, ap (λ (y : declared.Reading). y .number) is) in
+      let some : 0 < r .number = omega (arith, refusal-number k, ap (λ (y : declared.ReadReply). y .number) is) in
       record { reply = rw (is, e, n, m); cells = λ z. absurd (omega arith); store = λ z. absurd (omega arith) }
 
   accepted-number : (v : Reading) → Attempted (accepted v) events text events′ text′ r → r .number ≡ 0
@@ -35,7 +35,7 @@ module _ {events text events′ text′ : List ℕ} {r : declared.Reading} where
     refused-text (accepted v) a h = absurd (h (accepted-number v a))
 
 -- The same answer, for parts of the same lengths.
-pub attempted-as : {x y : Answer Reading} {events text events₀ text₀ events′ text′ : List ℕ} {r : declared.Reading} → x ≡ y → length events ≡ length events₀
+pub attempted-as : {x y : Answer Reading} {events text events₀ text₀ events′ text′ : List ℕ} {r : declared.ReadReply} → x ≡ y → length events ≡ length events₀
     → length text ≡ length text₀ → Attempted x events text events′ text′ r → Attempted y events₀ text₀ events′ text′ r
 attempted-as e m n a =
     record {

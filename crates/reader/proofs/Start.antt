@@ -17,8 +17,8 @@ use Rattle.state.specs.declared.State.{State}
 use Rattle.state.specs.Stack.{started}
 use Rattle.standing.specs.Standing.{contextOf}
 use Rattle.standing.proofs.Laws.{start-standing, start-context}
-use Rattle.reading.specs.Memory.{readerMemory, ZeroFrom, Clear}
-use Rattle.reading.proofs.Memory.{zero-laid}
+use Rattle.outcome.specs.Memory.{readerMemory, ZeroFrom, Clear}
+use Rattle.outcome.proofs.Memory.{zero-laid}
 use Rattle.reader.specs.Read.{RunReady, StreamReady}
 use Rattle.reader.proofs.Cells.{zeros-at}
 

@@ -18,20 +18,20 @@ use Rattle.format.specs.Reader.{readEvents, readBody, readStream, enoughToRead}
 use Rattle.format.specs.Reader as format-reader
 use Rattle.state.specs.declared.State.{State}
 use Rattle.standing.specs.Standing.{contextOf}
-use Rattle.settings.specs.Meant.{numbersOf, optionsOf, settingsFrom}
+use Rattle.settings.specs.Meant.{numbersOf, settingsMeant, settingsFrom}
 use Rattle.settings.proofs.Laws.{settings-from}
+use Rattle.settings.specs.declared.SettingNumbers.{SettingNumbers}
 use Rattle.settings.specs.declared.Settings.{Settings}
-use Rattle.settings.specs.declared.Options.{Options}
-use Rattle.reading.specs.Memory.{readerMemory}
+use Rattle.outcome.specs.Memory.{readerMemory}
 use Rattle.reader.specs.Read.{answerOf, Attempted, refusalOf, StreamReady, Passes, answerFrom}
 use Rattle.reader.specs.declared.Passed.{Passed}
-use Rattle.reader.specs.declared.Reading as declared
+use Rattle.reader.specs.declared.ReadReply as declared
 use Rattle.reader.proofs.Reply.{attempted-refused, attempted-as}
 
 -- ---- the header, then the events
 
 module _ (s : format.Settings) {stream : List ℕ} {p : Passed} (passes : Passes (headerOf s) stream p) where
-  pub header-refused : (p .number ≡ 0 → ⊥) → {events text events′ text′ : List ℕ} {r : declared.Reading} → r ≡ refusalOf (p .number) 0
+  pub header-refused : (p .number ≡ 0 → ⊥) → {events text events′ text′ : List ℕ} {r : declared.ReadReply} → r ≡ refusalOf (p .number) 0
       → Attempted (readStream s stream) events text events′ text′ r
   unfolding readStream readBody
   header-refused some is =
@@ -42,7 +42,7 @@ module _ (s : format.Settings) {stream : List ℕ} {p : Passed} (passes : Passes
     header-inside = passes .read none .inside
 
     pub header-passed : (work text : List ℕ) {text₀ : List ℕ} (st : State) → st .at ≡ p .at → contextOf (readerMemory work text) st ≡ start → length text ≡ length text₀
-        → {events events′ text′ : List ℕ} {r : declared.Reading} → Attempted (answerFrom s stream text work st) events text events′ text′ r
+        → {events events′ text′ : List ℕ} {r : declared.ReadReply} → Attempted (answerFrom s stream text work st) events text events′ text′ r
         → Attempted (readStream s stream) events text₀ events′ text′ r
     unfolding readStream readBody
     header-passed work text st place begins same a =
@@ -66,22 +66,22 @@ fits a b c k m n e =
     (λ f. split (ltb b m) (λ g. absurd (true≢false (rw (f, g) at e)))
     (λ g. (ltb-false a k f, ltb-false b m g, ltb-false c n (rw (f, g) at e))))
 
-module _ (s : Settings) (stream events text work : List ℕ) where
+module _ (s : SettingNumbers) (stream events text work : List ℕ) where
   abbrev short : Bool
   short = ltb (length events) 28672 || ltb (length text) 16384 || ltb (length work) 8192
 
-  pub no-room : short ≡ true → {events′ text′ : List ℕ} {r : declared.Reading} → r ≡ refusalOf 1 0 → Attempted (answerOf s stream events text work) events text events′ text′ r
+  pub no-room : short ≡ true → {events′ text′ : List ℕ} {r : declared.ReadReply} → r ≡ refusalOf 1 0 → Attempted (answerOf s stream events text work) events text events′ text′ r
   unfolding answerOf format-reader.read enoughToRead eventCells cellsPerEvent maxEvents maxStore readerWork numberOf
   no-room e is = attempted-refused room 0 1 0 (rw (enough (length events) (length text) (length work) 28672 16384 8192, e)) refl refl is
 
   module _ (few : short ≡ false) {asked : Bool} (meant : asked ≡ meaningful (numbersOf s)) where
-    pub no-meaning : not asked ≡ true → {events′ text′ : List ℕ} {r : declared.Reading} → r ≡ refusalOf 2 0 → Attempted (answerOf s stream events text work) events text events′ text′ r
+    pub no-meaning : not asked ≡ true → {events′ text′ : List ℕ} {r : declared.ReadReply} → r ≡ refusalOf 2 0 → Attempted (answerOf s stream events text work) events text events′ text′ r
     unfolding answerOf format-reader.read enoughToRead eventCells cellsPerEvent maxEvents maxStore readerWork numberOf
     no-meaning e is =
         attempted-refused settings 0 2 0 (rw (enough (length events) (length text) (length work) 28672 16384 8192, few, ← meant, e)) refl refl is
 
     module _ (fine : not asked ≡ false) where
-      pub too-long : 16384 < length stream → {events′ text′ : List ℕ} {r : declared.Reading} → r ≡ refusalOf 3 0 → Attempted (answerOf s stream events text work) events text events′ text′ r
+      pub too-long : 16384 < length stream → {events′ text′ : List ℕ} {r : declared.ReadReply} → r ≡ refusalOf 3 0 → Attempted (answerOf s stream events text work) events text events′ text′ r
       unfolding answerOf format-reader.read enoughToRead eventCells cellsPerEvent maxEvents maxStore readerWork maxStream numberOf
       too-long l is =
           attempted-refused long 0 3 0
@@ -108,7 +108,7 @@ module _ (s : Settings) (stream events text work : List ℕ) where
         unfolding answerOf format-reader.read enoughToRead eventCells cellsPerEvent maxEvents maxStore readerWork maxStream
         answer-stream = rw (enough (length events) (length text) (length work) 28672 16384 8192, few, ← meant, fine, le-leb (length stream) 16384 small)
 
-        pub stream-answered : {o : Options} {events′ text′ : List ℕ} {r : declared.Reading} → o ≡ optionsOf s
+        pub stream-answered : {o : Settings} {events′ text′ : List ℕ} {r : declared.ReadReply} → o ≡ settingsMeant s
             → Attempted (readStream (settingsFrom o) stream) events₁ text₁ events′ text′ r → Attempted (answerOf s stream events text work) events text events′ text′ r
         stream-answered o-is a =
             attempted-as (ap (λ o. readStream (settingsFrom o) stream) o-is ∙ ap (λ x. readStream x stream) (settings-from s) ∙ sym answer-stream)

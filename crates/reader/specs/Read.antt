@@ -15,21 +15,21 @@ use Rattle.event.specs.Cells.{cellsOf}
 use Rattle.state.specs.declared.State.{State}
 use Rattle.standing.specs.Standing.{contextOf, Standing}
 use Rattle.settings.specs.Meant.{numbersOf}
-use Rattle.settings.specs.declared.Settings.{Settings}
-use Rattle.reading.specs.Outcome.{Outcome}
-use Rattle.reading.specs.Memory.{readerMemory, Clear}
+use Rattle.settings.specs.declared.SettingNumbers.{SettingNumbers}
+use Rattle.outcome.specs.Outcome.{Outcome}
+use Rattle.outcome.specs.Memory.{readerMemory, Clear}
 use Rattle.reader.specs.declared.Passed.{Passed}
-use Rattle.reader.specs.declared.Reading as declared
+use Rattle.reader.specs.declared.ReadReply as declared
 
 -- ---- the public function
 
 -- The definitions' answer for what is lent.
-unfoldable pub answerOf : Settings → List ℕ → List ℕ → List ℕ → List ℕ → Answer Reading
+unfoldable pub answerOf : SettingNumbers → List ℕ → List ℕ → List ℕ → List ℕ → Answer Reading
 answerOf s stream events text work =
     format.read (record { events = length events; text = length text; work = length work }) (numbersOf s) stream
 
 -- The numbers of the code's reply.
-unfoldable pub replyOf : declared.Reading → ReadReply
+unfoldable pub replyOf : declared.ReadReply → ReadReply
 replyOf r = record { number = r .number; index = r .index; events = r .events; codePoints = r .«code_points» }
 
 -- The cells of a list of events, one behind the other.
@@ -50,13 +50,13 @@ textFilled n (accepted r) = r .store ++ replicate (n - length (r .store)) 0
 -- ---- before the clearing: after a refusal nothing is said of the cells
 
 -- The reply to an answer, and the cells where it is accepted.
-pub record Attempted (x : Answer Reading) (events text events′ text′ : List ℕ) (r : declared.Reading) : Type 0 where
+pub record Attempted (x : Answer Reading) (events text events′ text′ : List ℕ) (r : declared.ReadReply) : Type 0 where
   pub reply : replyOf r ≡ readReply x
   pub cells : r .number ≡ 0 → events′ ≡ eventsFilled (length events) x
   pub store : r .number ≡ 0 → text′ ≡ textFilled (length text) x
 
 -- The code's reply to a refusal.
-unfoldable pub refusalOf : ℕ → ℕ → declared.Reading
+unfoldable pub refusalOf : ℕ → ℕ → declared.ReadReply
 refusalOf number index = record { number = number; index = index; events = 0; «code_points» = 0 }
 
 -- Zeros, and enough of them.

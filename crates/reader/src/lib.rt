@@ -10,12 +10,13 @@ ghost use Rattle.format.specs.Reader.{readStream, readReply};
 ghost use Rattle.settings.specs.Meant.{settingsFrom};
 ghost use Rattle.reader.specs.Read.{OctetsReady, headerOctets, Passes, PlaceIn, RunReady, answerFrom, StreamReady, Attempted, refusalOf, answerOf, replyOf, eventsFilled, textFilled};
 use read_field::Field;
-use settings::Options;
+use settings::SettingNumbers;
 use settings::Settings;
 use state::State;
 
 // The number of the refusal or 0, the index of the event concerned, and the counts of events and code points.
-pub struct Reading {
+#[repr(C)]
+pub struct ReadReply {
     pub number: u32,
     pub index: u32,
     pub events: u32,
@@ -44,11 +45,11 @@ const TAIL: u32 = 13;
 const OCTETS: [u32; 5] = [36, 69, 88, 73, 128];
 
 // A refusal's reply.
-fn refusal(number: u32, index: usize) -> Reading
+fn refusal(number: u32, index: usize) -> ReadReply
     requires { ⌜ index ≤ 4096 ⌝ }
     ensures { λ r. ⌜ r ≡ refusalOf number index ⌝ }
 {
-    Reading {
+    ReadReply {
         number,
         index: index as u32,
         events: 0,
@@ -87,7 +88,7 @@ fn read_octets(stream: &[u8], first: usize) -> Passed
 }
 
 // The header, with the cookie if set.
-fn read_header(o: Options, stream: &[u8]) -> Passed
+fn read_header(o: Settings, stream: &[u8]) -> Passed
     requires { ⌜ length (now stream) ≤ maxStream ⌝ }
     ensures { λ r. ⌜ Passes (headerOf (settingsFrom o)) (now (stream .entry)) r ⌝ }
 {
@@ -114,13 +115,13 @@ fn is_padding(stream: &[u8], at: usize) -> bool
 
 // The events, one behind the other, and the padding.
 fn read_events(
-    o: Options,
+    o: Settings,
     stream: &[u8],
     st: State,
     events: &mut [u32],
     text: &mut [u32],
     work: &mut [u32],
-) -> Reading
+) -> ReadReply
     requires { ⌜ RunReady (now stream) (now events) (now text) (now work) st ⌝ }
     ensures { λ r. ⌜ Attempted (answerFrom (settingsFrom o) (now (stream .entry)) (now (text .entry)) (now (work .entry)) st) (now (events .entry)) (now (text .entry)) (now (events .exit)) (now (text .exit)) r ⌝ }
 {
@@ -133,7 +134,7 @@ fn read_events(
         t = r.state;
         if t.mode == 3 {
             if is_padding(stream, t.at) {
-                return Reading {
+                return ReadReply {
                     number: 0,
                     index: 0,
                     events: t.events as u32,
@@ -148,12 +149,12 @@ fn read_events(
 
 // The header and the events, with the initial entries in tables and store.
 fn read_stream(
-    o: Options,
+    o: Settings,
     stream: &[u8],
     events: &mut [u32],
     text: &mut [u32],
     work: &mut [u32],
-) -> Reading
+) -> ReadReply
     requires { ⌜ StreamReady (now stream) (now events) (now text) (now work) ⌝ }
     ensures { λ r. ⌜ Attempted (readStream (settingsFrom o) (now (stream .entry))) (now (events .entry)) (now (text .entry)) (now (events .exit)) (now (text .exit)) r ⌝ }
 {
@@ -168,12 +169,12 @@ fn read_stream(
 
 // The same, after what the lent parts and the settings are asked first.
 fn attempt(
-    s: Settings,
+    s: SettingNumbers,
     stream: &[u8],
     events: &mut [u32],
     text: &mut [u32],
     work: &mut [u32],
-) -> Reading
+) -> ReadReply
     ensures { λ r. ⌜ Attempted (answerOf s (now (stream .entry)) (now (events .entry)) (now (text .entry)) (now (work .entry))) (now (events .entry)) (now (text .entry)) (now (events .exit)) (now (text .exit)) r ⌝ }
 {
     if (events.len() < 28672) | (text.len() < 16384) | (work.len() < 8192) {
@@ -188,17 +189,17 @@ fn attempt(
     clear::cells(events);
     clear::cells(text);
     clear::cells(work);
-    read_stream(settings::options_of(s), stream, events, text, work)
+    read_stream(settings::settings_of(s), stream, events, text, work)
 }
 
 // Reads the stream: the cells of its events and its text store, and zeros behind them. After a refusal every cell is zero. Work memory is zero then, too.
 pub fn read(
-    s: Settings,
+    s: SettingNumbers,
     stream: &[u8],
     events: &mut [u32],
     text: &mut [u32],
     work: &mut [u32],
-) -> Reading
+) -> ReadReply
     ensures { λ r. ⌜ replyOf r ≡ readReply (answerOf s (now (stream .entry)) (now (events .entry)) (now (text .entry)) (now (work .entry))) ⌝ }
     ensures { λ r. ⌜ now (events .exit) ≡ eventsFilled (length (now (events .entry))) (answerOf s (now (stream .entry)) (now (events .entry)) (now (text .entry)) (now (work .entry))) ⌝ }
     ensures { λ r. ⌜ now (text .exit) ≡ textFilled (length (now (text .entry))) (answerOf s (now (stream .entry)) (now (events .entry)) (now (text .entry)) (now (work .entry))) ⌝ }

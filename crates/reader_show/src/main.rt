@@ -8,13 +8,13 @@ ghost use Rattle.io.specs.Counts.{Counts};
 use event::Event;
 use event::Loaded;
 use event::Part;
-use settings::Settings;
+use settings::SettingNumbers;
 
 // Eight octets of a stream that repeats itself.
 type Row = [u8; 8];
 
-fn asked(alignment: u32, cookie: u32, comments: u32, instructions: u32) -> Settings {
-    Settings {
+fn asked(alignment: u32, cookie: u32, comments: u32, instructions: u32) -> SettingNumbers {
+    SettingNumbers {
         alignment,
         cookie,
         comments,
@@ -22,11 +22,11 @@ fn asked(alignment: u32, cookie: u32, comments: u32, instructions: u32) -> Setti
     }
 }
 
-fn aligned() -> Settings {
+fn aligned() -> SettingNumbers {
     asked(1, 0, 0, 0)
 }
 
-fn packed() -> Settings {
+fn packed() -> SettingNumbers {
     asked(0, 0, 0, 0)
 }
 
@@ -144,7 +144,7 @@ fn are_zero(cells: &[u32], from: usize) -> bool {
 
 fn call(
     label: &[u8],
-    s: Settings,
+    s: SettingNumbers,
     stream: &[u8],
     cells: &mut [u32],
     store: &mut [u32],
@@ -168,7 +168,7 @@ fn call(
     io::write_all(1, b"\n");
 }
 
-fn show(label: &[u8], s: Settings, stream: &[u8]) {
+fn show(label: &[u8], s: SettingNumbers, stream: &[u8]) {
     let mut cells = [0xA5A5A5A5u32; 28672];
     let mut store = [0xA5A5A5A5u32; 16384];
     let mut work = [0xA5A5A5A5u32; 8192];

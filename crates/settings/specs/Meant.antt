@@ -2,14 +2,14 @@
 use lib.Dec.{eqb}
 use Rattle.read_field.specs.View.{alignmentOf}
 use Rattle.format.specs.Settings as format
+use Rattle.settings.specs.declared.SettingNumbers.{SettingNumbers}
 use Rattle.settings.specs.declared.Settings.{Settings}
-use Rattle.settings.specs.declared.Options.{Options}
 
-unfoldable pub numbersOf : Settings → format.SettingNumbers
+unfoldable pub numbersOf : SettingNumbers → format.SettingNumbers
 numbersOf s = record { alignment = s .alignment; cookie = s .cookie; comments = s .comments; instructions = s .instructions }
 
-unfoldable pub optionsOf : Settings → Options
-optionsOf s =
+unfoldable pub settingsMeant : SettingNumbers → Settings
+settingsMeant s =
     record {
       aligned = eqb (s .alignment) 1;
       cookie = eqb (s .cookie) 1;
@@ -18,6 +18,6 @@ optionsOf s =
     }
 
 -- The definitions' settings.
-unfoldable pub settingsFrom : Options → format.Settings
+unfoldable pub settingsFrom : Settings → format.Settings
 settingsFrom o =
     record { alignment = alignmentOf (o .aligned); cookie = o .cookie; comments = o .comments; instructions = o .instructions }

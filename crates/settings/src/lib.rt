@@ -1,17 +1,18 @@
-// What the two sides agree on outside the stream: as numbers that a caller hands over, and as what the numbers mean.
+// What the two sides agree on outside the stream: the numbers that a caller hands over, and what they mean.
 ghost use mathlib.Core.Path.{_≡_};
 ghost use Rattle.format.specs.Settings.{meaningful};
-ghost use Rattle.settings.specs.Meant.{numbersOf, optionsOf};
+ghost use Rattle.settings.specs.Meant.{numbersOf, settingsMeant};
 
 // Alignment 0 is bit-packed and 1 byte-aligned; each of the others is 0 for no and 1 for yes.
-pub struct Settings {
+#[repr(C)]
+pub struct SettingNumbers {
     pub alignment: u32,
     pub cookie: u32,
     pub comments: u32,
     pub instructions: u32,
 }
 
-pub struct Options {
+pub struct Settings {
     pub aligned: bool,
     pub cookie: bool,
     pub comments: bool,
@@ -19,16 +20,16 @@ pub struct Options {
 }
 
 // Whether each number has a meaning.
-pub fn are_meaningful(s: Settings) -> bool
+pub fn are_meaningful(s: SettingNumbers) -> bool
     ensures { λ r. ⌜ r ≡ meaningful (numbersOf s) ⌝ }
 {
     (s.alignment <= 1) & (s.cookie <= 1) & (s.comments <= 1) & (s.instructions <= 1)
 }
 
-pub fn options_of(s: Settings) -> Options
-    ensures { λ r. ⌜ r ≡ optionsOf s ⌝ }
+pub fn settings_of(s: SettingNumbers) -> Settings
+    ensures { λ r. ⌜ r ≡ settingsMeant s ⌝ }
 {
-    Options {
+    Settings {
         aligned: s.alignment == 1,
         cookie: s.cookie == 1,
         comments: s.comments == 1,

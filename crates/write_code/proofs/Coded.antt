@@ -13,7 +13,7 @@ use Rattle.format.specs.Grammar.{State, document, docContent, docEnd, finished,
 use Rattle.format.specs.Context.{levelsIn}
 use Rattle.rows.specs.declared.Found.{Found}
 use Rattle.layout.specs.Meaning.{Memory}
-use Rattle.settings.specs.declared.Options.{Options}
+use Rattle.settings.specs.declared.Settings.{Settings}
 use Rattle.settings.specs.Meant.{settingsFrom}
 use Rattle.state.specs.declared.State as state
 use Rattle.standing.specs.Standing.{contextOf, Standing}
@@ -119,7 +119,7 @@ module _ (mode count : ℕ) (comments instructions : Bool) (kind : ℕ) (has : f
       (λ e. ltb-true mode 4 e)
       (λ e. absurd (has (inner-none mode count comments instructions kind (ltb-false mode 4 e) h)))
 
-module _ (o : Options) {m : Memory} {st : state.State} (h : Standing m st) {kind : ℕ} {name : Found} {n : Newer} (w : Newest m st kind name n) where
+module _ (o : Settings) {m : Memory} {st : state.State} (h : Standing m st) {kind : ℕ} {name : Found} {n : Newer} (w : Newest m st kind name n) where
   -- A learned production's code is written.
   pub learned-sent : n .hit ≡ true → {ps : List (ℕ × ℕ)} → ps ≡ learnedPart (st .mode) (n .count) (n .number) ∷ []
       → {stream stream′ : List ℕ} {at : ℕ} → Put stream (st .at) (partsBits (alignmentOf (o .aligned)) ps) stream′ at

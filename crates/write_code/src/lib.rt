@@ -9,7 +9,7 @@ ghost use Rattle.fitting.specs.Fitting.{NameFound, rowOr};
 ghost use Rattle.write_code.specs.Coding.{CodeReady, Stands, Coded};
 use event_code::Code;
 use rows::Found;
-use settings::Options;
+use settings::Settings;
 use state::State;
 
 // Where the tables begin in work memory.
@@ -63,7 +63,7 @@ fn answer(fits: bool, learned: bool, teaches: bool, row: u32, st: State, at: usi
 // Writes the code of an event of this kind. The name is the row of the event's name, or At 0 0 for a kind without one that can be learned; Nothing
 // says that no learned production can fit.
 pub fn put_code(
-    o: Options,
+    o: Settings,
     stream: &mut [u8],
     st: State,
     kind: u32,

@@ -18,7 +18,7 @@ ghost use Rattle.write_event.specs.Step.{NamedCode, StringsFit, StringsS
 use event::Event;
 use event::Part;
 use rows::Found;
-use settings::Options;
+use settings::Settings;
 use state::State;
 use write_code::Coding;
 use write_form::Sent;
@@ -76,7 +76,7 @@ fn all_inside(text: &[u32], e: Event) -> bool
 
 // The code of a start element or an attribute.
 fn put_named_code(
-    o: Options,
+    o: Settings,
     stream: &mut [u8],
     st: State,
     text: &[u32],
@@ -98,7 +98,7 @@ fn put_named_code(
 
 // A production for an end element or characters carries no name: the row of one has 0 in its place.
 fn put_event_code(
-    o: Options,
+    o: Settings,
     stream: &mut [u8],
     st: State,
     text: &[u32],
@@ -274,7 +274,7 @@ fn put_strings(
 
 // Writes one event behind the state.
 pub fn step(
-    o: Options,
+    o: Settings,
     stream: &mut [u8],
     st: State,
     text: &[u32],

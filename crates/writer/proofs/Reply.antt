@@ -18,15 +18,15 @@ use Rattle.format.specs.Context.{start}
 use Rattle.format.specs.Writer.{Stored, writeEvents, asOctets, writeList, enoughToWrite, writeReply}
 use Rattle.format.specs.Writer as format-writer
 use Rattle.state.specs.declared.State.{State}
-use Rattle.settings.specs.Meant.{numbersOf, optionsOf, settingsFrom}
+use Rattle.settings.specs.Meant.{numbersOf, settingsMeant, settingsFrom}
 use Rattle.settings.proofs.Laws.{settings-from}
+use Rattle.settings.specs.declared.SettingNumbers.{SettingNumbers}
 use Rattle.settings.specs.declared.Settings.{Settings}
-use Rattle.settings.specs.declared.Options.{Options}
 use Rattle.literal.proofs.Laws.{refusal-number}
 use Rattle.write_field.specs.Written.{Put}
 use Rattle.write_field.proofs.Written.{zeros-blank, put-then}
 use Rattle.writer.specs.declared.Run.{Run}
-use Rattle.writer.specs.declared.Written.{Written}
+use Rattle.writer.specs.declared.WriteReply as declared
 use Rattle.writer.specs.Write.{answerOf, replyOf, filled, Attempted, ListFits, ListPut, HeaderPut, Ran}
 use Rattle.writer.proofs.Octets.{pack-length, put-packed}
 use Rattle.writer.proofs.Start.{Begins}
@@ -49,7 +49,7 @@ attempted-accepted os count e n put =
       accepted-as = λ os′ e′. let same : os ≡ os′ = cc in (rw (n, same), rw (← same) put);
     }
 
-attempted-as : {x y : Answer (List ℕ)} {zeros stream after : List ℕ} {r : Written} → x ≡ y → length zeros ≡ length stream
+attempted-as : {x y : Answer (List ℕ)} {zeros stream after : List ℕ} {r : declared.WriteReply} → x ≡ y → length zeros ≡ length stream
     → Attempted x zeros after r → Attempted y stream after r
 attempted-as e size a =
     record {
@@ -57,7 +57,7 @@ attempted-as e size a =
       accepted-as = λ os f. let (same, put) = a .accepted-as os (e ∙ f) in (same, rw size at put);
     }
 
-module _ {stream after : List ℕ} {r : Written} where
+module _ {stream after : List ℕ} {r : declared.WriteReply} where
   pub reply-is : (x : Answer (List ℕ)) → Attempted x stream after r → replyOf r ≡ writeReply x
   unfolding replyOf writeReply
   reply-is (refused k i) a = rw (a .refused-as k i refl)
@@ -67,11 +67,11 @@ module _ {stream after : List ℕ} {r : Written} where
   pub refused-zeros : (n : ℕ) (x : Answer (List ℕ)) → Attempted x stream after r → (r .number ≡ 0 → ⊥) → replicate n 0 ≡ filled n x
   unfolding filled
   refused-zeros n (refused k i) a h = refl
-  refused-zeros n (accepted os) a h = absurd (h (ap (λ (y : Written). y .number) (a .accepted-as os refl .0)))
+  refused-zeros n (accepted os) a h = absurd (h (ap (λ (y : declared.WriteReply). y .number) (a .accepted-as os refl .0)))
 
   pub accepted-octets : (x : Answer (List ℕ)) → Attempted x stream after r → r .number ≡ 0 → after ≡ filled (length stream) x
   unfolding filled
-  accepted-octets (refused k i) a h = absurd (omega (arith, refusal-number k, h, ap (λ (y : Written). y .number) (a .refused-as k i refl)))
+  accepted-octets (refused k i) a h = absurd (omega (arith, refusal-number k, h, ap (λ (y : declared.WriteReply). y .number) (a .refused-as k i refl)))
   accepted-octets (accepted os) a h = a .accepted-as os refl .1
 
 -- ---- a list
@@ -145,7 +145,7 @@ fits : (a b m n : ℕ) → (ltb a m || ltb b n) ≡ false → (m ≤ a) × (n �
 fits a b m n e =
     split (ltb a m) (λ f. absurd (true≢false (rw f at e))) (λ f. (ltb-false a m f, ltb-false b n (rw f at e)))
 
-module _ (s : Settings) (stream : List ℕ) (xs : List Stored) (store : Text) (work : List ℕ) where
+module _ (s : SettingNumbers) (stream : List ℕ) (xs : List Stored) (store : Text) (work : List ℕ) where
   pub no-room : (after : List ℕ) → (ltb (length stream) 16384 || ltb (length work) 24576) ≡ true
       → Attempted (answerOf s stream xs store work) stream after (record { number = 1; index = 0; octets = 0 })
   unfolding answerOf format-writer.write enoughToWrite maxStream writerWork numberOf
@@ -169,7 +169,7 @@ module _ (s : Settings) (stream : List ℕ) (xs : List Stored) (store : Text) (w
       unfolding answerOf format-writer.write enoughToWrite maxStream writerWork
       answer-list e = rw (enough (length stream) (length work) 16384 24576, few, ← meant, e)
 
-      pub list-answered : {o : Options} {zeros after : List ℕ} {r : Written} → not asked ≡ false → o ≡ optionsOf s → zeros ≡ replicate (length stream) 0
+      pub list-answered : {o : Settings} {zeros after : List ℕ} {r : declared.WriteReply} → not asked ≡ false → o ≡ settingsMeant s → zeros ≡ replicate (length stream) 0
           → ListPut (settingsFrom o) xs store zeros after r → Attempted (answerOf s stream xs store work) stream after r
       list-answered e o-is zeros-are a =
           attempted-as (ap (λ o. writeList (settingsFrom o) xs store) o-is ∙ ap (λ x. writeList x xs store) (settings-from s) ∙ sym (answer-list e))

@@ -15,18 +15,18 @@ use Rattle.layout.specs.Writer.{writerMemory}
 use Rattle.state.specs.declared.State.{State}
 use Rattle.standing.specs.Standing.{contextOf, Standing}
 use Rattle.settings.specs.Meant.{numbersOf}
-use Rattle.settings.specs.declared.Settings.{Settings}
+use Rattle.settings.specs.declared.SettingNumbers.{SettingNumbers}
 use Rattle.write_field.specs.Written.{blankFrom, Put}
-use Rattle.writer.specs.declared.Written.{Written}
+use Rattle.writer.specs.declared.WriteReply as declared
 use Rattle.writer.specs.declared.Run.{Run}
 
 -- ---- the public function
 
 -- The definitions' answer for what is lent.
-unfoldable pub answerOf : Settings → List ℕ → List Stored → Text → List ℕ → Answer (List ℕ)
+unfoldable pub answerOf : SettingNumbers → List ℕ → List Stored → Text → List ℕ → Answer (List ℕ)
 answerOf s stream xs store work = format-writer.write (record { octets = length stream; work = length work }) (numbersOf s) xs store
 
-unfoldable pub replyOf : Written → WriteReply
+unfoldable pub replyOf : declared.WriteReply → WriteReply
 replyOf r = record { number = r .number; index = r .index; octets = r .octets }
 
 -- n octets: those of the answer, and zeros behind them.
@@ -37,7 +37,7 @@ filled n (accepted os) = os ++ replicate (n - length os) 0
 -- ---- before the clearing: after a refusal nothing is said of the octets
 
 -- The reply to an answer, and the octets where it is accepted.
-pub record Attempted (x : Answer (List ℕ)) (stream stream′ : List ℕ) (r : Written) : Type 0 where
+pub record Attempted (x : Answer (List ℕ)) (stream stream′ : List ℕ) (r : declared.WriteReply) : Type 0 where
   pub refused-as : (k : Refusal) (i : ℕ) → x ≡ refused k i → r ≡ record { number = numberOf k; index = i; octets = 0 }
   pub accepted-as : (os : List ℕ) → x ≡ accepted os
       → (r ≡ record { number = 0; index = 0; octets = length os }) × (stream′ ≡ os ++ replicate (length stream - length os) 0)
@@ -50,7 +50,7 @@ pub record ListFits (stream w : List ℕ) : Type 0 where
   pub octets : maxStream ≤ length stream
   pub room : writerWork ≤ length w
 
-abbrev pub ListPut : format.Settings → List Stored → Text → List ℕ → List ℕ → Written → Type 0
+abbrev pub ListPut : format.Settings → List Stored → Text → List ℕ → List ℕ → declared.WriteReply → Type 0
 ListPut s xs store stream stream′ r = Attempted (writeList s xs store) stream stream′ r
 
 -- ---- the header

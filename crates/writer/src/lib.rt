@@ -7,12 +7,13 @@ ghost use Rattle.settings.specs.Meant.{settingsFrom};
 ghost use Rattle.event.specs.Cells.{eventsOf};
 ghost use Rattle.writer.specs.Write.{HeaderFits, CookiePut, HeaderPut, RunFits, Ran, ListFits, ListPut, Attempted, answerOf, replyOf, filled};
 use event::Loaded;
-use settings::Options;
+use settings::SettingNumbers;
 use settings::Settings;
 use state::State;
 
 // The number of the refusal or 0, the index of the event concerned, and the count of octets.
-pub struct Written {
+#[repr(C)]
+pub struct WriteReply {
     pub number: u32,
     pub index: u32,
     pub octets: u32,
@@ -50,7 +51,7 @@ fn put_cookie(stream: &mut [u8]) -> usize
 }
 
 // The header (EXI 5): the cookie if set, then bits 10, no options, version 1.
-fn put_header(o: Options, stream: &mut [u8]) -> usize
+fn put_header(o: Settings, stream: &mut [u8]) -> usize
     requires { ⌜ HeaderFits (now stream) ⌝ }
     ensures { λ r. ⌜ HeaderPut (settingsFrom o) (now (stream .entry)) (now (stream .exit)) r ⌝ }
 {
@@ -74,7 +75,7 @@ fn stopped(number: u32, t: State) -> Run
 
 // The events, one behind the other.
 fn put_events(
-    o: Options,
+    o: Settings,
     stream: &mut [u8],
     st: State,
     events: &[u32],
@@ -120,12 +121,12 @@ fn put_events(
 
 // The header and the events, with the initial entries in tables and store. LONG comes last.
 fn put_list(
-    o: Options,
+    o: Settings,
     stream: &mut [u8],
     events: &[u32],
     text: &[u32],
     work: &mut [u32],
-) -> Written
+) -> WriteReply
     requires { ⌜ ListFits (now stream) (now work) ⌝ }
     ensures { λ r. ⌜ ListPut (settingsFrom o) (eventsOf (now (events .entry))) (now (text .entry)) (now (stream .entry)) (now (stream .exit)) r ⌝ }
 {
@@ -134,7 +135,7 @@ fn put_list(
     initial::lay_text(work, STORE);
     let run = put_events(o, stream, state::start(at, 99, 3, 6), events, text, work);
     if run.number != 0 {
-        return Written {
+        return WriteReply {
             number: run.number,
             index: run.index as u32,
             octets: 0,
@@ -142,13 +143,13 @@ fn put_list(
     }
     let octets = (run.at + 7) / 8;
     if 16384 < octets {
-        return Written {
+        return WriteReply {
             number: LONG,
             index: 0,
             octets: 0,
         };
     }
-    Written {
+    WriteReply {
         number: 0,
         index: 0,
         octets: octets as u32,
@@ -157,41 +158,41 @@ fn put_list(
 
 // First tests the lent lengths and the settings.
 fn attempt(
-    s: Settings,
+    s: SettingNumbers,
     stream: &mut [u8],
     events: &[u32],
     text: &[u32],
     work: &mut [u32],
-) -> Written
+) -> WriteReply
     ensures { λ r. ⌜ Attempted (answerOf s (now (stream .entry)) (eventsOf (now (events .entry))) (now (text .entry)) (now (work .entry))) (now (stream .entry)) (now (stream .exit)) r ⌝ }
 {
     if (stream.len() < 16384) | (work.len() < 24576) {
-        return Written {
+        return WriteReply {
             number: ROOM,
             index: 0,
             octets: 0,
         };
     }
     if !settings::are_meaningful(s) {
-        return Written {
+        return WriteReply {
             number: SETTINGS,
             index: 0,
             octets: 0,
         };
     }
     clear::octets(stream);
-    put_list(settings::options_of(s), stream, events, text, work)
+    put_list(settings::settings_of(s), stream, events, text, work)
 }
 
 // Writes the strict form of the list that the event cells and the text store hold: the octets, and zeros behind them. After a refusal every octet is zero.
 // Work memory is zero after either.
 pub fn write(
-    s: Settings,
+    s: SettingNumbers,
     stream: &mut [u8],
     events: &[u32],
     text: &[u32],
     work: &mut [u32],
-) -> Written
+) -> WriteReply
     ensures { λ r. ⌜ replyOf r ≡ writeReply (answerOf s (now (stream .entry)) (eventsOf (now (events .entry))) (now (text .entry)) (now (work .entry))) ⌝ }
     ensures { λ r. ⌜ now (stream .exit) ≡ filled (length (now (stream .entry))) (answerOf s (now (stream .entry)) (eventsOf (now (events .entry))) (now (text .entry)) (now (work .entry))) ⌝ }
     ensures { λ r. ⌜ now (work .exit) ≡ replicate (length (now (work .entry))) 0 ⌝ }

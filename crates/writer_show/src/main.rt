@@ -4,7 +4,7 @@ ghost use mathlib.Core.Path.{_≡_};
 ghost use Prim.Native.Nat.{_+_, _≤_};
 ghost use lib.ListN.{length};
 ghost use Rattle.io.specs.Counts.{Counts};
-use settings::Settings;
+use settings::SettingNumbers;
 
 // An event in its cells.
 type Row = [u32; 7];
@@ -35,8 +35,8 @@ fn comment(place: u32, size: u32) -> Row {
     [7, place, size, 0, 0, 0, 0]
 }
 
-fn asked(alignment: u32, cookie: u32, comments: u32, instructions: u32) -> Settings {
-    Settings {
+fn asked(alignment: u32, cookie: u32, comments: u32, instructions: u32) -> SettingNumbers {
+    SettingNumbers {
         alignment,
         cookie,
         comments,
@@ -44,11 +44,11 @@ fn asked(alignment: u32, cookie: u32, comments: u32, instructions: u32) -> Setti
     }
 }
 
-fn aligned() -> Settings {
+fn aligned() -> SettingNumbers {
     asked(1, 0, 0, 0)
 }
 
-fn packed() -> Settings {
+fn packed() -> SettingNumbers {
     asked(0, 0, 0, 0)
 }
 
@@ -111,7 +111,7 @@ fn are_zero_cells(cells: &[u32]) -> bool {
 
 fn call(
     label: &[u8],
-    s: Settings,
+    s: SettingNumbers,
     stream: &mut [u8],
     cells: &[u32],
     text: &[u32],
@@ -131,7 +131,7 @@ fn call(
     io::write_all(1, b"\n");
 }
 
-fn show_cells(label: &[u8], s: Settings, cells: &[u32], text: &[u32]) {
+fn show_cells(label: &[u8], s: SettingNumbers, cells: &[u32], text: &[u32]) {
     let mut stream = [0xA5u8; 16384];
     let mut work = [0xA5A5A5A5u32; 24576];
     call(label, s, &mut stream, cells, text, &mut work);
@@ -160,7 +160,7 @@ fn lay(rows: &[Row], n: usize, cells: &mut [u32]) -> usize
     at
 }
 
-fn show_first(label: &[u8], s: Settings, rows: &[Row], n: usize, text: &[u32]) {
+fn show_first(label: &[u8], s: SettingNumbers, rows: &[Row], n: usize, text: &[u32]) {
     // 4,097 events
     let mut cells = [0u32; 28679];
     let count = lay(rows, n, &mut cells);
@@ -185,7 +185,7 @@ fn widen(bytes: &[u8], text: &mut [u32]) -> usize
     i
 }
 
-fn show(label: &[u8], s: Settings, rows: &[Row], bytes: &[u8]) {
+fn show(label: &[u8], s: SettingNumbers, rows: &[Row], bytes: &[u8]) {
     let mut text = [0u32; 64];
     let n = widen(bytes, &mut text);
     show_first(label, s, rows, rows.len(), &text[..n]);
@@ -221,13 +221,13 @@ fn repeat(rows: &mut [Row], from: usize, n: usize, first: Row, moved: usize)
     }
 }
 
-fn show_ascending(label: &[u8], s: Settings, rows: &[Row], n: usize) {
+fn show_ascending(label: &[u8], s: SettingNumbers, rows: &[Row], n: usize) {
     let text = ascending();
     show_first(label, s, rows, n, &text);
 }
 
 // An element with `n` events inside.
-fn show_inside(label: &[u8], s: Settings, n: usize, first: Row, moved: usize)
+fn show_inside(label: &[u8], s: SettingNumbers, n: usize, first: Row, moved: usize)
     requires { ⌜ n ≤ 4093 ⌝ }
 {
     let mut rows = [CLOSE; 4097];

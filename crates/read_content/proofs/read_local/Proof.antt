@@ -2,7 +2,7 @@
 use borrow.Author.Needs.{needs}
 use Rattle.layout.specs.Meaning.{uriText}
 use Rattle.read_field.specs.View.{alignmentOf}
-use Rattle.reading.specs.Memory.{readerMemory}
+use Rattle.outcome.specs.Memory.{readerMemory}
 use Rattle.read_content.proofs.Fresh.{ready-from, field-asks}
 use Rattle.read_content.proofs.Whole.{local-from, local-refused, local-hit, local-new}
 use Rattle.read_content.proofs.read_local.Statement.{statement}

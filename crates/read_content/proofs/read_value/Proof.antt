@@ -4,7 +4,7 @@ use Rattle.format.specs.Sizes.{maxUris, maxNames}
 use Rattle.layout.specs.Layout.{urisAt, namesAt, valuesAt}
 use Rattle.layout.specs.Meaning.{nameAt}
 use Rattle.read_field.specs.View.{alignmentOf}
-use Rattle.reading.specs.Memory.{readerMemory}
+use Rattle.outcome.specs.Memory.{readerMemory}
 use Rattle.read_content.proofs.Found.{value-hit-asks, own-value}
 use Rattle.read_content.proofs.Fresh.{ready-from, field-asks}
 use Rattle.read_content.proofs.Whole.{value-from, value-refused, value-own, value-any, value-new}

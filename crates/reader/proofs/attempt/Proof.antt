@@ -43,8 +43,8 @@ cells-requires-2 c κs = search needs
 cells-requires-3 : tie.Need-cells-requires-3
 cells-requires-3 c κs = search needs
 
-options-of-requires : tie.Need-options-of-requires
-options-of-requires c κs = search needs
+settings-of-requires : tie.Need-settings-of-requires
+settings-of-requires c κs = search needs
 
 read-stream-requires : tie.Need-read-stream-requires
 read-stream-requires c κs = let z = c .before .before .before .before .before .before .before .before .before .before .before .before .before .before .before .before in
@@ -66,7 +66,7 @@ returns-4 c = let z = c .before .before .before .before .before .before .before 
     let a = z .before .before .before .before .before .before .before .before .args in
     stream-answered (a .s) (now (a .stream)) (now (a .events)) (now (a .text)) (now (a .work)) (z .before .before .before .if1 .left) (z .before .before .are-meaningful .ensures)
     (z .before .if2 .left) (z .if3 .left) (c .before .before .before .before .before .before .before .before .before .before .before .before .before .before .before .before .before .before .before .before .before .cells .ensures) (c .before .before .before .before .before .before .before .before .before .before .before .before .before .before .before .before .before .cells2 .ensures) (c .before .before .before .before .before .before .before .before .before .before .before .before .before .cells3 .ensures)
-    (c .before .before .before .before .before .before .before .before .before .before .options-of .ensures)
+    (c .before .before .before .before .before .before .before .before .before .before .settings-of .ensures)
     (c .before .before .before .before .before .before .read-stream .ensures)
 
 pub attempt-spec : {M : Type 1} → statement M
@@ -83,7 +83,7 @@ attempt-spec =
     cells-requires
     cells-requires-2
     cells-requires-3
-    options-of-requires
+    settings-of-requires
     read-stream-requires
     same-length
     same-length-2

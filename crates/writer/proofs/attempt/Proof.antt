@@ -23,8 +23,8 @@ returns-2 c =
 octets-requires : tie.Need-octets-requires
 octets-requires c κs = search needs
 
-options-of-requires : tie.Need-options-of-requires
-options-of-requires c κs = search needs
+settings-of-requires : tie.Need-settings-of-requires
+settings-of-requires c κs = search needs
 
 put-list-requires : tie.Need-put-list-requires
 put-list-requires c κs =
@@ -43,7 +43,7 @@ returns-3 c =
     let a = c .before .before .before .before .before .before .before .before .before .before .before .before .before .before .before .before .before .before .before .args in
     list-answered (a .s) (now (a .stream)) (eventsOf (now (a .events))) (now (a .text)) (now (a .work))
     (c .before .before .before .before .before .before .before .before .before .before .before .before .before .before .if1 .left) (c .before .before .before .before .before .before .before .before .before .before .before .before .before .are-meaningful .ensures)
-    (c .before .before .before .before .before .before .before .before .before .before .before .before .if2 .left) (c .before .before .before .before .before .before .before .options-of .ensures)
+    (c .before .before .before .before .before .before .before .before .before .before .before .before .if2 .left) (c .before .before .before .before .before .before .before .settings-of .ensures)
     (c .before .before .before .before .before .before .before .before .before .before .octets .ensures) (c .before .before .before .before .put-list .ensures)
 
 pub attempt-spec : {M : Type 1} → statement M
@@ -54,7 +54,7 @@ attempt-spec =
     are-meaningful-requires
     returns-2
     octets-requires
-    options-of-requires
+    settings-of-requires
     put-list-requires
     same-length
     same-length-2

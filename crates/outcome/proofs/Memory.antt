@@ -17,7 +17,7 @@ use Rattle.rows.specs.Rows.{withRow}
 use Rattle.rows.proofs.Laws.{withRow-other}
 use Rattle.layout.specs.Layout.{urisAt, namesAt, valuesAt, learnedAt, grammarsAt}
 use Rattle.state.specs.declared.State.{State}
-use Rattle.reading.specs.Memory.{ZeroFrom, ZeroRows, Clear, OneRow, Longer}
+use Rattle.outcome.specs.Memory.{ZeroFrom, ZeroRows, Clear, OneRow, Longer}
 
 -- ---- the store
 

@@ -16,7 +16,7 @@ use Rattle.fields.proofs.Number.{octet-reads, number-reads, unsigned-reads}
 use Rattle.read_field.specs.declared.Field.the-variants.{Value, Refused}
 use Rattle.read_field.specs.View.{fieldAt}
 use Rattle.read_field.proofs.View as view
-use Rattle.reading.specs.Outcome.{Declined, Gotten, Outcome}
+use Rattle.outcome.specs.Outcome.{Declined, Gotten, Outcome}
 
 -- No refusal has the number 0.
 pub refusal-number : (k : Refusal) → 0 < numberOf k

@@ -1,0 +1,42 @@
+-- The refusals' names (scope, "Refusal numbers"), and the name of a number, in 16 octets.
+use Prim.Native.Nat.{ℕ, _-_}
+use mathlib.Core.Bool.{cond}
+use mathlib.Core.List.{List, [], _∷_, _++_}
+use lib.Dec.{eqb}
+use lib.ListN.{length, replicate}
+use Rattle.text.specs.Text.{Text, text}
+use Rattle.fields.specs.Refusal.{Refusal, numberOf, room, settings, long, header, ended, code, number, character, reference, loose, name, limit, tail, shape, place}
+
+unfoldable pub nameOf : Refusal → Text
+nameOf room = text "ROOM"
+nameOf settings = text "SETTINGS"
+nameOf long = text "LONG"
+nameOf header = text "HEADER"
+nameOf ended = text "ENDED"
+nameOf code = text "CODE"
+nameOf number = text "NUMBER"
+nameOf character = text "CHARACTER"
+nameOf reference = text "REFERENCE"
+nameOf loose = text "LOOSE"
+nameOf name = text "NAME"
+nameOf limit = text "LIMIT"
+nameOf tail = text "TAIL"
+nameOf shape = text "SHAPE"
+nameOf place = text "PLACE"
+
+unfoldable pub refusals : List Refusal
+refusals =
+    room ∷ settings ∷ long ∷ header ∷ ended ∷ code ∷ number ∷ character ∷ reference ∷ loose ∷ name ∷ limit ∷ tail ∷ shape ∷ place ∷ []
+
+-- The name of the one among these with this number, or nothing.
+unfoldable pub nameAmong : List Refusal → ℕ → Text
+nameAmong [] n = []
+nameAmong (r ∷ rs) n = cond (eqb (numberOf r) n) (nameOf r) (nameAmong rs n)
+
+-- A name with zeros up to 16 octets.
+unfoldable pub padded : Text → List ℕ
+padded x = x ++ replicate (16 - length x) 0
+
+-- The name of the refusal with this number; zeros where there is none (proofs/Table.antt: each refusal is found by its number).
+unfoldable pub nameAt : ℕ → List ℕ
+nameAt n = padded (nameAmong refusals n)

@@ -1,0 +1,41 @@
+// The refusals' names. The definitions that the contract cites are in specs/Names.antt.
+ghost use mathlib.Core.Path.{_≡_};
+ghost use Rattle.refusal.specs.Names.{nameAt};
+
+// A name in ASCII, and zeros behind it.
+#[repr(C)]
+pub struct Name {
+    pub text: [u8; 16],
+}
+
+// The names in the order of their numbers, from 0 on.
+const NAMES: [[u8; 16]; 16] = [
+    *b"\0\0\0\0\0\0\0\0\0\0\0\0\0\0\0\0",
+    *b"ROOM\0\0\0\0\0\0\0\0\0\0\0\0",
+    *b"SETTINGS\0\0\0\0\0\0\0\0",
+    *b"LONG\0\0\0\0\0\0\0\0\0\0\0\0",
+    *b"HEADER\0\0\0\0\0\0\0\0\0\0",
+    *b"ENDED\0\0\0\0\0\0\0\0\0\0\0",
+    *b"CODE\0\0\0\0\0\0\0\0\0\0\0\0",
+    *b"NUMBER\0\0\0\0\0\0\0\0\0\0",
+    *b"CHARACTER\0\0\0\0\0\0\0",
+    *b"REFERENCE\0\0\0\0\0\0\0",
+    *b"LOOSE\0\0\0\0\0\0\0\0\0\0\0",
+    *b"NAME\0\0\0\0\0\0\0\0\0\0\0\0",
+    *b"LIMIT\0\0\0\0\0\0\0\0\0\0\0",
+    *b"TAIL\0\0\0\0\0\0\0\0\0\0\0\0",
+    *b"SHAPE\0\0\0\0\0\0\0\0\0\0\0",
+    *b"PLACE\0\0\0\0\0\0\0\0\0\0\0",
+];
+
+// The name of the refusal with this number; zeros where there is none.
+pub fn name_of(number: u32) -> Name
+    ensures { λ r. ⌜ r .text ≡ nameAt number ⌝ }
+{
+    if number < 16 {
+        let i = number as usize;
+        let text = NAMES[i];
+        return Name { text };
+    }
+    Name { text: [0; 16] }
+}
