@@ -18,7 +18,7 @@ use Rattle.layout.specs.Meaning.{Memory, placedAt, uriText, nameEntry, nameAt, 
 use Rattle.layout.specs.Tidy.{Lies, Tidy}
 use Rattle.initial.specs.Initial.{initialText, withText, row, initialRows, moved, someRows, initialUris, initialNames, withRows, withTables, startMemory, startCounts}
 use Rattle.initial.proofs.Written.{withRows-length, withRows-before, withRows-rows}
-use Rattle.initial.proofs.Table.{text-length, noRow, initialRow, row-ends, key-small, uris-room, names-room}
+use Rattle.initial.proofs.Table.{text-length, noRow, initialRow, row-ends, key-small, uri-key, uris-room, names-room}
 
 -- ---- memory that holds the initial entries
 
@@ -160,6 +160,7 @@ module _ (m : Memory) (b : Begun m) where
           uris = λ i h. rw (uri-row i h) (lies i);
           names = λ i h. rw (name-row i h) (lies (3 + i));
           values = λ i h. absurd (omega arith);
+          uriKeys = λ i h. rw (uri-row i h) (uri-key i h);
           nameKeys = λ i h. rw (name-row i h) (key-small (3 + i));
           valueKeys = λ i h. absurd (omega arith);
         };
@@ -177,6 +178,7 @@ module _ (m : Memory) (b : Begun m) where
           kinds = λ i h. absurd (omega arith);
           once = λ i j h. absurd (omega arith);
           grammars = λ i h. absurd (omega arith);
+          bare = λ i h. absurd (omega arith);
         };
       }
 

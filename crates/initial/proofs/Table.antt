@@ -57,6 +57,14 @@ pub key-small : (k : ℕ) → initialRow k .key < 3
 unfolding initialRows row
 key-small k = ltb→lt _ _ (every-at (λ r. ltb (r .key) 3) initialRows tt k)
 
+-- The URIs' rows have key 0.
+pub uri-key : (k : ℕ) → k < 3 → initialRow k .key ≡ 0
+unfolding initialRows row
+uri-key zero h = refl
+uri-key (suc zero) h = refl
+uri-key (suc (suc zero)) h = refl
+uri-key (suc (suc (suc k))) h = let z : ⊥ = omega arith in absurd z
+
 -- The columns of the table.
 abbrev pub keys : List ℕ
 keys = map (λ r. r .key) initialRows

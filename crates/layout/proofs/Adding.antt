@@ -344,6 +344,9 @@ module _ {m m′ : Memory} {c : Counts} {at : ℕ} {x : Text} (t : Tidy m c) (g 
                 uris = joined-lies a (λ i h. rw (uri-row i h) (lies (rowAt (m .work) urisAt i) (s .uris i h)));
                 names = joined-lies b (λ i h. rw (name-row i h) (lies (rowAt (m .work) namesAt i) (s .names i h)));
                 values = joined-lies d (λ i h. rw (value-row i h) (lies (rowAt (m .work) valuesAt i) (s .values i h)));
+                uriKeys = λ i h.
+                    let k : rowAt (m′ .work) urisAt i .key < 1 = joined-keys a (omega arith) (λ j l. rw (uri-row j l) (omega (arith, s .uriKeys j l))) i h in
+                    omega arith;
                 nameKeys = joined-keys b (a .more) (λ i h. rw (name-row i h) (s .nameKeys i h));
                 valueKeys = joined-keys d (b .more) (λ i h. rw (value-row i h) (s .valueKeys i h));
               };
@@ -359,6 +362,7 @@ module _ {m m′ : Memory} {c : Counts} {at : ℕ} {x : Text} (t : Tidy m c) (g 
                 kinds = λ i h. rw (learned-row i h) (t .grammars .kinds i h);
                 once = λ i j h l e. t .grammars .once i j h l (sym (learned-row i h) ∙ e ∙ learned-row j l);
                 grammars = λ i h. rw (grammar-row i h) (omega (arith, t .grammars .grammars i h, b .more));
+                bare = λ i h. rw (grammar-row i h) (t .grammars .bare i h);
               };
             };
             size = g .size;

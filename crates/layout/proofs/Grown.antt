@@ -1,6 +1,6 @@
 -- What a row behind the learned rows, and one behind the element grammars, leave of memory.
 use Prim.Native.Nat.{ℕ, _+_, _<_}
-use mathlib.Core.Path.{_≡_}
+use mathlib.Core.Path.{_≡_, refl}
 use mathlib.Core.Bool.{Bool, false}
 use mathlib.Core.List.{[], _∷_, _++_}
 use mathlib.Core.Option.{some}
@@ -56,16 +56,16 @@ pub record GrammarMore (m m′ : Memory) (c : Counts) (e : ℕ) : Type 0 where
   pub learned : learnedFrom m′ (c .learned) ≡ learnedFrom m (c .learned)
   pub grammars : grammarsFrom m′ (c .grammars + 1) ≡ grammarsFrom m (c .grammars) ++ (nameAt m e ∷ [])
 
-pub after-grammar : {m m′ : Memory} {c : Counts} {e place size : ℕ} → Tidy m c
-    → Behind m m′ c grammarsAt (c .grammars) (record { key = e; place = place; size = size }) → c .grammars < maxGrammars → e < c .names
+pub after-grammar : {m m′ : Memory} {c : Counts} {e : ℕ} → Tidy m c
+    → Behind m m′ c grammarsAt (c .grammars) (record { key = e; place = 0; size = 0 }) → c .grammars < maxGrammars → e < c .names
     → GrammarMore m m′ c e
-after-grammar {m} {m′} {c} {e} {place} {size} t b few element =
-    let r : Row = record { key = e; place = place; size = size } in
+after-grammar {m} {m′} {c} {e} t b few element =
+    let r : Row = record { key = e; place = 0; size = 0 } in
     let g = t .grammars in
     let names = names-kept (t .sized) (t .strings) b in
     record {
       tables = tables-kept (t .sized) (t .strings) b;
-      tidy = grammar-tidy t b few element;
+      tidy = grammar-tidy t b few element (record { place = refl; size = refl });
       size = rw (b .work, withRow-length);
       uris = uri-kept (t .sized) (t .strings) b;
       names = names;

@@ -22,12 +22,13 @@ use Rattle.rows.specs.declared.Row.{Row}
 use Rattle.rows.specs.Rows.{rowAt, rows, textOf, selected, keep, numbered, countOf, foundAt, withRow}
 use Rattle.rows.proofs.Laws.{rows-more, rows-with, rows-apart, withRow-row, withRow-length}
 use Rattle.rows.proofs.Selection.{numbered-append, nth-some}
-use Rattle.rows.proofs.Answers.{Hit, nth-hit}
+use Rattle.rows.specs.Hit.{Hit}
+use Rattle.rows.proofs.Answers.{nth-hit}
 use Rattle.layout.proofs.Kept.{same-row, text-in, map-rows, learned-row-kept, learned-kept, grammar-names}
 use Rattle.layout.proofs.Adding.{drop-row}
 use Rattle.layout.specs.Layout.{urisAt, namesAt, valuesAt, learnedAt, grammarsAt, tableCells}
 use Rattle.layout.specs.Meaning.{Memory, Counts, placedAt, uriText, nameEntry, nameAt, valueEntry, tablesIn, kindAt, carries, carriedName, learnedKey, learnedRow, newestFirst, learnedFrom, grammarsFrom}
-use Rattle.layout.specs.Tidy.{Lies, Sized, Strings, Distinct, Teachable, Grammars, Tidy}
+use Rattle.layout.specs.Tidy.{Bare, Lies, Sized, Strings, Distinct, Teachable, Grammars, Tidy}
 
 -- The row of a production, by the number of the name that it carries.
 abbrev pub productionRow : ℕ → Bool → Kind → ℕ → Row
@@ -326,6 +327,7 @@ module _ {m m′ : Memory} {c : Counts} {base n : ℕ} {r : Row} (t : Tidy m c) 
         uris = λ i h. rw (row-kept z s b urisAt (c .uris) i (bounds z s b .0) h) (lies-kept l k (rowAt (m .work) urisAt i) (s .uris i h));
         names = λ i h. rw (row-kept z s b namesAt (c .names) i (bounds z s b .1) h) (lies-kept l k (rowAt (m .work) namesAt i) (s .names i h));
         values = λ i h. rw (row-kept z s b valuesAt (c .values) i (bounds z s b .2) h) (lies-kept l k (rowAt (m .work) valuesAt i) (s .values i h));
+        uriKeys = λ i h. rw (row-kept z s b urisAt (c .uris) i (bounds z s b .0) h) (s .uriKeys i h);
         nameKeys = λ i h. rw (row-kept z s b namesAt (c .names) i (bounds z s b .1) h) (s .nameKeys i h);
         valueKeys = λ i h. rw (row-kept z s b valuesAt (c .values) i (bounds z s b .2) h) (s .valueKeys i h);
       }
@@ -421,6 +423,7 @@ module _ {m m′ : Memory} {c : Counts} {r : Row} (t : Tidy m c) (b : Behind m m
               (rows-added t b (λ j q. r ≡ q → c .learned ≡ j) room (λ j y e. absurd (new j y (sym e))) (λ e. refl))
               i x j y e;
           grammars = λ i h. subst (λ q. q .key < c .names) (sym (same i h)) (g .grammars i h);
+          bare = λ i h. rw (same i h) (g .bare i h);
         };
       }
 
@@ -432,8 +435,8 @@ module _ {m m′ : Memory} {c : Counts} {r : Row} (t : Tidy m c) (b : Behind m m
   grammar-apart =
       rw (b .work) (rows-apart (m .work) grammarsAt (c .grammars) r learnedAt (c .learned) (inr (omega (arith, learned-before (t .sized .learned)))))
 
-  pub grammar-tidy : r .key < c .names → Tidy m′ (recounted c (c .learned) (c .grammars + 1))
-  grammar-tidy x =
+  pub grammar-tidy : r .key < c .names → Bare r → Tidy m′ (recounted c (c .learned) (c .grammars + 1))
+  grammar-tidy x bare =
       let g = t .grammars in
       let same = same-row (m′ .work) (m .work) learnedAt (c .learned) grammar-apart in
       record {
@@ -447,5 +450,6 @@ module _ {m m′ : Memory} {c : Counts} {r : Row} (t : Tidy m c) (b : Behind m m
           kinds = λ i h. rw (same i h) (g .kinds i h);
           once = λ i j h l e. g .once i j h l (sym (same i h) ∙ e ∙ same j l);
           grammars = rows-added t b (λ i q. q .key < c .names) (grammars-room m c (t .sized) few) (g .grammars) x;
+          bare = rows-added t b (λ i q. Bare q) (grammars-room m c (t .sized) few) (g .bare) bare;
         };
       }

@@ -23,7 +23,8 @@ use Rattle.rows.specs.declared.Found.the-variants.{At, Nothing}
 use Rattle.rows.specs.Rows.{rowAt, rows, textOf, selected, keep, numbered, countOf, nthIn, nthOf, hasText, firstThat, findThat, foundAt, found}
 use Rattle.rows.proofs.Laws.{rows-length, rows-at}
 use Rattle.rows.proofs.Selection.{Nth, entry-nth, first-from, find-entry, find-none, none-find, nth-of}
-use Rattle.rows.proofs.Answers.{Hit}
+use Rattle.rows.specs.Hit.{Hit}
+use Rattle.layout.specs.Listed.{Listed}
 use Rattle.layout.specs.Layout.{urisAt, namesAt, valuesAt}
 use Rattle.layout.specs.Meaning.{Memory, Counts, placedAt, uriText, nameEntry, nameAt, valueEntry, tablesIn}
 use Rattle.layout.specs.Tidy.{Strings, Distinct}
@@ -39,14 +40,6 @@ row-of work base n i e =
 -- The strings of selected rows.
 stringsIn : Memory → List (ℕ × Row) → List Placed
 stringsIn m ps = map (λ p. placedAt m (p .1)) ps
-
--- The definitions' list es is the selected rows of the table of n rows at base.
-pub record Listed (m : Memory) (base n : ℕ) (all : Bool) (key : ℕ) (es : List Placed) : Type 0 where
-  pub count : length es ≡ countOf all key (rows (m .work) base n)
-  pub nth : (i : ℕ) → getElem? es i ≡ Option·map (λ row. placedAt m (rowAt (m .work) base row)) (nthOf all key i (rows (m .work) base n))
-  pub find : (x : Text) → indexOf es x ≡ Option·map (λ p. p .0) (findThat (hasText (m .cells) x) all key (rows (m .work) base n))
-  -- An entry is found at its own number.
-  pub own : (i row : ℕ) → Hit all key (m .work) base n i row → indexOf es (textOf (m .cells) (rowAt (m .work) base row)) ≡ some i
 
 -- A selected row is hit at the number of selected rows before it.
 hit-row : (all : Bool) (key : ℕ) (work : List ℕ) (base n row : ℕ) → row < n → selected all key (rowAt work base row) ≡ true

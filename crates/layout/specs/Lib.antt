@@ -1,4 +1,5 @@
 pub mod Layout
+pub mod Listed
 pub mod Meaning
 pub mod Tidy
 pub mod Writer

@@ -30,6 +30,7 @@ pub record Strings (m : Memory) (c : Counts) : Type 0 where
   pub uris : (i : ℕ) → i < c .uris → Lies m c (rowAt (m .work) urisAt i)
   pub names : (i : ℕ) → i < c .names → Lies m c (rowAt (m .work) namesAt i)
   pub values : (i : ℕ) → i < c .values → Lies m c (rowAt (m .work) valuesAt i)
+  pub uriKeys : (i : ℕ) → i < c .uris → rowAt (m .work) urisAt i .key ≡ 0
   pub nameKeys : (i : ℕ) → i < c .names → rowAt (m .work) namesAt i .key < c .uris
   pub valueKeys : (i : ℕ) → i < c .values → rowAt (m .work) valuesAt i .key < c .names
 
@@ -39,6 +40,11 @@ pub record Distinct (m : Memory) (c : Counts) : Type 0 where
   pub names : (i j : ℕ) → i < c .names → j < c .names → nameAt m i ≡ nameAt m j → i ≡ j
   pub values : (i j : ℕ) → i < c .values → j < c .values
       → textOf (m .cells) (rowAt (m .work) valuesAt i) ≡ textOf (m .cells) (rowAt (m .work) valuesAt j) → i ≡ j
+
+-- A row of the element grammars has nothing but its key.
+pub record Bare (r : Row) : Type 0 where
+  pub place : r .place ≡ 0
+  pub size : r .size ≡ 0
 
 -- SE, AT, EE and CH, by their kind numbers, are what is learned.
 pub record Teachable (r : Row) : Type 0 where
@@ -53,6 +59,7 @@ pub record Grammars (m : Memory) (c : Counts) : Type 0 where
   pub kinds : (i : ℕ) → i < c .learned → Teachable (rowAt (m .work) learnedAt i)
   pub once : (i j : ℕ) → i < c .learned → j < c .learned → rowAt (m .work) learnedAt i ≡ rowAt (m .work) learnedAt j → i ≡ j
   pub grammars : (i : ℕ) → i < c .grammars → rowAt (m .work) grammarsAt i .key < c .names
+  pub bare : (i : ℕ) → i < c .grammars → Bare (rowAt (m .work) grammarsAt i)
 
 pub record Tidy (m : Memory) (c : Counts) : Type 0 where
   pub sized : Sized m c

@@ -18,7 +18,7 @@ use Rattle.rows.specs.declared.Found.{Found}
 use Rattle.rows.specs.declared.Found.the-variants.{At, Nothing}
 use Rattle.rows.specs.Rows.{rowAt, rows, countOf, findThat, found}
 use Rattle.rows.proofs.Laws.{rows-length, rows-at}
-use Rattle.rows.proofs.Answers.{Hit}
+use Rattle.rows.specs.Hit.{Hit}
 use Rattle.layout.specs.Layout.{learnedAt, grammarsAt}
 use Rattle.layout.specs.Meaning.{Memory, Counts, nameAt, kindAt, carries, carriedName, learnedKey, learnedRow, learnedFrom, grammarsFrom}
 use Rattle.layout.specs.Tidy.{Distinct, Grammars}

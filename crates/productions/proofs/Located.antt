@@ -14,7 +14,8 @@ use Rattle.rows.specs.declared.Found.{Found}
 use Rattle.rows.specs.declared.Found.the-variants.{At, Nothing}
 use Rattle.rows.specs.Rows.{rowAt, rows, selected, findThat, numbered, countOf, found}
 use Rattle.rows.proofs.Selection.{count-cons}
-use Rattle.rows.proofs.Answers.{Hit, find-hit, find-miss}
+use Rattle.rows.specs.Hit.{Hit}
+use Rattle.rows.proofs.Answers.{find-hit, find-miss}
 use Rattle.productions.specs.Locate.{hasCells, hasKey}
 
 -- ---- by the key

@@ -8,7 +8,7 @@ use mathlib.Core.List.{List, [], _∷_, _++_}
 use mathlib.Core.Option.{none, some, Option·none-ne-some}
 use lib.ListN.{length, getElem?, drop}
 use lib.Dec.{T, eqb}
-use borrow.Author.Tests.{eqb-true, eqb-false, eq-eqb}
+use borrow.Author.Tests.{eqb-true, eqb-false, eq-eqb, le-ltb, lt-ltb}
 use Rattle.fields.specs.Bits.{Bits, valueOf, octetsFor, unpack}
 use Rattle.fields.specs.Refusal.{numberOf, code}
 use Rattle.fields.specs.Parser.{got, return, present, times, andThen, _>>=_}
@@ -23,7 +23,8 @@ use Rattle.format.specs.Reader.{readPart, readCode, sameCode}
 use Rattle.format.proofs.Codes.{code-same, fits-kind, eqName-eq}
 use Rattle.rows.specs.declared.Row.{Row}
 use Rattle.rows.specs.Rows.{rowAt, foundAt}
-use Rattle.rows.proofs.Answers.{Hit, nth-hit}
+use Rattle.rows.specs.Hit.{Hit}
+use Rattle.rows.proofs.Answers.{nth-hit}
 use Rattle.layout.specs.Layout.{learnedAt}
 use Rattle.layout.specs.Tidy.{Grammars}
 use Rattle.layout.specs.Meaning.{Memory, Counts, nameAt, kindAt, carriedName, learnedRow}
@@ -45,7 +46,7 @@ use Rattle.outcome.proofs.Outcome.{gotten-outcome, refused-outcome, outcome-wea
 use Rattle.read_code.specs.declared.Part.{Part}
 use Rattle.read_code.specs.declared.Decoded.{Decoded}
 use Rattle.read_code.specs.Levels.{plainAs, refusedAs, learnedAs, PartRead, Stands, unnamedAt, lower, LevelRead, RowRead}
-use Rattle.read_code.specs.Decoding.{productionIn, Strict, Read, CodeRead}
+use Rattle.read_code.specs.Decoding.{productionIn, Strict, startsBelow, Read, CodeRead}
 use Rattle.read_code.proofs.Levels.{level-refused, level-here, level-below}
 use Rattle.read_code.proofs.Inner.{endsIn, inner, inner-count, learned-choice, end-mode, end-choice, on-choice, learned-code, learned-loose, end-code, below-code}
 use Rattle.read_code.proofs.States.{outer-learned, outer-levels, learned-here, inner-levels, count-here}
@@ -83,7 +84,7 @@ module _ (s : Settings) (m : Memory) (st : state.State) (e : Event Text) {x : Co
 -- ---- a production that is not learned
 
 module _ (s : Settings) {m : Memory} {st : state.State} (h : Standing m st) {r : Decoded} {x : Code} (plain : r .learned ≡ false)
-    (nameless : r .row ≡ 0) (production : x .production ≡ unnamedAt (r .kind)) (kind : r .kind < 8)
+    (nameless : r .row ≡ 0) (production : x .production ≡ unnamedAt (r .kind)) (fresh : startsBelow (length (learnedHere m st)) (x .parts) ≡ false) (kind : r .kind < 8)
     (inside : 4 ≤ r .kind → r .kind ≤ 5 → 4 ≤ st .mode) (outside : r .kind ≤ 1 → st .mode < 4)
     (strict : (e : Event Text) → kindNumber (kindOf e) ≡ r .kind → firstFit (learnedHere m st) e ≡ none → codeOf (levelsIn s (contextOf m st)) e ≡ some x)
     (loose : (e : Event Text) (y : ℕ × Production) → firstFit (learnedHere m st) e ≡ some y
@@ -106,6 +107,7 @@ module _ (s : Settings) {m : Memory} {st : state.State} (h : Standing m st) {r :
   plain-read =
       record {
         production = production ∙ rw plain;
+        learned-is = plain ∙ sym fresh;
         kind = kind;
         inside = inside;
         outside = outside;
@@ -137,10 +139,18 @@ start-strict : (e : Event Text) → kindNumber (kindOf e) ≡ 0 → codeOf ((unn
 unfolding codeOf codeOr firstFit fits fitsName kindNumber unnamed
 start-strict e k = rw k
 
+none-below : (vs : List ℕ) → startsBelow 0 vs ≡ false
+unfolding startsBelow
+none-below [] = refl
+none-below (v ∷ vs) = le-ltb v 0 (omega arith)
+
 module _ (s : Settings) {m : Memory} {st : state.State} (h : Standing m st) where
   outer-none : st .mode < 4 → (e : Event Text) → firstFit (learnedHere m st) e ≡ none
   unfolding firstFit
   outer-none l e = rw (outer-learned h l)
+
+  outer-fresh : st .mode < 4 → (x : Code) → startsBelow (length (learnedHere m st)) (x .parts) ≡ false
+  outer-fresh l x = rw (outer-learned h l) (none-below (x .parts))
 
   outer-loose : st .mode < 4 → (x : Code) (e : Event Text) (y : ℕ × Production) → firstFit (learnedHere m st) e ≡ some y
       → sameCode (x .parts) (codeOf (levelsIn s (contextOf m st)) e) ≡ false
@@ -158,17 +168,18 @@ module _ (s : Settings) {m : Memory} {st : state.State} (h : Standing m st) wher
               after = le-refl (st .at);
               inside = place;
             })
-            (plain-read s h refl refl start-production (omega arith) (λ i j. absurd (omega arith)) (λ _. omega arith) start-code
+            (plain-read s h refl refl start-production (outer-fresh (omega arith) (atLevel 0 (unnamed SD))) (omega arith) (λ i j. absurd (omega arith)) (λ _. omega arith) start-code
             (outer-loose (omega arith) (atLevel 0 (unnamed SD))));
+        refusal = λ l. absurd (omega arith);
       }
     where
       start-code : (ev : Event Text) → kindNumber (kindOf ev) ≡ 0 → firstFit (learnedHere m st) ev ≡ none
           → codeOf (levels s (contextOf m st .learned) (contextOf m st .state)) ev ≡ some (atLevel 0 (unnamed SD))
       start-code ev k _ = rw (document-state h e) (start-strict ev k)
 
-  pub finished-read : st .mode ≡ 3 → {stream : List ℕ} {q : ℕ} → CodeRead s m st stream (refusedAs 6 q)
+  pub finished-read : st .mode ≡ 3 → {stream : List ℕ} → CodeRead s m st stream (refusedAs 6)
   unfolding levelsIn levels readCode numberOf
-  finished-read e = record { outcome = rw (finished-state h e) (refused-outcome (fail-declined code)) }
+  finished-read e = record { outcome = rw (finished-state h e) (refused-outcome (fail-declined code)); refusal = λ _. refl }
 
   -- In the document's content or behind its root element.
   pub outer-read : 0 < st .mode → st .mode < 3 → {stream : List ℕ} {r : Decoded} → LevelRead s (st .mode) (lower s (st .mode)) stream (st .at) r → CodeRead s m st stream r
@@ -177,9 +188,10 @@ module _ (s : Settings) {m : Memory} {st : state.State} (h : Standing m st) wher
         outcome = rw (outer-levels h s a b)
             (outcome-weaken
             (λ _ x own.
-            plain-read s h (g .plain) (g .nameless) (own .production) (own .stands .known) (inside-element (own .stands))
+            plain-read s h (g .plain) (g .nameless) (own .production) (outer-fresh (omega arith) x) (own .stands .known) (inside-element (own .stands))
             (own .stands .outside) (λ e k _. rw (outer-levels h s a b) (own .code e k)) (outer-loose (omega arith) x))
             (g .outcome));
+        refusal = g .refusal;
       }
 
 -- ---- the events that a learned production fits
@@ -238,9 +250,9 @@ module _ (s : Settings) {m : Memory} {st : state.State} (h : Standing m st) (l :
       inner-count s (st .mode) l (h .mode .known) (learnedHere m st)
       ∙ ap (λ n. n + cond (eqb (st .mode) 5) 1 0 + 1) (count-here h l)
 
-  pub inner-refused : 0 < p .number → {q : ℕ} → CodeRead s m st stream (refusedAs (p .number) q)
+  pub inner-refused : 0 < p .number → CodeRead s m st stream (refusedAs (p .number))
   inner-refused n =
-      record { outcome = rw (inner-levels h l s) (level-refused (s .alignment) (learnedHere m st ++ endsIn (st .mode)) (lower s (st .mode)) r size n) }
+      record { outcome = rw (inner-levels h l s) (level-refused (s .alignment) (learnedHere m st ++ endsIn (st .mode)) (lower s (st .mode)) r size n); refusal = λ _. refl }
 
   module _ (z : p .number ≡ 0) where
     -- A learned production that fits is the strict one.
@@ -249,6 +261,10 @@ module _ (s : Settings) {m : Memory} {st : state.State} (h : Standing m st) (l :
     inner-loose b vs e y hit =
         rw (inner-levels h l s)
         (learned-loose s (st .mode) l (h .mode .known) (learnedHere m st) e hit (p .value) vs (omega (arith, count-here h l)))
+
+    inner-fresh : countHere (m .work) st ≤ p .value → (vs : List ℕ) → startsBelow (length (learnedHere m st)) (p .value ∷ vs) ≡ false
+    unfolding startsBelow
+    inner-fresh b vs = le-ltb (p .value) (length (learnedHere m st)) (omega (arith, count-here h l))
 
     pub inner-end : countHere (m .work) st ≤ p .value → p .value < countHere (m .work) st + cond (eqb (st .mode) 5) 1 0
         → CodeRead s m st stream (plainAs 4 (p .next))
@@ -260,9 +276,10 @@ module _ (s : Settings) {m : Memory} {st : state.State} (h : Standing m st) (l :
           outcome = rw (inner-levels h l s)
               (level-here (s .alignment) (learnedHere m st ++ endsIn (st .mode)) (lower s (st .mode)) r size z
               (rw is (end-choice s (st .mode) l (h .mode .known) (learnedHere m st) five))
-              (plain-read s h refl refl refl (omega arith) (λ _ _. l) (λ i. absurd (omega arith))
+              (plain-read s h refl refl refl (inner-fresh b []) (omega arith) (λ _ _. l) (λ i. absurd (omega arith))
               (λ e k miss. rw (inner-levels h l s, is) (end-code s (st .mode) l (h .mode .known) (learnedHere m st) e miss five k))
               (inner-loose b [])));
+          refusal = λ i. absurd (omega arith);
         }
 
     pub inner-below : countHere (m .work) st + cond (eqb (st .mode) 5) 1 0 ≤ p .value → {d : Decoded}
@@ -275,11 +292,12 @@ module _ (s : Settings) {m : Memory} {st : state.State} (h : Standing m st) (l :
               (level-below (s .alignment) (learnedHere m st ++ endsIn (st .mode)) (lower s (st .mode)) r size z
               (rw is (on-choice s (st .mode) l (h .mode .known) (learnedHere m st))) (g .outcome)
               (λ _ x own.
-              plain-read s h (g .plain) (g .nameless) (own .production) (own .stands .known) (inside-element (own .stands)) (own .stands .outside)
+              plain-read s h (g .plain) (g .nameless) (own .production) (inner-fresh (omega arith) (x .parts)) (own .stands .known) (inside-element (own .stands)) (own .stands .outside)
               (λ e k miss.
               rw (inner-levels h l s, is)
               (below-code s (st .mode) l (h .mode .known) (learnedHere m st) e miss (λ i. own .stands .end (sym k ∙ i)) (own .code e k)))
               (inner-loose (omega arith) (x .parts))));
+          refusal = g .refusal;
         }
 
     -- The learned production in the row that as many rows of the key follow as the value says.
@@ -342,11 +360,12 @@ module _ (s : Settings) {m : Memory} {st : state.State} (h : Standing m st) (l :
             }
 
       learned-read : Read s m st (learnedAs told (p .next)) (atLevel (p .value) production)
-      unfolding atLevel productionIn learnedRow
+      unfolding atLevel productionIn learnedRow startsBelow
       learned-read =
           let t = h .tidy .grammars .kinds (g .row) (hit .below) in
           record {
             production = refl;
+            learned-is = sym (lt-ltb (p .value) (length (learnedHere m st)) (omega (arith, follow, count-here h l)));
             kind = omega (arith, t);
             inside = λ _ _. l;
             outside = λ i. absurd (omega (arith, t));
@@ -365,4 +384,5 @@ module _ (s : Settings) {m : Memory} {st : state.State} (h : Standing m st) (l :
             outcome = rw (inner-levels h l s)
                 (level-here (s .alignment) (learnedHere m st ++ endsIn (st .mode)) (lower s (st .mode)) r size z
                 (learned-choice s (st .mode) l (h .mode .known) (learnedHere m st) (p .value) named) learned-read);
+            refusal = λ i. absurd (omega arith);
           })

@@ -64,10 +64,10 @@ module _ (a : Alignment) (k : Bool) where
   instruction-code false e h = rw h
 
   module _ (c i : Bool) {stream : List ℕ} {at : ℕ} {p : Part} (r : PartRead a stream at (cond c 1 0 + cond i 1 0) p) where
-    pub kept-refused : 0 < p .number → {q : ℕ} → KeptRead (with c i) stream at (refusedAs (p .number) q)
+    pub kept-refused : 0 < p .number → KeptRead (with c i) stream at (refusedAs (p .number))
     kept-refused h =
         record {
-          level = λ mode. record { outcome = level-refused a (kept (with c i)) [] r (kept-count c i) h; plain = refl; nameless = refl };
+          level = λ mode. record { outcome = level-refused a (kept (with c i)) [] r (kept-count c i) h; refusal = λ _. refl; plain = refl; nameless = refl };
           kind = λ z. absurd (omega arith);
         }
 
@@ -82,6 +82,7 @@ module _ (a : Alignment) (k : Bool) where
             level = λ mode.
                 record {
                   outcome = level-here a (kept (with c i)) [] r (kept-count c i) z here (record { production = refl; stands = omega arith; code = is });
+                  refusal = λ l. absurd (omega arith);
                   plain = refl;
                   nameless = refl;
                 };
@@ -171,11 +172,11 @@ module _ (a : Alignment) (k : Bool) (c i : Bool) (mode : ℕ) where
       (λ t. rw (t, choices-last (kept given ∷ []) (map unnamedAt (kindsIn mode)) (all-empty a k c i ∙ ap not t), n) (omega arith))
 
   module _ {stream : List ℕ} {at : ℕ} {p : Part} (r : PartRead a stream at (length (kindsIn mode) + cond (c || i) 1 0) p) where
-    pub lower-refused : 0 < p .number → {q : ℕ}
-        → LevelRead given mode (lower given mode) stream at (refusedAs (p .number) q)
+    pub lower-refused : 0 < p .number
+        → LevelRead given mode (lower given mode) stream at (refusedAs (p .number))
     unfolding lower
     lower-refused h =
-        record { outcome = level-refused a (map unnamedAt (kindsIn mode)) (kept given ∷ []) r lower-count h; plain = refl; nameless = refl }
+        record { outcome = level-refused a (map unnamedAt (kindsIn mode)) (kept given ∷ []) r lower-count h; refusal = λ _. refl; plain = refl; nameless = refl }
 
     module _ (z : p .number ≡ 0) where
       pub lower-here : p .value < length (kindsIn mode)
@@ -187,6 +188,7 @@ module _ (a : Alignment) (k : Bool) (c i : Bool) (mode : ℕ) where
             outcome = level-here a (map unnamedAt (kindsIn mode)) (kept given ∷ []) r lower-count z
                 (choices-here (kept given ∷ []) (map unnamedAt (kindsIn mode)) (p .value) (at-kind (kindsIn mode) (p .value) h))
                 (lower-own given mode (p .value) h);
+            refusal = λ l. absurd (omega arith);
             plain = refl;
             nameless = refl;
           }
@@ -217,6 +219,7 @@ module _ (a : Alignment) (k : Bool) (c i : Bool) (mode : ℕ) where
             record {
               outcome = level-below a (map unnamedAt (kindsIn mode)) (kept given ∷ []) r lower-count z lower-on (g .level mode .outcome)
                   (λ y x own. kept-below (g .kind y) x own);
+              refusal = g .level mode .refusal;
               plain = g .level mode .plain;
               nameless = g .level mode .nameless;
             }

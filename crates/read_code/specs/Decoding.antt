@@ -1,10 +1,11 @@
 -- What reading an event code asks and leaves, in the definitions' terms.
 use Prim.Native.Nat.{ℕ, _*_, _≤_, _<_}
 use mathlib.Core.Path.{_≡_}
-use mathlib.Core.Bool.{true, false, cond, _&&_, not}
-use mathlib.Core.List.{List}
+use mathlib.Core.Bool.{Bool, true, false, cond, _&&_, not}
+use mathlib.Core.List.{List, [], _∷_}
 use mathlib.Core.Option.{none, some}
 use lib.ListN.{length}
+use lib.Dec.{ltb}
 use Rattle.text.specs.Text.{Text}
 use Rattle.format.specs.Event.{Event, kindOf}
 use Rattle.format.specs.Sizes.{maxStream}
@@ -20,6 +21,7 @@ use Rattle.event_code.specs.Parts.{teachesIn}
 use Rattle.fitting.specs.Fitting.{learnedHere}
 use Rattle.outcome.specs.Outcome.{Outcome}
 use Rattle.read_code.specs.declared.Decoded.{Decoded}
+use Rattle.read_code.specs.Levels.{refusedAs}
 
 pub record CodeReady (stream : List ℕ) (m : Memory) (st : State) : Type 0 where
   pub size : length stream ≤ maxStream
@@ -42,8 +44,14 @@ pub record Fixed (s : Settings) (m : Memory) (st : State) (r : Decoded) (x : Cod
   pub strict : firstFit (learnedHere m st) e ≡ none → Strict s m st r x e
   pub loose : (y : ℕ × Production) → firstFit (learnedHere m st) e ≡ some y → sameCode (x .parts) (codeOf (levelsIn s (contextOf m st)) e) ≡ false
 
+-- The first part of a code is below n.
+unfoldable pub startsBelow : ℕ → List ℕ → Bool
+startsBelow n [] = false
+startsBelow n (v ∷ vs) = ltb v n
+
 pub record Read (s : Settings) (m : Memory) (st : State) (r : Decoded) (x : Code) : Type 0 where
   pub production : x .production ≡ productionIn m r
+  pub learned-is : r .learned ≡ startsBelow (length (learnedHere m st)) (x .parts)
   pub kind : r .kind < 8
   -- an end element and characters stand in an element, the start and the end of the document outside
   pub inside : 4 ≤ r .kind → r .kind ≤ 5 → 4 ≤ st .mode
@@ -51,7 +59,7 @@ pub record Read (s : Settings) (m : Memory) (st : State) (r : Decoded) (x : Code
   -- the row is 0 where the production carries no name
   pub plain : r .learned ≡ false → r .row ≡ 0
   pub nameless : carries (kindAt (r .kind)) ≡ false → r .row ≡ 0
-  -- a learned production stands in an element, is SE, AT, EE or CH, carries a name that is there, and is always the strict one
+  -- a learned production stands in an element, is SE, AT, EE or CH, has the row of a name that is there, or 0, and is always the strict one
   pub inner : r .learned ≡ true → (4 ≤ st .mode) × (2 ≤ r .kind) × (r .kind ≤ 5) × (r .row < st .names)
   pub numbered : r .learned ≡ true → (e : Event Text) → fits (x .production) e ≡ true → Numbered m (countsOf st) e (r .row)
   pub strict : r .learned ≡ true → (e : Event Text) → fits (x .production) e ≡ true → Strict s m st r x e
@@ -59,3 +67,4 @@ pub record Read (s : Settings) (m : Memory) (st : State) (r : Decoded) (x : Code
 
 pub record CodeRead (s : Settings) (m : Memory) (st : State) (stream : List ℕ) (r : Decoded) : Type 0 where
   pub outcome : Outcome (readCode (s .alignment) (levelsIn s (contextOf m st))) stream (st .at) (r .number) (r .at) (Read s m st r)
+  pub refusal : 0 < r .number → r ≡ refusedAs (r .number)

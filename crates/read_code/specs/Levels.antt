@@ -25,8 +25,8 @@ use Rattle.read_code.specs.declared.Decoded.{Decoded}
 
 -- ---- the answers
 
-abbrev pub refusedAs : ℕ → ℕ → Decoded
-refusedAs number at = record { number = number; kind = 0; learned = false; row = 0; at = at }
+abbrev pub refusedAs : ℕ → Decoded
+refusedAs number = record { number = number; kind = 0; learned = false; row = 0; at = 0 }
 
 -- A production that is not learned.
 abbrev pub plainAs : ℕ → ℕ → Decoded
@@ -80,6 +80,7 @@ pub record Own (mode : ℕ) (ls : List (List Production)) (kind : ℕ) (x : Code
 
 pub record LevelRead (s : Settings) (mode : ℕ) (ls : List (List Production)) (stream : List ℕ) (at : ℕ) (r : Decoded) : Type 0 where
   pub outcome : Outcome (readCode (s .alignment) ls) stream at (r .number) (r .at) (Own mode ls (r .kind))
+  pub refusal : 0 < r .number → r ≡ refusedAs (r .number)
   pub plain : r .learned ≡ false
   pub nameless : r .row ≡ 0
 

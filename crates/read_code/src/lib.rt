@@ -15,7 +15,7 @@ use settings::Settings;
 use state::State;
 
 // The number of a refusal or 0; the kind of the production that the code names; whether it is a learned one and, if so, the row of the name that it
-// carries or 0; and the position behind the code.
+// carries or 0; and the position behind the code. After a refusal all but the number is 0.
 pub struct Decoded {
     pub number: u32,
     pub kind: u32,
@@ -62,15 +62,15 @@ fn one(b: bool) -> u32
     0
 }
 
-fn refused(number: u32, at: usize) -> Decoded
-    ensures { λ r. ⌜ r ≡ refusedAs number at ⌝ }
+fn refused(number: u32) -> Decoded
+    ensures { λ r. ⌜ r ≡ refusedAs number ⌝ }
 {
     Decoded {
         number,
         kind: 0,
         learned: false,
         row: 0,
-        at,
+        at: 0,
     }
 }
 
@@ -156,7 +156,7 @@ fn read_kept(o: Settings, stream: &[u8], at: usize) -> Decoded
     let comments = one(o.comments);
     let p = read_part(o.aligned, stream, at, comments + one(o.instructions));
     if p.number != 0 {
-        return refused(p.number, at);
+        return refused(p.number);
     }
     if p.value < comments {
         return plain(CM, p.next);
@@ -172,7 +172,7 @@ fn read_lower(o: Settings, stream: &[u8], at: usize, mode: u32) -> Decoded
     let n = kind_count(mode);
     let p = read_part(o.aligned, stream, at, n + one(o.comments | o.instructions));
     if p.number != 0 {
-        return refused(p.number, at);
+        return refused(p.number);
     }
     if p.value < n {
         return plain(kind_in(mode, p.value), p.next);
@@ -196,7 +196,7 @@ fn row_read(work: &[u32], n: usize, key: u32, number: u32, at: usize) -> Decoded
                 at,
             }
         }
-        Found::Nothing => refused(CODE, at),
+        Found::Nothing => refused(CODE),
     }
 }
 
@@ -211,7 +211,7 @@ fn read_inner(o: Settings, stream: &[u8], st: State, text: &[u32], work: &[u32])
     let last = count + one(st.mode == 5);
     let p = read_part(o.aligned, stream, st.at, last + 1);
     if p.number != 0 {
-        return refused(p.number, st.at);
+        return refused(p.number);
     }
     let v = p.value;
     if v < count {
@@ -233,7 +233,7 @@ pub fn read_code(o: Settings, stream: &[u8], st: State, text: &[u32], work: &[u3
         return plain(SD, st.at);
     }
     if st.mode == 3 {
-        return refused(CODE, st.at);
+        return refused(CODE);
     }
     if st.mode < 4 {
         return read_lower(o, stream, st.at, st.mode);

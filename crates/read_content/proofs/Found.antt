@@ -16,11 +16,12 @@ use Rattle.rows.specs.declared.Row.{Row}
 use Rattle.rows.specs.Rows.{Room, rowAt, rows, textOf, selected, countOf}
 use Rattle.rows.proofs.Laws.{rows-length}
 use Rattle.rows.proofs.Selection.{count-all}
-use Rattle.rows.proofs.Answers.{Hit}
+use Rattle.rows.specs.Hit.{Hit}
 use Rattle.layout.specs.Layout.{urisAt, namesAt, valuesAt}
 use Rattle.layout.specs.Meaning.{uriText, nameAt}
 use Rattle.layout.proofs.Sizes.{room-names, room-values}
-use Rattle.layout.proofs.Strings.{Listed, uris-listed, names-listed, values-listed, any-listed, strict-uri, strict-local, strict-value, strict-any}
+use Rattle.layout.specs.Listed.{Listed}
+use Rattle.layout.proofs.Strings.{uris-listed, names-listed, values-listed, any-listed, strict-uri, strict-local, strict-value, strict-any}
 use Rattle.state.specs.declared.State.{State}
 use Rattle.standing.specs.Standing.{countsOf, reached}
 use Rattle.read_field.specs.declared.Field.{Field}
@@ -29,9 +30,9 @@ use Rattle.read_field.specs.View.{fieldAt, NumberIn}
 use Rattle.outcome.specs.Memory.{readerMemory, tablesOf, ReadReady}
 use Rattle.outcome.proofs.Outcome.{unsigned-gotten}
 use Rattle.read_content.specs.declared.Got.{Got}
-use Rattle.read_content.specs.Content.{StringRead, UriRow, NameRow, ValueRow}
-use Rattle.read_content.specs.Parts.{readAsHit, ReadFrom, LocalFrom, ValueFrom, HitFit, refusedGot, PartRead, Taken, EntryTaken, HitRead}
-use Rattle.read_content.proofs.Steps.{no-uri, no-name, field-positive, uri-refused, new-uri-refused, uri-past, uri-hit, uri-inside}
+use Rattle.read_content.specs.Content.{StringRead, UriRow, NameRow, ValueRow, refusedGot, PartRead}
+use Rattle.read_content.specs.Parts.{readAsHit, ReadFrom, LocalFrom, ValueFrom, HitFit, Taken, EntryTaken, HitRead}
+use Rattle.read_content.proofs.Steps.{rowless, part-rowless, no-uri, no-name, field-positive, uri-refused, new-uri-refused, uri-past, uri-hit, uri-inside}
 use Rattle.read_content.proofs.Hits.{listed-at, hit-judged, hit-missed, hit-loose, hit-named, hit-passed}
 
 -- ---- a URI
@@ -101,8 +102,8 @@ module _ {a : Alignment} {s : List ℕ} {at : ℕ} {work text : List ℕ} {base 
     | no e ↦ rw (p .refused (omega arith))
   ]
 
-  hit-values : ValueRow st g
-  hit-values = record { uris = ap (λ (x : State). x .uris) hit-state; names = ap (λ (x : State). x .names) hit-state }
+  hit-values : ValueRow st (rowless g)
+  hit-values = record { row = refl; uris = ap (λ (x : State). x .uris) hit-state; names = ap (λ (x : State). x .names) hit-state }
 
 -- ---- a local name
 
@@ -201,23 +202,26 @@ module _ {s work text : List ℕ} {st : State} {at key : ℕ} (h : ValueFrom s w
 
   module _ {a : Alignment} {g : Got} where
     pub own-value : HitRead a s at work valuesAt (st .values) false key st g
-        → ValueHit a 0 (valuesOf (tablesOf work text st) (nameAt (readerMemory work text) key)) g
+        → ValueHit a 0 (valuesOf (tablesOf work text st) (nameAt (readerMemory work text) key)) (rowless g)
     unfolding nameAllowed
     own-value p =
         let t = h .from .ready .tidy in
         let b : ((g .number ≡ 0) → g .row < st .values) = λ z. p .outcome text _ own-list .is z .0 .hit .below in (
           elim (ℕ-discrete (g .number) 0) [
-            | yes z ↦ hit-passed (h .from .ready) own-list p _ 0 z
+            | yes z ↦ part-rowless (hit-passed (h .from .ready) own-list p _ 0 z
                 (λ i q. strict-value (readerMemory work text) (countsOf st) (t .distinct) (t .strings) key (g .row) (h .row) i q) refl
-                (t .strings .values (g .row) (b z))
-            | no z ↦ hit-missed (h .from .ready) own-list p _ 0 (omega arith)
+                (t .strings .values (g .row) (b z)))
+            | no z ↦ part-rowless (hit-missed (h .from .ready) own-list p _ 0 (omega arith))
           ],
           hit-values own-list p,
         )
 
     module _ (p : HitRead a s at work valuesAt (st .values) true 0 st g) where
       pub any-missed : (g .number ≡ 0 → ⊥) → ValueHit a 1 (allValues (tablesOf work text st)) g
-      any-missed e = (hit-missed (h .from .ready) any-list p _ 1 (omega arith), hit-values any-list p)
+      any-missed e = (
+        hit-missed (h .from .ready) any-list p _ 1 (omega arith),
+        rw (p .refused (omega arith)) (record { row = refl; uris = refl; names = refl }),
+      )
 
       module _ (z : g .number ≡ 0) where
         pub any-below : g .row < st .values
@@ -236,13 +240,13 @@ module _ {s work text : List ℕ} {st : State} {at key : ℕ} (h : ValueFrom s w
         unfolding eqForm
         any-loose e = (
           hit-loose (h .from .ready) any-list p _ 1 z (λ i q. rw (any-form q, eq-eqb _ _ e)),
-          record { uris = refl; names = refl },
+          record { row = refl; uris = refl; names = refl },
         )
 
-        pub any-passed : (rowAt work valuesAt (g .row) .key ≡ key → ⊥) → ValueHit a 1 (allValues (tablesOf work text st)) g
+        pub any-passed : (rowAt work valuesAt (g .row) .key ≡ key → ⊥) → ValueHit a 1 (allValues (tablesOf work text st)) (rowless g)
         unfolding nameAllowed
         any-passed e = (
-          hit-passed (h .from .ready) any-list p _ 1 z (λ i q. any-form q ∙ rw (ne-eqb _ _ e)) refl
-              (h .from .ready .tidy .strings .values (g .row) any-below),
+          part-rowless (hit-passed (h .from .ready) any-list p _ 1 z (λ i q. any-form q ∙ rw (ne-eqb _ _ e)) refl
+              (h .from .ready .tidy .strings .values (g .row) any-below)),
           hit-values any-list p,
         )

@@ -28,8 +28,8 @@ use Rattle.outcome.proofs.Memory.{longer-laid}
 use Rattle.read_string.specs.Literal.{laidAt, LiteralFit, Laid, LiteralRead}
 use Rattle.read_string.specs.declared.Literal as declared
 use Rattle.read_content.specs.declared.Got.{Got}
-use Rattle.read_content.specs.Content.{Read, rowsOf, Counted}
-use Rattle.read_content.specs.Parts.{admit, judge, readAsNew, readNew, ReadFrom, NewFit, refusedGot, readGot, PartRead, Tells, NewRead}
+use Rattle.read_content.specs.Content.{Read, rowsOf, Counted, refusedGot, PartRead}
+use Rattle.read_content.specs.Parts.{admit, judge, readAsNew, readNew, ReadFrom, NewFit, readGot, Tells, NewRead}
 use Rattle.read_content.proofs.Steps.{part-declined, admit-name, admit-limit, admit-gotten, strict-judge}
 use Rattle.read_content.proofs.News.{laid-part, laid-cleared, new-then}
 
@@ -142,7 +142,7 @@ module _ {s work text : List ℕ} {st : State} {at : ℕ} (h : ReadFrom s work t
       literal-declined e =
           let t : Tables = tablesOf work text st in
           let k : 0 < read .number = omega arith in
-          part-declined (p .unchanged k) (declined-then (judge t r) (p .outcome t stored-is .refused k))
+          part-declined (p .unchanged k .0) (declined-then (judge t r) (p .outcome t stored-is .refused k))
 
 -- ---- what becomes of it
 

@@ -23,13 +23,14 @@ use Rattle.rows.specs.declared.Row.{Row}
 use Rattle.rows.specs.declared.Found.{Found}
 use Rattle.rows.specs.declared.Found.the-variants.{At, Nothing}
 use Rattle.rows.specs.Rows.{Room, rowAt, rows, textOf, countOf, nthOf, nthIn, foundAt}
-use Rattle.rows.proofs.Answers.{Hit, nth-hit, nth-miss}
+use Rattle.rows.specs.Hit.{Hit}
+use Rattle.rows.proofs.Answers.{nth-hit, nth-miss}
 use Rattle.rows.proofs.Laws.{rows-length}
 use Rattle.rows.proofs.Selection.{count-most}
 use Rattle.layout.specs.Meaning.{Memory, placedAt}
 use Rattle.layout.specs.Tidy.{Lies, Tidy}
 use Rattle.layout.proofs.Sizes.{within-tables}
-use Rattle.layout.proofs.Strings.{Listed}
+use Rattle.layout.specs.Listed.{Listed}
 use Rattle.state.specs.declared.State.{State}
 use Rattle.standing.specs.Standing.{countsOf, reached, Kept}
 use Rattle.read_field.specs.declared.Field.{Field}
@@ -39,8 +40,8 @@ use Rattle.outcome.specs.Outcome.{Declined, Gotten, Outcome}
 use Rattle.outcome.specs.Memory.{readerMemory, tablesOf, ReadReady, Longer}
 use Rattle.outcome.proofs.Outcome.{refused-outcome, gotten-outcome, declined-then, gotten-declined, declined-as, refused-declined, number-gotten, choice-declined, choice-gotten, choice-none}
 use Rattle.read_content.specs.declared.Got.{Got}
-use Rattle.read_content.specs.Content.{Read, rowsOf}
-use Rattle.read_content.specs.Parts.{judge, readAsHit, HitFit, refusedGot, PartRead, Taken, EntryTaken, HitRead}
+use Rattle.read_content.specs.Content.{Read, rowsOf, refusedGot, PartRead}
+use Rattle.read_content.specs.Parts.{judge, readAsHit, HitFit, Taken, EntryTaken, HitRead}
 use Rattle.read_content.proofs.Steps.{then-assoc, part-as, part-then, part-declined, judge-loose, admit-name, admit-gotten, strict-judge}
 
 -- A hit moves the position only.

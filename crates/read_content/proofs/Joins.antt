@@ -32,8 +32,8 @@ use Rattle.outcome.specs.Memory.{readerMemory, tablesOf, ReadReady}
 use Rattle.read_string.specs.Literal.{laidAt}
 use Rattle.read_string.specs.declared.Literal as declared
 use Rattle.read_content.specs.declared.Got.{Got}
-use Rattle.read_content.specs.Content.{UriRow, NameRow, ValueRow}
-use Rattle.read_content.specs.Parts.{readAsNew, ReadFrom, LocalFrom, ValueFrom, refusedGot, readGot, PartRead, missing, Tells, NewRead}
+use Rattle.read_content.specs.Content.{UriRow, NameRow, ValueRow, refusedGot, PartRead}
+use Rattle.read_content.specs.Parts.{readAsNew, ReadFrom, LocalFrom, ValueFrom, readGot, missing, Tells, NewRead}
 use Rattle.read_content.proofs.Steps.{no-uri, no-name}
 use Rattle.read_content.proofs.Fresh.{Fresh, recounted, new-fresh, new-declined, fresh-text, fresh-named, fresh-limit, fresh-passed}
 
@@ -320,7 +320,7 @@ module _ {s work text : List ℕ} {st : State} {at key : ℕ} (h : ValueFrom s w
       work text′ (refusedGot (read .number) st)
       × ValueRow st (refusedGot (read .number) st)
   value-declined e =
-      (new-declined (h .from) _ (value-tells (h .from .ready) n (nameAt (readerMemory work text) key)) p e, record { uris = refl; names = refl })
+      (new-declined (h .from) _ (value-tells (h .from .ready) n (nameAt (readerMemory work text) key)) p e, record { row = refl; uris = refl; names = refl })
 
 module _ {s work text : List ℕ} {st : State} {at key : ℕ} (h : ValueFrom s work text st at key) {n : ℕ} {text′ : List ℕ} {next : ℕ}
     (f : Fresh (value (nameAt (readerMemory work text) key)) n s at work text st text′ next) where
@@ -336,7 +336,7 @@ module _ {s work text : List ℕ} {st : State} {at key : ℕ} (h : ValueFrom s w
       let b : isEmpty (f .x) ≡ true = empty-is (f .x) (f .size ∙ e) in (
         fresh-passed (h .from) f (after-empty (h .from .ready .tidy) (fresh-few (h .from) f) _ b (laid-grows (h .from .ready) (f .x) (f .text-is) tableCells))
             (omega arith) (omega arith) refl (within-empty (tablesOf work text st) (f .x) (within-tables (h .from .ready .tidy .sized)) (store-few (h .from) f) _ b) (inl refl) (inl (refl, refl)),
-        record { uris = refl; names = refl },
+        record { row = refl; uris = refl; names = refl },
       )
 
   module _ (some : n ≡ 0 → ⊥) {ok : Bool} {work′ : List ℕ} (test : ok ≡ ltb (st .values) maxValues)
@@ -354,7 +354,7 @@ module _ {s work text : List ℕ} {st : State} {at key : ℕ} (h : ValueFrom s w
     unfolding nameAllowed
     value-full e c = (
       rw (full-same maxValues work valuesAt (st .values) _ test add e) (fresh-limit (h .from) f c refl (value-within ∙ e)),
-      record { uris = refl; names = refl },
+      record { row = refl; uris = refl; names = refl },
     )
 
     pub value-joins : ok ≡ true
@@ -369,5 +369,5 @@ module _ {s work text : List ℕ} {st : State} {at key : ℕ} (h : ValueFrom s w
         let lacks = none-form 1 (indexOf (allValues t) (f .x)) literal missed .0 in (
           fresh-passed (h .from) f (after-value tidy (fresh-few (h .from) f) key (h .row) (d .left) not-empty (d .grows) (d .row) lacks)
               (omega arith) (omega arith) refl (value-within ∙ e) (inr (_, d .work-is)) (inr (omega arith)),
-          record { uris = refl; names = refl },
+          record { row = refl; uris = refl; names = refl },
         )

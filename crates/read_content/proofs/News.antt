@@ -77,7 +77,7 @@ module _ {s : List ℕ} {at : ℕ} {text : List ℕ} {stored n : ℕ} {work : Li
   pub new-refused : (read .number ≡ 0 → ⊥) → NewRead s at text stored n work base count all key text′ read
   unfolding readNew
   new-refused e =
-      record { outcome = λ t q l y. refused-outcome (declined-then _ (p .outcome t l .refused (omega arith))); unchanged = p .unchanged }
+      record { outcome = λ t q l y. refused-outcome (declined-then _ (p .outcome t l .refused (omega arith))); unchanged = λ l. p .unchanged l .0 }
 
   module _ (z : read .number ≡ 0) {f : Found}
       (answer : f ≡ found (findThat (hasText text′ (part text′ (record { place = stored; size = n }))) all key (rows work base count))) where

@@ -3,7 +3,7 @@ use Prim.Native.Nat.{ℕ, zero, suc, _+_, _*_, _-_, _≤_, _<_}
 use native.Mathlib.Nat.{le-refl}
 use native.Mathlib.Numerals.{add-one}
 use native.Mathlib.Omega.{arith}
-use mathlib.Core.Path.{_≡_, refl, sym, _∙_}
+use mathlib.Core.Path.{_≡_, refl, sym, ap, _∙_}
 use mathlib.Core.Logic.{inl}
 use mathlib.Core.Bool.{Bool, true, false, not}
 use mathlib.Core.List.{List, [], _∷_, map}
@@ -26,10 +26,10 @@ use Rattle.read_field.specs.View.{fieldAt}
 use Rattle.state.specs.declared.State.{State}
 use Rattle.outcome.specs.Outcome.{Declined, Gotten}
 use Rattle.outcome.specs.Memory.{readerMemory, tablesOf, ReadReady}
-use Rattle.outcome.proofs.Outcome.{declined-number, refused-outcome, outcome-as, outcome-then, declined-then, need-true, need-declined, declined-as, return-got, refused-declined, unsigned-gotten, number-gotten, choice-declined, choice-gotten, choice-none}
+use Rattle.outcome.proofs.Outcome.{outcome-weaken, declined-number, refused-outcome, outcome-as, outcome-then, declined-then, need-true, need-declined, declined-as, return-got, refused-declined, unsigned-gotten, number-gotten, choice-declined, choice-gotten, choice-none}
 use Rattle.read_content.specs.declared.Got.{Got}
-use Rattle.read_content.specs.Content.{StringRead, UriRow, NameRow}
-use Rattle.read_content.specs.Parts.{admit, judge, readAsNew, readAsHit, refusedGot, PartRead}
+use Rattle.read_content.specs.Content.{StringRead, UriRow, NameRow, refusedGot, PartRead}
+use Rattle.read_content.specs.Parts.{admit, judge, readAsNew, readAsHit}
 
 -- ---- a test, negated
 
@@ -40,6 +40,9 @@ test-failed false e = refl
 pub test-passed : (b : Bool) → not b ≡ false → b ≡ true
 test-passed true e = refl
 test-passed false e = sym e
+
+abbrev pub rowless : Got → Got
+rowless g = record { number = g .number; row = 0; place = g .place; size = g .size; state = g .state }
 
 -- ---- one step after the other
 
@@ -62,9 +65,16 @@ module _ {base n : ℕ} {s : List ℕ} {work text : List ℕ} {st : State} where
         → PartRead (f (v .value)) base n s q work text st work′ text′ g → PartRead (p >>= f) base n s at work text st work′ text′ g
     part-then f v h = record { outcome = outcome-then f v (h .outcome); unchanged = h .unchanged; one-row = h .one-row; counted = h .counted }
 
-    part-string : {a : Alignment} {r : Role} → PartRead (readString a (tablesOf work text st) r) base n s (st .at) work text st work′ text′ g
-        → StringRead a r base n s work text st work′ text′ g
-    part-string h = record { outcome = h .outcome; unchanged = h .unchanged; one-row = h .one-row; counted = h .counted }
+    -- The row is no part of what was read.
+    pub part-rowless : {p : Parser (Placed × Tables)} {at : ℕ} → PartRead p base n s at work text st work′ text′ g
+        → PartRead p base n s at work text st work′ text′ (rowless g)
+    part-rowless h =
+        record {
+          outcome = outcome-weaken (λ _ _ v. record { place = v .place; size = v .size; text-is = v .text-is; tables = v .tables; kept = v .kept; longer = v .longer }) (h .outcome);
+          unchanged = λ l. let u = h .unchanged l in (u .0, u .1, ap rowless (u .2));
+          one-row = h .one-row;
+          counted = h .counted;
+        }
 
   -- A refusal leaves memory as it was.
   pub part-declined : {p : Parser (Placed × Tables)} {at k : ℕ} {text′ : List ℕ} → text′ ≡ text → Declined p s at k
@@ -134,8 +144,10 @@ module _ (a : Alignment) {s work text : List ℕ} {st : State} {base n : ℕ} (r
   string-declined : {k : ℕ} → Declined (readForm a (tablesOf work text st) (partitionsOf (tablesOf work text st) r)) s (st .at) k
       → StringRead a r base n s work text st work text (refusedGot k st)
   string-declined d =
-      part-string (part-declined refl (declined-as (string-form a (tablesOf work text st) r (drop (st .at) (unpack s)))
-      (declined-then (judge (tablesOf work text st) r) d)))
+      record {
+        by = part-declined refl (declined-as (string-form a (tablesOf work text st) r (drop (st .at) (unpack s)))
+            (declined-then (judge (tablesOf work text st) r) d));
+      }
 
   -- By partitions for literals.
   module _ {ess : List (List Placed)} (e : partitionsOf (tablesOf work text st) r ≡ literals ess) (h : ReadReady s work text st) {f : Field}
@@ -149,8 +161,10 @@ module _ (a : Alignment) {s work text : List ℕ} {st : State} {base n : ℕ} (r
           work text st work′ text′ g
           → StringRead a r base n s work text st work′ text′ g
       literals-then p =
-          part-string (part-as (literals-form a (tablesOf work text st) r e (drop (st .at) (unpack s)))
-          (part-then _ (unsigned-gotten s (st .at) (h .place) (sym answer ∙ z)) p))
+          record {
+            by = part-as (literals-form a (tablesOf work text st) r e (drop (st .at) (unpack s)))
+                (part-then _ (unsigned-gotten s (st .at) (h .place) (sym answer ∙ z)) p);
+          }
 
       pub literals-new : getElem? ess v ≡ none
           → PartRead (readAsNew (tablesOf work text st) r (v - length ess)) base n s q work text st work′ text′ g
@@ -205,8 +219,10 @@ module _ (a : Alignment) {s work text : List ℕ} {st : State} (h : ReadReady s 
       uri-entry o p =
           let t : Tables = tablesOf work text st in
           let bs : Bits = drop (st .at) (unpack s) in
-          part-string (part-as (string-form a t uri bs ∙ then-assoc _ _ (judge t uri) bs)
-          (part-then _ (choice-gotten a reference _ (number-gotten s (st .at) (h .place) a _ (sym wide ∙ z)) o) p))
+          record {
+            by = part-as (string-form a t uri bs ∙ then-assoc _ _ (judge t uri) bs)
+                (part-then _ (choice-gotten a reference _ (number-gotten s (st .at) (h .place) a _ (sym wide ∙ z)) o) p);
+          }
 
       pub uri-hit : {i : ℕ} {e : Placed} → v ≡ suc i → getElem? (tablesOf work text st .uris) i ≡ some e
           → PartRead (judge (tablesOf work text st) uri (hit 0 (v - 1), e)) urisAt (st .uris) s q work text st work′ text′ g

@@ -28,8 +28,8 @@ use Rattle.outcome.proofs.Outcome.{unsigned-gotten}
 use Rattle.read_string.specs.Literal.{LiteralRead}
 use Rattle.read_string.specs.declared.Literal as declared
 use Rattle.read_content.specs.declared.Got.{Got}
-use Rattle.read_content.specs.Content.{ReadyLocal, ReadyValue, StringRead, NameRow, ValueRow}
-use Rattle.read_content.specs.Parts.{readAsNew, readAsHit, ReadFrom, LocalFrom, ValueFrom, refusedGot, readGot, PartRead}
+use Rattle.read_content.specs.Content.{ReadyLocal, ReadyValue, StringRead, NameRow, ValueRow, refusedGot, PartRead}
+use Rattle.read_content.specs.Parts.{readAsNew, readAsHit, ReadFrom, LocalFrom, ValueFrom, readGot}
 use Rattle.read_content.proofs.Steps.{no-name, field-positive, literals-refused, literals-new, literals-hit}
 use Rattle.read_content.proofs.Fresh.{Fresh, recounted, stored-is, literal-fresh, literal-declined, fresh-text, fresh-named, fresh-passed}
 use Rattle.read_content.proofs.Joins.{laid-grows, fresh-few, store-few}
@@ -104,7 +104,7 @@ module _ (a : Alignment) {s work text : List ℕ} {st : State} (h : ReadReady s 
     pub value-refused : {k : ℕ} → f ≡ Refused k
         → StringRead a (value n) valuesAt (st .values) s work text st work text (refusedGot k st) × ValueRow st (refusedGot k st)
     unfolding partitionsOf
-    value-refused z = (literals-refused a (value n) refl h answer z, record { uris = refl; names = refl })
+    value-refused z = (literals-refused a (value n) refl h answer z, record { row = refl; uris = refl; names = refl })
 
     module _ {v q : ℕ} (z : f ≡ Value v q) {work′ text′ : List ℕ} {g : Got} where
       pub value-own : v ≡ 0
@@ -134,7 +134,7 @@ module _ (a : Alignment) {s work text : List ℕ} {st : State} (h : ReadReady s 
 
     pub text-refused : {k : ℕ} → f ≡ Refused k
         → StringRead a role tableCells 0 s work text st work text (refusedGot k st) × ValueRow st (refusedGot k st)
-    text-refused z = (literals-refused a role (text-partitions named _) h answer z, record { uris = refl; names = refl })
+    text-refused z = (literals-refused a role (text-partitions named _) h answer z, record { row = refl; uris = refl; names = refl })
 
     module _ {v q : ℕ} (z : f ≡ Value v q) {text′ : List ℕ} {read : declared.Literal} (p : LiteralRead s q text (st .stored) v text′ read) where
       abbrev TextRead : List ℕ → Got → Type 0
@@ -145,7 +145,7 @@ module _ (a : Alignment) {s work text : List ℕ} {st : State} (h : ReadReady s 
       text-string y = let e : v - 0 ≡ v = omega arith in literals-new a role (text-partitions named _) h answer z refl (rw e y)
 
       pub text-declined : (read .number ≡ 0 → ⊥) → TextRead text′ (refusedGot (read .number) st)
-      text-declined e = (text-string (literal-declined (number-from h answer z) role p e), record { uris = refl; names = refl })
+      text-declined e = (text-string (literal-declined (number-from h answer z) role p e), record { row = refl; uris = refl; names = refl })
 
       pub text-ends : read .number ≡ 0 → st .stored + v ≤ maxStore
       text-ends y = p .outcome (tablesOf work text st) (stored-is (number-from h answer z)) .is y .ends
@@ -162,7 +162,7 @@ module _ (a : Alignment) {s work text : List ℕ} {st : State} (h : ReadReady s 
         pub text-unnamed : {text″ : List ℕ} → allowed ≡ false → text″ ≡ take (st .stored) text′ ++ replicate (length text′ - st .stored) 0
             → TextRead text″ (refusedGot 11 st)
         text-unnamed e c =
-            (text-string (fresh-named (number-from h answer z) fresh c (allowed-is ∙ e)), record { uris = refl; names = refl })
+            (text-string (fresh-named (number-from h answer z) fresh c (allowed-is ∙ e)), record { row = refl; uris = refl; names = refl })
 
         pub text-passed : allowed ≡ true
             → TextRead text′ (readGot 0 (st .stored) v (recounted st (read .next) (st .stored + v) (st .uris) (st .names) (st .values)))
@@ -171,5 +171,5 @@ module _ (a : Alignment) {s work text : List ℕ} {st : State} (h : ReadReady s 
               (text-after named (h .tidy) (fresh-few (number-from h answer z) fresh) (laid-grows h (fresh .x) (fresh .text-is) tableCells))
               (omega arith) (omega arith) (allowed-is ∙ e)
               (text-within named (tablesOf work text st) (fresh .x) (within-tables (h .tidy .sized)) (store-few (number-from h answer z) fresh)) (inl refl) (inl (refl, refl))),
-          record { uris = refl; names = refl },
+          record { row = refl; uris = refl; names = refl },
         )

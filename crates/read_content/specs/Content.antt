@@ -4,6 +4,7 @@ use mathlib.Core.Path.{_≡_}
 use mathlib.Core.Logic.{_⊎_}
 use mathlib.Core.List.{List}
 use lib.ListN.{length}
+use Rattle.fields.specs.Parser.{Parser}
 use Rattle.fields.specs.Field.{Alignment}
 use Rattle.text.specs.Text.{Text, part}
 use Rattle.format.specs.Tables.{Placed, Tables, Role}
@@ -47,12 +48,21 @@ rowsOf st = st .uris + st .names + st .values
 abbrev pub Counted : ℕ → ℕ → List ℕ → List ℕ → Type 0
 Counted n n′ work work′ = ((n′ ≡ n) × (work′ ≡ work)) ⊎ (n′ ≡ n + 1)
 
--- The string in this role, by the definitions. A literal may add row n of the table at base; after a refusal memory is as it was.
-pub record StringRead (a : Alignment) (r : Role) (base n : ℕ) (stream work text : List ℕ) (st : State) (work′ text′ : List ℕ) (g : Got) : Type 0 where
-  pub outcome : Outcome (readString a (tablesOf work text st) r) stream (st .at) (g .number) (g .state .at) (Read work text st work′ text′ g)
-  pub unchanged : 0 < g .number → (work′ ≡ work) × (text′ ≡ text) × (g .state ≡ st)
+-- A refusal, with this number.
+abbrev pub refusedGot : ℕ → State → Got
+refusedGot number st = record { number = number; row = 0; place = 0; size = 0; state = st }
+
+-- A string from bit `at` on, by a parser of the definitions. A literal may add row n of the table at base; after a refusal memory is as it was, and the
+-- answer has the number alone.
+pub record PartRead (p : Parser (Placed × Tables)) (base n : ℕ) (stream : List ℕ) (at : ℕ) (work text : List ℕ) (st : State) (work′ text′ : List ℕ) (g : Got) : Type 0 where
+  pub outcome : Outcome p stream at (g .number) (g .state .at) (Read work text st work′ text′ g)
+  pub unchanged : 0 < g .number → (work′ ≡ work) × (text′ ≡ text) × (g ≡ refusedGot (g .number) st)
   pub one-row : OneRow base n work work′
   pub counted : Counted (rowsOf st) (rowsOf (g .state)) work work′
+
+-- A whole string in this role.
+pub record StringRead (a : Alignment) (r : Role) (base n : ℕ) (stream work text : List ℕ) (st : State) (work′ text′ : List ℕ) (g : Got) : Type 0 where
+  pub by : PartRead (readString a (tablesOf work text st) r) base n stream (st .at) work text st work′ text′ g
 
 -- The row that a URI has, and which counts may have changed.
 pub record UriRow (st : State) (work′ text′ : List ℕ) (g : Got) : Type 0 where
@@ -69,7 +79,8 @@ pub record NameRow (u : Text) (st : State) (work′ text′ : List ℕ) (g : Got
   pub uris : g .state .uris ≡ st .uris
   pub values : g .state .values ≡ st .values
 
--- A value or a text leaves URIs and names.
+-- A value or a text leaves URIs and names; its row is not told.
 pub record ValueRow (st : State) (g : Got) : Type 0 where
+  pub row : g .row ≡ 0
   pub uris : g .state .uris ≡ st .uris
   pub names : g .state .names ≡ st .names

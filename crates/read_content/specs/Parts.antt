@@ -15,17 +15,17 @@ use Rattle.format.specs.Reader.{readLiteral, readHit}
 use Rattle.rows.specs.declared.Found.{Found}
 use Rattle.rows.specs.declared.Found.the-variants.{At, Nothing}
 use Rattle.rows.specs.Rows.{Room, rowAt, rows, countOf, findThat, found, hasText}
-use Rattle.rows.proofs.Answers.{Hit}
+use Rattle.rows.specs.Hit.{Hit}
 use Rattle.layout.specs.Meaning.{placedAt}
-use Rattle.layout.proofs.Strings.{Listed}
+use Rattle.layout.specs.Listed.{Listed}
 use Rattle.state.specs.declared.State.{State}
 use Rattle.standing.specs.Standing.{reached}
 use Rattle.outcome.specs.Outcome.{Outcome}
-use Rattle.outcome.specs.Memory.{readerMemory, ReadReady, OneRow}
+use Rattle.outcome.specs.Memory.{readerMemory, ReadReady}
 use Rattle.read_string.specs.Literal.{laidAt, LiteralFit, Laid}
 use Rattle.read_string.specs.declared.Literal as declared
 use Rattle.read_content.specs.declared.Got.{Got}
-use Rattle.read_content.specs.Content.{Read, rowsOf, Counted}
+use Rattle.read_content.specs.Content.{refusedGot}
 
 -- ---- the definitions' parts
 
@@ -85,10 +85,6 @@ pub record NewFit (stream : List ℕ) (at : ℕ) (text : List ℕ) (stored : ℕ
 
 -- ---- what is left
 
--- A refusal, with this number.
-abbrev pub refusedGot : ℕ → State → Got
-refusedGot number st = record { number = number; row = 0; place = 0; size = 0; state = st }
-
 -- A string that was read.
 abbrev pub readGot : ℕ → ℕ → ℕ → State → Got
 readGot row place size state = record { number = 0; row = row; place = place; size = size; state = state }
@@ -108,13 +104,6 @@ laidState st at n =
       mode = st .mode;
       stack = st .stack;
     }
-
--- The string from bit `at` on, as `StringRead` has it for the whole string.
-pub record PartRead (p : Parser (Placed × Tables)) (base n : ℕ) (stream : List ℕ) (at : ℕ) (work text : List ℕ) (st : State) (work′ text′ : List ℕ) (g : Got) : Type 0 where
-  pub outcome : Outcome p stream at (g .number) (g .state .at) (Read work text st work′ text′ g)
-  pub unchanged : 0 < g .number → (work′ ≡ work) × (text′ ≡ text) × (g .state ≡ st)
-  pub one-row : OneRow base n work work′
-  pub counted : Counted (rowsOf st) (rowsOf (g .state)) work work′
 
 -- The i-th selected row is taken: only the position moves.
 pub record Taken (work : List ℕ) (base n : ℕ) (all : Bool) (key i : ℕ) (st : State) (g : Got) : Type 0 where

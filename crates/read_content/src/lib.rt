@@ -13,8 +13,8 @@ ghost use Rattle.layout.specs.Layout.{urisAt, namesAt, valuesAt, tableCells};
 ghost use Rattle.layout.specs.Meaning.{nameAt, uriText};
 ghost use Rattle.read_field.specs.View.{alignmentOf};
 ghost use Rattle.outcome.specs.Memory.{readerMemory, tablesOf, ReadReady};
-ghost use Rattle.read_content.specs.Content.{ReadyLocal, ReadyValue, StringRead, UriRow, NameRow, ValueRow};
-ghost use Rattle.read_content.specs.Parts.{readAsNew, readAsHit, ReadFrom, HitFit, NewFit, LocalFrom, ValueFrom, refusedGot, readGot, laidState, PartRead, EntryTaken, HitRead, NewRead};
+ghost use Rattle.read_content.specs.Content.{ReadyLocal, ReadyValue, StringRead, UriRow, NameRow, ValueRow, refusedGot, PartRead};
+ghost use Rattle.read_content.specs.Parts.{readAsNew, readAsHit, ReadFrom, HitFit, NewFit, LocalFrom, ValueFrom, readGot, laidState, EntryTaken, HitRead, NewRead};
 use read_field::Field;
 use read_string::Literal;
 use rows::Found;
@@ -35,7 +35,7 @@ const NAME: u32 = 11;
 
 const LIMIT: u32 = 12;
 
-// The number of the string's refusal or 0, its row in its table or 0, where it lies, and the state behind it.
+// The number of the string's refusal or 0, the row of a URI or a local name in its table or 0, where it lies, and the state behind it.
 pub struct Got {
     pub number: u32,
     pub row: u32,
@@ -330,13 +330,14 @@ fn read_any_value(
     ensures { λ r. ⌜ PartRead (readAsHit (alignmentOf aligned) (tablesOf (now (work .entry)) (now (text .entry)) st) (value (nameAt (readerMemory (now (work .entry)) (now (text .entry))) key)) 1 (allValues (tablesOf (now (work .entry)) (now (text .entry)) st))) valuesAt (st .values) (now (stream .entry)) at (now (work .entry)) (now (text .entry)) st (now (work .entry)) (now (text .entry)) r ⌝ }
     ensures { λ r. ⌜ ValueRow st r ⌝ }
 {
-    let hit = read_hit(aligned, stream, st, at, work, VALUES, st.values, true, 0);
+    let mut hit = read_hit(aligned, stream, st, at, work, VALUES, st.values, true, 0);
     if hit.number != 0 {
         return hit;
     }
     if rows::row_at(work, VALUES, hit.row as usize).key == key {
         return refused(LOOSE, st);
     }
+    hit.row = 0;
     hit
 }
 
@@ -387,7 +388,7 @@ pub fn read_value(
         Field::Refused(k) => refused(k as u32, st),
         Field::Value { value, next } => {
             if value == 0 {
-                return read_hit(
+                let mut hit = read_hit(
                     aligned,
                     stream,
                     st,
@@ -398,6 +399,8 @@ pub fn read_value(
                     false,
                     key,
                 );
+                hit.row = 0;
+                return hit;
             }
             if value == 1 {
                 return read_any_value(aligned, stream, st, next, key, text, work);

@@ -2,10 +2,11 @@
 use Prim.Native.Nat.{ℕ, zero, suc, _+_, _*_, _≤_, _<_}
 use native.Mathlib.Omega.{arith}
 use mathlib.Core.Path.{_≡_, refl, sym, ap, subst, _∙_}
+use mathlib.Core.Logic.{inl}
 use mathlib.Core.Bool.{true, false, not, _&&_, true≢false}
 use mathlib.Core.List.{List, _++_}
 use mathlib.Core.Option.{none, some}
-use lib.ListN.{length, take, drop}
+use lib.ListN.{length, getD, take, drop}
 use lib.Dec.{eqb, leb, ltb}
 use borrow.Author.Tests.{eqb-true, ne-eqb, leb-true, ltb-true, ltb-false}
 use Rattle.fields.specs.Refusal.{numberOf, loose, limit}
@@ -13,7 +14,7 @@ use Rattle.fields.proofs.Tests.{split, is-T}
 use Rattle.text.specs.Text.{Text}
 use Rattle.format.specs.Event.{Event, kindOf}
 use Rattle.format.specs.Settings.{Settings}
-use Rattle.format.specs.Sizes.{maxEvents, cellsPerEvent, eventCells}
+use Rattle.format.specs.Sizes.{maxEvents, maxUris, maxNames, maxValues, cellsPerEvent, eventCells}
 use Rattle.format.specs.Grammar.{Production, kindNumber, firstFit, codeOf}
 use Rattle.format.specs.Context.{levelsIn, items, afterItems, after, afterCode, next}
 use Rattle.format.specs.Lists.{withinGrammars}
@@ -22,20 +23,22 @@ use Rattle.format.proofs.Codes.{fits-kind}
 use Rattle.event.specs.Cells.{meaning, cellsOf}
 use Rattle.rows.specs.declared.Found.the-variants.{At}
 use Rattle.rows.specs.Rows.{rows}
-use Rattle.layout.specs.Layout.{tableCells, grammarsAt}
-use Rattle.layout.specs.Meaning.{kindAt, contextIn}
 use Rattle.productions.specs.Locate.{hasKey}
+use Rattle.layout.specs.Layout.{grammarsAt, tableCells}
+use Rattle.layout.specs.Meaning.{kindAt, contextIn}
+use Rattle.layout.proofs.Sizes.{urisAt-is, namesAt-is, valuesAt-is, tableCells-is}
 use Rattle.productions.specs.Numbered.{Numbered}
+use Rattle.state.specs.declared.Stack.{Stack}
 use Rattle.state.specs.declared.State.{State}
 use Rattle.standing.specs.Standing.{countsOf, contextOf, reached, Standing}
 use Rattle.standing.proofs.Laws.{reached-standing, reached-context}
 use Rattle.standing.proofs.Kept.{kept-standing, kept-context}
 use Rattle.event_code.specs.Parts.{teachesIn}
 use Rattle.learning.specs.declared.Grown.{Grown}
-use Rattle.learning.specs.Learning.{grown, withGrowth, GrowFits, Teaching}
+use Rattle.learning.specs.Learning.{grown, withGrowth}
 use Rattle.learning.specs.Growth.{grownContext, Grows, Growth}
 use Rattle.learning.proofs.Growth.{grow-means, grow-asks}
-use Rattle.fitting.specs.Fitting.{Sought, NewestFits, newerOf, locatedHere, newestOf, learnedHere}
+use Rattle.fitting.specs.Fitting.{Sought, newerOf, locatedHere, newestOf, learnedHere}
 use Rattle.fitting.proofs.Sought.{apart, sought-none}
 use Rattle.fitting.proofs.Fitting.{newest-asks, newest-means}
 use Rattle.outcome.specs.Outcome.{Declined, Outcome}
@@ -43,11 +46,11 @@ use Rattle.outcome.specs.Memory.{readerMemory, tablesOf, Clear}
 use Rattle.outcome.proofs.Outcome.{refused-outcome, outcome-as, declined-as, declined-then, gotten-declined, outcome-then, need-true, need-passed, need-declined, return-outcome}
 use Rattle.read_code.specs.declared.Decoded.{Decoded}
 use Rattle.read_code.specs.Decoding.{CodeReady, productionIn, Strict, CodeRead}
-use Rattle.read_event.specs.Content.{ContentFits, Held, ContentRead}
-use Rattle.read_event.specs.Step.{undoneWork, undoneText, looseIn, StepReady, withEvent, Done, Step}
-use Rattle.read_event.specs.declared.Content.{Content}
-use Rattle.read_event.proofs.Memory.{text-back, work-back}
-use Rattle.read_event.proofs.Growth.{growth-cells}
+use Rattle.read_items.specs.declared.Content.{Content}
+use Rattle.read_items.specs.Content.{Off, undoneWork, undoneText, ContentFits, Held, ItemsRead}
+use Rattle.read_items.proofs.Memory.{text-back, work-back}
+use Rattle.read_event.specs.Step.{looseIn, teachesHere, grownBy, settled, withSettled, SettleFits, StepReady, withEvent, Done, Step}
+use Rattle.read_event.proofs.Growth.{Cells, growth-cells}
 
 -- ---- kinds by their numbers
 
@@ -131,7 +134,35 @@ module _ {work text : List ℕ} {st : State} (code : Decoded) {row : ℕ} {e : E
       let u = ltb-false 5 (code .kind) b in
       (f, _, newest-means stand refl .fitting e (row-sought stand e is (named (omega arith) (omega arith))) .hit (rw (f, a, b) at hit)))))
 
+-- ---- behind the strings
+
+module _ (work : List ℕ) (st : State) (code : Decoded) (row : ℕ) where
+  pub settled-loose : looseIn work st code row ≡ true → (record { number = 10; state = st } ≡ settled work st code row) × (work ≡ withSettled work st code row)
+  unfolding settled withSettled
+  settled-loose e = (rw e, rw e)
+
+  module _ (strict : looseIn work st code row ≡ false) {g : Grown}
+      (is : g ≡ grown st (code .kind) (teachesHere st code) row (hasKey row (rows work grammarsAt (st .grammars)))) {work′ : List ℕ}
+      (w : work′ ≡ withGrowth work st (code .kind) (teachesHere st code) row) where
+    pub settled-full : g .ok ≡ false → (record { number = 12; state = st } ≡ settled work st code row) × (work′ ≡ withSettled work st code row)
+    unfolding settled withSettled grownBy
+    settled-full f = (rw (strict, ← is, f), rw strict w)
+
+    pub settled-grown : g .ok ≡ true → (record { number = 0; state = g .state } ≡ settled work st code row) × (work′ ≡ withSettled work st code row)
+    unfolding settled withSettled grownBy
+    settled-grown f = (rw (strict, ← is, f), rw strict w)
+
 -- ---- the code
+
+-- No row that strings may add lies behind the tables.
+off-behind : (st : State) (k : ℕ) → tableCells ≤ k → Off st k
+unfolding maxUris maxNames maxValues
+off-behind st k h =
+    record {
+      uris = λ l. inl (omega (arith, urisAt-is, tableCells-is));
+      names = λ l. inl (omega (arith, namesAt-is, tableCells-is));
+      values = λ l. inl (omega (arith, valuesAt-is, tableCells-is));
+    }
 
 -- A refused step leaves everything as it was.
 refused-step : {s : Settings} {stream events text work text′ work′ : List ℕ} {st : State} {number : ℕ}
@@ -187,59 +218,37 @@ module _ {s : Settings} {stream events text work : List ℕ} {st : State} {r : D
     -- ---- the strings
 
     module _ {work₁ text₁ : List ℕ} {g : Content}
-        (strings : ContentRead (s .alignment) (productionIn (readerMemory work text) r) stream work text (reached st (r .at) (st .events)) work₁ text₁ g) where
+        (strings : ItemsRead (s .alignment) (productionIn (readerMemory work text) r) stream work text (reached st (r .at) (st .events)) work₁ text₁ g) where
       content-outcome : Outcome (readContent (s .alignment) (contextOf (readerMemory work text) st .tables) (contextOf (readerMemory work text) st .state)
           (code .outcome .read z .value .production .kind) (code .outcome .read z .value .production .qname)) stream (r .at) (g .number) (g .state .at)
           (Held (productionIn (readerMemory work text) r) work text (reached st (r .at) (st .events)) work₁ text₁ g)
       unfolding contextOf contextIn
       content-outcome = outcome-as (rw (code .outcome .is z .production)) (strings .outcome)
 
-      pub undo-asks : tableCells ≤ length work₁
-      undo-asks = omega (arith, ready .standing .tidy .sized .tables, strings .left .size)
-
-      module _ {work₂ text₂ : List ℕ} (w : work₂ ≡ undoneWork work₁ (reached st (r .at) (st .events))) (t : text₂ ≡ undoneText text₁ (reached st (r .at) (st .events))) where
-        taken-back : {number : ℕ} → Declined (step s (contextOf (readerMemory work text) st)) stream (st .at) number
-            → Step s stream events text work st events text₂ work₂ (record { number = number; state = st })
-        taken-back d =
-            let c = reached-clear (r .at) (st .events) (ready .clear) in
-            refused-step d (t ∙ text-back c (strings .left)) (w ∙ work-back c (strings .left) (ready .standing .tidy .sized .tables))
-
-        pub content-refused : 0 < g .number → Step s stream events text work st events text₂ work₂ (record { number = g .number; state = st })
-        unfolding step
-        content-refused h = taken-back (gotten-declined _ (code .outcome .read z) (declined-then _ (content-outcome .refused h)))
-
-        -- LOOSE and LIMIT, behind the strings.
-        module _ (y : g .number ≡ 0) where
-          loose-refused : sameCode (code .outcome .read z .value .parts)
-              (codeOf (levelsIn s (contextOf (readerMemory work text) st)) (eventText (content-outcome .read y .value))) ≡ false
-              → Step s stream events text work st events text₂ work₂ (record { number = 10; state = st })
-          unfolding step numberOf
-          loose-refused other =
-              taken-back (gotten-declined _ (code .outcome .read z) (gotten-declined _ (content-outcome .read y) (need-declined _ loose _ other)))
-
-          limit-refused : sameCode (code .outcome .read z .value .parts)
-              (codeOf (levelsIn s (contextOf (readerMemory work text) st)) (eventText (content-outcome .read y .value))) ≡ true
-              → withinGrammars (next s (contextOf (readerMemory work text) st) (eventText (content-outcome .read y .value))) ≡ false
-              → Step s stream events text work st events text₂ work₂ (record { number = 12; state = st })
-          unfolding step numberOf
-          limit-refused same full =
-              taken-back (gotten-declined _ (code .outcome .read z) (gotten-declined _ (content-outcome .read y)
-              (declined-as (need-true _ loose _ _ same) (need-declined _ limit _ full))))
-
-      -- ---- the event
+      pub content-refused : 0 < g .number → Step s stream events text work st events text₁ work₁ (record { number = g .number; state = st })
+      unfolding step
+      content-refused h =
+          let u = strings .unchanged h in
+          refused-step (gotten-declined _ (code .outcome .read z) (declined-then _ (content-outcome .refused h))) (u .1) (u .0)
 
       module _ (y : g .number ≡ 0) where
+        -- ---- what is known of the event
+
         kind-is : r .kind ≡ kindNumber (kindOf (eventText (content-outcome .read y .value)))
         unfolding productionIn
         kind-is =
             sym (kind-number (r .kind) (code .outcome .is z .kind))
             ∙ ap kindNumber (fits-kind (productionIn (readerMemory work text) r) (eventText (content-outcome .read y .value)) (is-T _ (content-outcome .is y .fit)))
 
+        same-mode : g .state .mode ≡ st .mode
+        same-mode = content-outcome .is y .kept .sameMode
+
+        teaches-same : teachesHere (g .state) r ≡ not (r .learned) && teachesIn (st .mode) (r .kind)
+        unfolding teachesHere
+        teaches-same = ap (λ m. not (r .learned) && teachesIn m (r .kind)) same-mode
+
         strings-standing : Standing (readerMemory work₁ text₁) (g .state)
         strings-standing = kept-standing behind-standing (content-outcome .is y .kept)
-
-        pub loose-asks : NewestFits work₁ (g .state)
-        loose-asks = newest-asks strings-standing
 
         strings-context : contextOf (readerMemory work₁ text₁) (g .state)
             ≡ record {
@@ -259,11 +268,14 @@ module _ {s : Settings} {stream events text work : List ℕ} {st : State} {r : D
         same-learned : learnedHere (readerMemory work₁ text₁) (g .state) ≡ learnedHere (readerMemory work text) st
         same-learned = rw strings-context
 
-        pub loose-step : looseIn work₁ (g .state) r (g .row) ≡ true → {work₂ text₂ : List ℕ} → work₂ ≡ undoneWork work₁ (reached st (r .at) (st .events))
-            → text₂ ≡ undoneText text₁ (reached st (r .at) (st .events)) → Step s stream events text work st events text₂ work₂ (record { number = 10; state = st })
-        loose-step hit w t =
+        -- Where the code is not the strict one.
+        other-code : looseIn work₁ (g .state) r (g .row) ≡ true
+            → sameCode (code .outcome .read z .value .parts) (codeOf (levelsIn s (contextOf (readerMemory work text) st)) (eventText (content-outcome .read y .value))) ≡ false
+        other-code hit =
             let (plain, p, e) = loose-some r strings-standing kind-is (content-outcome .is y .row) hit in
-            loose-refused w t y (code .outcome .is z .fixed plain _ (sym kind-is) .loose p (rw (← same-learned) e))
+            code .outcome .is z .fixed plain _ (sym kind-is) .loose p (rw (← same-learned) e)
+
+        -- ---- where it is
 
         module _ (strict : looseIn work₁ (g .state) r (g .row) ≡ false) where
           none-fits : r .learned ≡ false → firstFit (learnedHere (readerMemory work₁ text₁) (g .state)) (eventText (content-outcome .read y .value)) ≡ none
@@ -276,14 +288,12 @@ module _ {s : Settings} {stream events text work : List ℕ} {st : State} {r : D
               (λ t. x .strict t _ (rw (x .production) (content-outcome .is y .fit)))
               (λ f. x .fixed f _ (sym kind-is) .strict (rw (← same-learned) (none-fits f)))
 
-          -- ---- the grammars
-
           -- What is taught is not learned, in an element, and SE, AT, EE or CH.
-          teaches : not (r .learned) && teachesIn (st .mode) (r .kind) ≡ true → (r .learned ≡ false) × (teachesIn (st .mode) (r .kind) ≡ true)
+          teaches : teachesHere (g .state) r ≡ true → (r .learned ≡ false) × (teachesIn (g .state .mode) (r .kind) ≡ true)
+          unfolding teachesHere
           teaches e = split (r .learned) (λ t. absurd (true≢false (sym (rw t at e)))) (λ f. (f, rw f at e))
 
-          strings-grow : Grows (readerMemory work₁ text₁) (g .state) (eventText (content-outcome .read y .value)) (r .kind)
-              (not (r .learned) && teachesIn (st .mode) (r .kind)) (g .row)
+          strings-grow : Grows (readerMemory work₁ text₁) (g .state) (eventText (content-outcome .read y .value)) (r .kind) (teachesHere (g .state) r) (g .row)
           strings-grow =
               let h = content-outcome .is y in
               let x = code .outcome .is z in
@@ -293,70 +303,117 @@ module _ {s : Settings} {stream events text work : List ℕ} {st : State} {r : D
                 kind-is = i;
                 small = h .small;
                 row = h .row;
-                inside = λ l u. rw (h .kept .sameMode) (x .inside (omega arith) (omega arith));
-                outside = λ u. rw (h .kept .sameMode) (x .outside (omega arith));
+                inside = λ l u. rw same-mode (x .inside (omega arith) (omega arith));
+                outside = λ u. rw same-mode (x .outside (omega arith));
                 new = λ t. none-fits (teaches t .0);
-                inner = λ t. rw (h .kept .sameMode) (teaches-in (st .mode) (r .kind) (teaches t .1) .0);
-                kinds = λ t. omega (arith, teaches-in (st .mode) (r .kind) (teaches t .1));
+                inner = λ t. teaches-in (g .state .mode) (r .kind) (teaches t .1) .0;
+                kinds = λ t. omega (arith, teaches-in (g .state .mode) (r .kind) (teaches t .1));
               }
 
-          pub grow-asked : GrowFits work₁ (g .state) (r .kind) (g .row) × Teaching (g .state) (not (r .learned) && teachesIn (st .mode) (r .kind))
-          grow-asked = grow-asks strings-grow
-
           -- What the grammars then leave is what the event leaves.
-          next-grown : grownContext (contextOf (readerMemory work₁ text₁) (g .state)) (eventText (content-outcome .read y .value))
-              (not (r .learned) && teachesIn (st .mode) (r .kind))
+          next-grown : grownContext (contextOf (readerMemory work₁ text₁) (g .state)) (eventText (content-outcome .read y .value)) (teachesHere (g .state) r)
               ≡ next s (contextOf (readerMemory work text) st) (eventText (content-outcome .read y .value))
           unfolding grownContext next afterCode after
           next-grown =
-              rw (strings-context, event-code .code, strings-tables, event-code .taught-is)
+              rw (teaches-same, strings-context, event-code .code, strings-tables, event-code .taught-is)
 
-          module _ {work₂ : List ℕ} {n : Grown}
-              (is : n ≡ grown (g .state) (r .kind) (not (r .learned) && teachesIn (st .mode) (r .kind)) (g .row) (hasKey (g .row) (rows work₁ grammarsAt (g .state .grammars))))
-              (w : work₂ ≡ withGrowth work₁ (g .state) (r .kind) (not (r .learned) && teachesIn (st .mode) (r .kind)) (g .row)) where
-            growth : Growth (readerMemory work₁ text₁) (readerMemory work₂ text₁) (g .state) (eventText (content-outcome .read y .value))
-                (not (r .learned) && teachesIn (st .mode) (r .kind)) n
-            growth = grow-means strings-grow is w (record { origin = refl; size = refl; store = refl })
+          growth : Growth (readerMemory work₁ text₁) (readerMemory (withGrowth work₁ (g .state) (r .kind) (teachesHere (g .state) r) (g .row)) text₁) (g .state)
+              (eventText (content-outcome .read y .value)) (teachesHere (g .state) r) (grownBy work₁ (g .state) r (g .row))
+          unfolding grownBy
+          growth = grow-means strings-grow refl refl (record { origin = refl; size = refl; store = refl })
 
-            grammars-within : withinGrammars (next s (contextOf (readerMemory work text) st) (eventText (content-outcome .read y .value))) ≡ n .ok
-            grammars-within = sym (growth .within ∙ ap withinGrammars next-grown)
+          cells : Cells work₁ (withGrowth work₁ (g .state) (r .kind) (teachesHere (g .state) r) (g .row)) (g .state) (grownBy work₁ (g .state) r (g .row))
+          unfolding grownBy
+          cells = growth-cells work₁ (g .state) (r .kind) (teachesHere (g .state) r) (g .row)
 
-            pub limit-asks : tableCells ≤ length work₂
-            limit-asks = omega (arith, undo-asks, growth .work)
+          grammars-within : withinGrammars (next s (contextOf (readerMemory work text) st) (eventText (content-outcome .read y .value)))
+              ≡ grownBy work₁ (g .state) r (g .row) .ok
+          grammars-within = sym (growth .within ∙ ap withinGrammars next-grown)
 
-            pub limit-step : n .ok ≡ false → {work₃ text₂ : List ℕ} → work₃ ≡ undoneWork work₂ (reached st (r .at) (st .events))
-                → text₂ ≡ undoneText text₁ (reached st (r .at) (st .events)) → Step s stream events text work st events text₂ work₃ (record { number = 12; state = st })
-            limit-step full u t =
-                let same : work₂ ≡ work₁ = w ∙ growth-cells work₁ (g .state) (r .kind) _ (g .row) .refused (sym (ap (λ (k : Grown). k .ok) is) ∙ full) in
-                limit-refused (u ∙ ap (λ v. undoneWork v (reached st (r .at) (st .events))) same) t y (event-code .same) (grammars-within ∙ full)
+        pub settle-asks : SettleFits work₁ (g .state) r (g .row)
+        settle-asks = record { newest = newest-asks strings-standing; grows = λ strict. grow-asks (strings-grow strict) }
 
-            module _ (ok : n .ok ≡ true) {events′ : List ℕ}
-                (stored : events′ ≡ take (7 * st .events) events ++ cellsOf (meaning (g .event)) ++ drop (7 * st .events + 7) events) where
-              event-done : Done s events text work st events′ text₁ work₂ (record { number = 0; state = reached (n .state) (n .state .at) (st .events + 1) })
-                  (content-outcome .read y .value)
-              unfolding withEvent
-              event-done =
-                  record {
-                    cells = stored ∙ rw (content-outcome .is y .places);
-                    context = reached-context (readerMemory work₂ text₁) (n .state) (n .state .at) (st .events + 1) ∙ growth .context ok ∙ next-grown;
-                    standing = reached-standing (n .state .at) (st .events + 1) (growth .standing ok);
-                    clear = reached-clear {st = n .state} (n .state .at) (st .events + 1)
-                        (rw (w, is) (growth-cells work₁ (g .state) (r .kind) _ (g .row) .clear (sym (ap (λ (k : Grown). k .ok) is) ∙ ok) (strings .left .clear)));
-                    count = refl;
-                    sameText = strings .left .longer .size;
-                    sameWork = growth .work ∙ strings .left .size;
-                  }
+        pub undo-asks : {work₂ : List ℕ} → work₂ ≡ withSettled work₁ (g .state) r (g .row) → tableCells ≤ length work₂
+        unfolding withSettled
+        undo-asks w =
+            let room : tableCells ≤ length work₁ = omega (arith, ready .standing .tidy .sized .tables, strings .left y .size) in
+            split (looseIn work₁ (g .state) r (g .row))
+            (λ e. rw (w, e) room)
+            (λ e. rw (w, e) (omega (arith, growth e .work)))
 
-              pub done-step : Step s stream events text work st events′ text₁ work₂ (record { number = 0; state = reached (n .state) (n .state .at) (st .events + 1) })
-              unfolding step
-              done-step =
-                  record {
-                    outcome = subst
-                        (λ q. Outcome (step s (contextOf (readerMemory work text) st)) stream (st .at) 0 q
-                        (Done s events text work st events′ text₁ work₂ (record { number = 0; state = reached (n .state) (n .state .at) (st .events + 1) })))
-                        (sym (growth .at))
-                        (outcome-then _ (code .outcome .read z) (outcome-then _ (content-outcome .read y)
-                        (need-passed _ loose (event-code .same) (need-passed _ limit (grammars-within ∙ ok)
-                        (return-outcome (content-outcome .read y .value) event-done (content-outcome .read y .inside))))));
-                    unchanged = λ l. absurd (omega arith);
-                  }
+        -- ---- LOOSE or LIMIT: everything is taken back
+
+        module _ {work₂ text₂ : List ℕ} (w : work₂ ≡ undoneWork (withSettled work₁ (g .state) r (g .row)) (reached st (r .at) (st .events)))
+            (t : text₂ ≡ undoneText text₁ (reached st (r .at) (st .events))) where
+          taken-back : withSettled work₁ (g .state) r (g .row) ≡ work₁ → {number : ℕ} → Declined (step s (contextOf (readerMemory work text) st)) stream (st .at) number
+              → Step s stream events text work st events text₂ work₂ (record { number = number; state = st })
+          taken-back same d =
+              let c = reached-clear (r .at) (st .events) (ready .clear) in
+              refused-step d (t ∙ text-back c (strings .left y))
+              (w ∙ ap (λ v. undoneWork v (reached st (r .at) (st .events))) same ∙ work-back c (strings .left y) (ready .standing .tidy .sized .tables))
+
+          pub settled-refused : (settled work₁ (g .state) r (g .row) .number ≡ 0 → ⊥)
+              → Step s stream events text work st events text₂ work₂ (record { number = settled work₁ (g .state) r (g .row) .number; state = st })
+          unfolding settled withSettled step numberOf
+          settled-refused fails =
+              split (looseIn work₁ (g .state) r (g .row))
+              (λ e. rw e (taken-back (rw e)
+              (gotten-declined _ (code .outcome .read z) (gotten-declined _ (content-outcome .read y) (need-declined _ loose _ (other-code e))))))
+              (λ e. split (grownBy work₁ (g .state) r (g .row) .ok)
+              (λ f. absurd (fails (rw (e, f))))
+              (λ f. rw (e, f) (taken-back (rw e (cells e .refused f))
+              (gotten-declined _ (code .outcome .read z) (gotten-declined _ (content-outcome .read y)
+              (declined-as (need-true _ loose _ _ (event-code e .same)) (need-declined _ limit _ (grammars-within e ∙ f))))))))
+
+        -- ---- the event
+
+        module _ (strict : looseIn work₁ (g .state) r (g .row) ≡ false) (ok : grownBy work₁ (g .state) r (g .row) .ok ≡ true) where
+          abbrev grownState : State
+          grownState = grownBy work₁ (g .state) r (g .row) .state
+
+          abbrev grownWork : List ℕ
+          grownWork = withGrowth work₁ (g .state) (r .kind) (teachesHere (g .state) r) (g .row)
+
+          module _ {events′ : List ℕ} (stored : events′ ≡ take (7 * st .events) events ++ cellsOf (meaning (g .event)) ++ drop (7 * st .events + 7) events) where
+            event-done : Done s events text work st events′ text₁ grownWork (record { number = 0; state = reached grownState (grownState .at) (st .events + 1) })
+                (content-outcome .read y .value)
+            unfolding withEvent
+            event-done =
+                record {
+                  cells = stored ∙ rw (content-outcome .is y .places);
+                  context = reached-context (readerMemory grownWork text₁) grownState (grownState .at) (st .events + 1) ∙ growth strict .context ok ∙ next-grown strict;
+                  standing = reached-standing (grownState .at) (st .events + 1) (growth strict .standing ok);
+                  clear = reached-clear {st = grownState} (grownState .at) (st .events + 1) (cells strict .clear ok (strings .left y .clear));
+                  count = refl;
+                  sameText = strings .left y .longer .size;
+                  sameWork = growth strict .work ∙ strings .left y .size;
+                  behind = λ k h. cells strict .behind k h ∙ strings .left y .cells k (off-behind (reached st (r .at) (st .events)) k h);
+                  above = λ i h. cells strict .above i h ∙ ap (λ (x : Stack). getD (x .names) i 0) (content-outcome .is y .kept .sameStack);
+                }
+
+            event-step : Step s stream events text work st events′ text₁ grownWork (record { number = 0; state = reached grownState (grownState .at) (st .events + 1) })
+            unfolding step
+            event-step =
+                record {
+                  outcome = subst
+                      (λ q. Outcome (step s (contextOf (readerMemory work text) st)) stream (st .at) 0 q
+                      (Done s events text work st events′ text₁ grownWork (record { number = 0; state = reached grownState (grownState .at) (st .events + 1) })))
+                      (sym (growth strict .at))
+                      (outcome-then _ (code .outcome .read z) (outcome-then _ (content-outcome .read y)
+                      (need-passed _ loose (event-code strict .same) (need-passed _ limit (grammars-within strict ∙ ok)
+                      (return-outcome (content-outcome .read y .value) event-done (content-outcome .read y .inside))))));
+                  unchanged = λ l. absurd (omega arith);
+                }
+
+        pub done-step : settled work₁ (g .state) r (g .row) .number ≡ 0 → {events′ work₂ : List ℕ}
+            → events′ ≡ take (7 * st .events) events ++ cellsOf (meaning (g .event)) ++ drop (7 * st .events + 7) events
+            → work₂ ≡ withSettled work₁ (g .state) r (g .row)
+            → Step s stream events text work st events′ text₁ work₂
+            (record { number = 0; state = reached (settled work₁ (g .state) r (g .row) .state) (settled work₁ (g .state) r (g .row) .state .at) (st .events + 1) })
+        unfolding settled withSettled
+        done-step passes stored w =
+            split (looseIn work₁ (g .state) r (g .row))
+            (λ e. absurd (let n : 10 ≡ 0 = rw e at passes in omega arith))
+            (λ e. split (grownBy work₁ (g .state) r (g .row) .ok)
+            (λ f. rw (w, e, f) (event-step e f stored))
+            (λ f. absurd (let n : 12 ≡ 0 = rw (e, f) at passes in omega arith)))

@@ -1,29 +1,47 @@
--- What an event leaves in learned rows and element grammars, as cells: nothing where it is refused, else zeros behind the counts.
-use Prim.Native.Nat.{ℕ, _+_, _<_}
+-- What an event leaves in learned rows and element grammars, as cells: nothing where it is refused, else zeros behind the counts. Behind the tables, and in
+-- the open elements' array from the depth on, nothing changes.
+use Prim.Native.Nat.{ℕ, _+_, _≤_, _<_}
 use native.Mathlib.Omega.{arith}
-use mathlib.Core.Path.{_≡_, refl, sym}
-use mathlib.Core.Logic.{inr}
+use mathlib.Core.Path.{_≡_, refl, sym, ap, _∙_}
+use mathlib.Core.Logic.{inl, inr}
 use mathlib.Core.Bool.{Bool, true, false, cond, true≢false}
 use mathlib.Core.List.{List}
+use lib.ListN.{getD}
+use lib.Seq.{getD-set-other}
 use lib.Dec.{eqb, ltb}
 use borrow.Author.Tests.{eqb-true, ltb-true}
 use Rattle.fields.proofs.Tests.{split}
 use Rattle.format.specs.Sizes.{maxOpen, maxLearned, maxGrammars}
-use Rattle.rows.specs.Rows.{rows, withRowBelow}
+use Rattle.rows.specs.Rows.{rows, withRow, withRowBelow}
+use Rattle.rows.proofs.Laws.{withRow-other}
 use Rattle.productions.specs.Locate.{hasKey}
-use Rattle.layout.specs.Layout.{grammarsAt}
+use Rattle.layout.specs.Layout.{learnedAt, grammarsAt, tableCells}
+use Rattle.layout.proofs.Sizes.{learnedAt-is, grammarsAt-is, tableCells-is}
 use Rattle.state.specs.declared.Stack.{Stack}
 use Rattle.state.specs.declared.State.{State}
 use Rattle.state.specs.Stack.{pushed, popped}
+use Rattle.state.proofs.Laws.{push-stack}
 use Rattle.outcome.specs.Memory.{Clear}
 use Rattle.outcome.proofs.Memory.{Grown, clear-learned, clear-grammar, clear-same}
 use Rattle.learning.specs.declared.Grown as learning
 use Rattle.learning.specs.Learning.{regrown, grammarRowOf, entered, withGrammarRow, left, contentBegun, turned, withTurn, learnedRowOf, alsoLearnt, grown, withLearnt, withGrowth}
 
+-- From the depth on the array is as it was.
+abbrev pub Above : Stack → Stack → Type 0
+Above s t = (i : ℕ) → t .depth ≤ i → getD (t .names) i 0 ≡ getD (s .names) i 0
+
+pushed-above : (s : Stack) (name : ℕ) → s .depth < maxOpen → Above s (pushed s name .stack)
+pushed-above s name room i h =
+    let e = push-stack s name room in
+    let d : s .depth + 1 ≤ i = rw (← ap (λ (t : Stack). t .depth) e) h in
+    ap (λ (t : Stack). getD (t .names) i 0) e ∙ getD-set-other (s .names) (s .depth) i name 0 (λ z. omega arith)
+
 -- Work memory v behind an event that leaves r.
 pub record Cells (w v : List ℕ) (st : State) (r : learning.Grown) : Type 0 where
   pub refused : r .ok ≡ false → v ≡ w
   pub clear : r .ok ≡ true → {text : List ℕ} → Clear w text st → Clear v text (r .state)
+  pub behind : (k : ℕ) → tableCells ≤ k → getD v k 0 ≡ getD w k 0
+  pub above : Above (st .stack) (r .state .stack)
 
 record Turns (w v : List ℕ) (st : State) (r : learning.Grown) : Type 0 where
   cells : Cells w v st r
@@ -38,19 +56,33 @@ restacked-clear mode stack c =
     refl
 
 module _ (w : List ℕ) (st : State) where
-  stays-cells : (mode : ℕ) (stack : Stack) → Turns w w st (record { ok = true; state = regrown st (st .learned) (st .grammars) mode stack })
-  stays-cells mode stack = record { cells = record { refused = λ e. refl; clear = λ _ c. restacked-clear mode stack c }; learned = refl }
+  stays-cells : (mode : ℕ) (stack : Stack) → Above (st .stack) stack
+      → Turns w w st (record { ok = true; state = regrown st (st .learned) (st .grammars) mode stack })
+  stays-cells mode stack a =
+      record {
+        cells = record { refused = λ e. refl; clear = λ _ c. restacked-clear mode stack c; behind = λ k h. refl; above = a };
+        learned = refl;
+      }
 
   no-cells : {v : List ℕ} → v ≡ w → Turns w v st (record { ok = false; state = st })
-  no-cells e = record { cells = record { refused = λ _. e; clear = λ t. absurd (true≢false (sym t)) }; learned = refl }
+  no-cells e =
+      record {
+        cells = record { refused = λ _. e; clear = λ t. absurd (true≢false (sym t)); behind = λ k h. rw e; above = λ i h. refl };
+        learned = refl;
+      }
 
   module _ (name : ℕ) where
+    grammar-behind : st .grammars < maxGrammars → (k : ℕ) → tableCells ≤ k
+        → getD (withRow w grammarsAt (st .grammars) (grammarRowOf name)) k 0 ≡ getD w k 0
+    unfolding maxGrammars
+    grammar-behind few k h = withRow-other w grammarsAt (st .grammars) (grammarRowOf name) k (inl (omega (arith, grammarsAt-is, tableCells-is)))
+
     enter-cells : Turns w (withGrammarRow w st name) st (entered st name (hasKey name (rows w grammarsAt (st .grammars))))
     unfolding entered withGrammarRow withRowBelow
     enter-cells =
         split (ltb (st .stack .depth) maxOpen)
         (λ d. split (hasKey name (rows w grammarsAt (st .grammars)))
-        (λ k. let z : st .grammars + 0 ≡ st .grammars = omega arith in rw (d, k, z) (stays-cells 4 (pushed (st .stack) name .stack)))
+        (λ k. let z : st .grammars + 0 ≡ st .grammars = omega arith in rw (d, k, z) (stays-cells 4 (pushed (st .stack) name .stack) (pushed-above (st .stack) name (ltb-true (st .stack .depth) maxOpen d))))
         (λ k. split (ltb (st .grammars) maxGrammars)
         (λ f. rw (d, k, f) (record {
           cells = record {
@@ -59,6 +91,8 @@ module _ (w : List ℕ) (st : State) where
                 clear-grammar c (c .store)
                 (record { uris = omega arith; names = omega arith; values = omega arith; learned = omega arith; grammars = omega arith })
                 (inr (grammarRowOf name, refl)) (omega arith) (ltb-true (st .grammars) maxGrammars f);
+            behind = grammar-behind (ltb-true (st .grammars) maxGrammars f);
+            above = pushed-above (st .stack) name (ltb-true (st .stack .depth) maxOpen d);
           };
           learned = refl;
         }))
@@ -66,25 +100,25 @@ module _ (w : List ℕ) (st : State) where
         (λ d. rw d (no-cells refl))
 
     turn-cells : (kind : ℕ) → Turns w (withTurn w st kind name) st (turned st kind name (hasKey name (rows w grammarsAt (st .grammars))))
-    unfolding turned withTurn left contentBegun
+    unfolding turned withTurn left contentBegun popped
     turn-cells kind =
         split (eqb kind 0)
-        (λ e. let z : kind ≡ 0 = eqb-true kind 0 e in rw z (stays-cells 1 (st .stack)))
+        (λ e. let z : kind ≡ 0 = eqb-true kind 0 e in rw z (stays-cells 1 (st .stack) (λ i h. refl)))
         (λ a. split (eqb kind 1)
-        (λ e. let z : kind ≡ 1 = eqb-true kind 1 e in rw z (stays-cells 3 (st .stack)))
+        (λ e. let z : kind ≡ 1 = eqb-true kind 1 e in rw z (stays-cells 3 (st .stack) (λ i h. refl)))
         (λ b. split (eqb kind 2)
         (λ e. rw (a, b, e) enter-cells)
         (λ c. split (eqb kind 3)
-        (λ e. rw (a, b, c, e) (stays-cells (st .mode) (st .stack)))
+        (λ e. rw (a, b, c, e) (stays-cells (st .mode) (st .stack) (λ i h. refl)))
         (λ d. split (eqb kind 4)
-        (λ e. rw (a, b, c, d, e) (stays-cells (cond (eqb (st .stack .depth) 1) 2 5) (popped (st .stack))))
-        (λ e. rw (a, b, c, d, e) (stays-cells (cond (eqb (st .mode) 4) 5 (st .mode)) (st .stack)))))))
+        (λ e. rw (a, b, c, d, e) (stays-cells (cond (eqb (st .stack .depth) 1) 2 5) (popped (st .stack)) (λ i h. refl)))
+        (λ e. rw (a, b, c, d, e) (stays-cells (cond (eqb (st .mode) 4) 5 (st .mode)) (st .stack) (λ i h. refl)))))))
 
 -- ---- learning
 
 learnt-cells : {w v : List ℕ} {st : State} (kind name : ℕ) (t : learning.Grown) → st .learned < maxLearned → Turns w v st t
     → Cells w (withLearnt v st kind name (t .ok)) st (alsoLearnt st t)
-unfolding alsoLearnt withLearnt
+unfolding alsoLearnt withLearnt maxLearned
 learnt-cells {w} {v} {st} kind name t few x =
     split (t .ok)
     (λ e. rw e (record {
@@ -94,8 +128,17 @@ learnt-cells {w} {v} {st} kind name t few x =
           clear-learned d (d .store)
           (record { uris = omega arith; names = omega arith; values = omega arith; learned = omega (arith, x .learned); grammars = omega arith })
           (rw (x .learned) (inr (learnedRowOf st kind name, refl))) (omega (arith, x .learned)) (omega (arith, x .learned));
+      behind = λ k h.
+          withRow-other v learnedAt (st .learned) (learnedRowOf st kind name) k (inl (omega (arith, few, learnedAt-is, tableCells-is)))
+          ∙ x .cells .behind k h;
+      above = x .cells .above;
     }))
-    (λ e. rw e (record { refused = λ _. x .cells .refused e; clear = λ z. absurd (true≢false (sym z)) }))
+    (λ e. rw e (record {
+      refused = λ _. x .cells .refused e;
+      clear = λ z. absurd (true≢false (sym z));
+      behind = x .cells .behind;
+      above = x .cells .above;
+    }))
 
 pub growth-cells : (w : List ℕ) (st : State) (kind : ℕ) (teaches : Bool) (name : ℕ)
     → Cells w (withGrowth w st kind teaches name) st (grown st kind teaches name (hasKey name (rows w grammarsAt (st .grammars))))

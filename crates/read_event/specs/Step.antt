@@ -1,44 +1,31 @@
 -- What reading one event asks and leaves, in the definitions' terms.
-use Prim.Native.Nat.{ℕ, _+_, _*_, _-_, _≤_, _<_}
+use Prim.Native.Nat.{ℕ, _+_, _*_, _≤_, _<_}
 use mathlib.Core.Path.{_≡_}
-use mathlib.Core.Bool.{Bool, false, cond, _||_}
+use mathlib.Core.Bool.{Bool, false, cond, not, _&&_, _||_}
 use mathlib.Core.List.{List, _++_}
-use lib.ListN.{length, take, drop, replicate}
+use lib.ListN.{length, getD, take, drop}
 use lib.Dec.{ltb}
 use Rattle.format.specs.Event.{Event, mapEvent}
-use Rattle.format.specs.Sizes.{maxStream, maxStore, maxEvents, maxUris, maxNames, maxValues, eventCells}
+use Rattle.format.specs.Sizes.{maxStream, maxStore, maxEvents, eventCells}
 use Rattle.format.specs.Settings.{Settings}
 use Rattle.format.specs.Tables.{Placed, spanOf}
 use Rattle.format.specs.Context.{next}
 use Rattle.format.specs.Reader.{step, eventText}
 use Rattle.event.specs.Cells.{cellsOf}
-use Rattle.rows.specs.declared.Row.{Row}
 use Rattle.rows.specs.declared.Found.the-variants.{At}
-use Rattle.rows.specs.Rows.{withRowBelow}
-use Rattle.layout.specs.Layout.{urisAt, namesAt, valuesAt}
+use Rattle.rows.specs.Rows.{rows}
+use Rattle.productions.specs.Locate.{hasKey}
+use Rattle.layout.specs.Layout.{grammarsAt, tableCells}
 use Rattle.state.specs.declared.State.{State}
 use Rattle.standing.specs.Standing.{contextOf, Standing}
-use Rattle.fitting.specs.Fitting.{newestOf}
+use Rattle.event_code.specs.Parts.{teachesIn}
+use Rattle.learning.specs.declared.Grown.{Grown}
+use Rattle.learning.specs.Learning.{grown, withGrowth, GrowFits, Teaching}
+use Rattle.fitting.specs.Fitting.{NewestFits, newestOf}
 use Rattle.outcome.specs.Outcome.{Outcome}
 use Rattle.outcome.specs.Memory.{readerMemory, Clear}
 use Rattle.read_code.specs.declared.Decoded.{Decoded}
 use Rattle.read_event.specs.declared.Stepped.{Stepped}
-
--- ---- taking back
-
-abbrev pub zeroRow : Row
-zeroRow = record { key = 0; place = 0; size = 0 }
-
--- Zeros in the row behind each string table's rows.
-unfoldable pub undoneWork : List ℕ → State → List ℕ
-undoneWork work st =
-    withRowBelow maxValues
-    (withRowBelow maxNames (withRowBelow maxUris work urisAt (st .uris) zeroRow) namesAt (st .names) zeroRow)
-    valuesAt (st .values) zeroRow
-
--- Zeros behind the store.
-unfoldable pub undoneText : List ℕ → State → List ℕ
-undoneText text st = take (st .stored) text ++ replicate (length text - st .stored) 0
 
 -- ---- LOOSE
 
@@ -46,6 +33,29 @@ undoneText text st = take (st .stored) text ++ replicate (length text - st .stor
 unfoldable pub looseIn : List ℕ → State → Decoded → ℕ → Bool
 looseIn work st code row =
     cond (code .learned) false (cond (ltb (code .kind) 2 || ltb 5 (code .kind)) false (newestOf work st (code .kind) (At 0 row) .hit))
+
+-- ---- behind the strings
+
+-- Whether an element learns from the event: SE(*) and AT(*), and CH and EE with a code of two parts, where no learned production stood.
+unfoldable pub teachesHere : State → Decoded → Bool
+teachesHere st code = not (code .learned) && teachesIn (st .mode) (code .kind)
+
+-- What the event leaves in open elements, element grammars and learned productions, with this row of its name.
+unfoldable pub grownBy : List ℕ → State → Decoded → ℕ → Grown
+grownBy work st code row = grown st (code .kind) (teachesHere st code) row (hasKey row (rows work grammarsAt (st .grammars)))
+
+-- LOOSE for the production, then the sizes.
+unfoldable pub settled : List ℕ → State → Decoded → ℕ → Stepped
+settled work st code row =
+    cond (looseIn work st code row) (record { number = 10; state = st })
+    (cond (grownBy work st code row .ok) (record { number = 0; state = grownBy work st code row .state }) (record { number = 12; state = st }))
+
+unfoldable pub withSettled : List ℕ → State → Decoded → ℕ → List ℕ
+withSettled work st code row = cond (looseIn work st code row) work (withGrowth work st (code .kind) (teachesHere st code) row)
+
+pub record SettleFits (work : List ℕ) (st : State) (code : Decoded) (row : ℕ) : Type 0 where
+  pub newest : NewestFits work st
+  pub grows : looseIn work st code row ≡ false → GrowFits work st (code .kind) row × Teaching st (teachesHere st code)
 
 -- ---- the event
 
@@ -72,6 +82,9 @@ pub record Done (s : Settings) (events text work : List ℕ) (st : State) (event
   pub count : r .state .events ≡ st .events + 1
   pub sameText : length text′ ≡ length text
   pub sameWork : length work′ ≡ length work
+  -- Work memory behind the tables, and the open elements' array from the depth on, are as they were.
+  pub behind : (k : ℕ) → tableCells ≤ k → getD work′ k 0 ≡ getD work k 0
+  pub above : (i : ℕ) → r .state .stack .depth ≤ i → getD (r .state .stack .names) i 0 ≡ getD (st .stack .names) i 0
 
 -- By the definitions' step at the state's position. A refused step leaves everything as it was.
 pub record Step (s : Settings) (stream events text work : List ℕ) (st : State) (events′ text′ work′ : List ℕ) (r : Stepped) : Type 0 where

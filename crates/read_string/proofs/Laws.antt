@@ -105,10 +105,12 @@ module _ {stream : List ℕ} {at : ℕ} {text : List ℕ} {stored n : ℕ} (fit 
     turn-refused h d text″ e =
         record {
           outcome = refused-outcome (times-declined readCharacter i (t .read) n h d);
-          unchanged = λ _.
-              e
-              ∙ cleared-back text text′ stored (fit .literal .zeros) turn-length
-              (ap (take stored) (t .text-is) ∙ laid-before text stored (t .read .value) (omega (arith, t .size, t .inside, fit .ends, fit .literal .room)));
+          unchanged = λ _. (
+            e
+                ∙ cleared-back text text′ stored (fit .literal .zeros) turn-length
+                (ap (take stored) (t .text-is) ∙ laid-before text stored (t .read .value) (omega (arith, t .size, t .inside, fit .ends, fit .literal .room))),
+            refl,
+          );
         }
 
     module _ (h : i < n) where
@@ -141,7 +143,7 @@ module _ {stream : List ℕ} {at : ℕ} {text : List ℕ} {stored n : ℕ} where
   literal-long h =
       record {
         outcome = λ t e. need-failed (leb n 1024) limit _ (lt-leb n 1024 h);
-        unchanged = λ _. refl;
+        unchanged = λ _. (refl, refl);
       }
 
   pub literal-full : n ≤ 1024 → 16384 < stored + n → LiteralRead stream at text stored n text (record { number = 12; next = at })
@@ -151,7 +153,7 @@ module _ {stream : List ℕ} {at : ℕ} {text : List ℕ} {stored n : ℕ} where
         outcome = λ t e.
             need-passed (leb n 1024) limit (le-leb n 1024 l)
             (need-failed (leb (length (t .store) + n) 16384) limit _ (lt-leb (length (t .store) + n) 16384 (omega arith)));
-        unchanged = λ _. refl;
+        unchanged = λ _. (refl, refl);
       }
 
   pub literal-read : n ≤ 1024 → stored + n ≤ 16384 → {text′ : List ℕ} {r : declared.Literal} → CharactersRead stream at text stored n text′ r

@@ -27,10 +27,10 @@ pub record CharactersFit (stream : List ℕ) (at : ℕ) (text : List ℕ) (store
 unfoldable pub laidAt : List ℕ → ℕ → Text → List ℕ
 laidAt text stored x = take stored text ++ x ++ drop (stored + length x) text
 
--- n code points, read to the store's end; the store as it was after a refusal.
+-- n code points, read to the store's end; store and position as they were after a refusal.
 pub record CharactersRead (stream : List ℕ) (at : ℕ) (text : List ℕ) (stored n : ℕ) (text′ : List ℕ) (r : declared.Literal) : Type 0 where
   pub outcome : Outcome (times n readCharacter) stream at (r .number) (r .next) (λ x. (text′ ≡ laidAt text stored x) × (length x ≡ n))
-  pub unchanged : 0 < r .number → text′ ≡ text
+  pub unchanged : 0 < r .number → (text′ ≡ text) × (r .next ≡ at)
 
 -- What is read of a literal: its place, its length, and the store with it.
 pub record Laid (text : List ℕ) (stored n : ℕ) (text′ : List ℕ) (v : Form × Placed) : Type 0 where
@@ -45,4 +45,4 @@ pub record Laid (text : List ℕ) (stored n : ℕ) (text′ : List ℕ) (v : For
 pub record LiteralRead (stream : List ℕ) (at : ℕ) (text : List ℕ) (stored n : ℕ) (text′ : List ℕ) (r : declared.Literal) : Type 0 where
   pub outcome : (t : Tables) → length (t .store) ≡ stored
       → Outcome (readLiteral t n) stream at (r .number) (r .next) (Laid text stored n text′)
-  pub unchanged : 0 < r .number → text′ ≡ text
+  pub unchanged : 0 < r .number → (text′ ≡ text) × (r .next ≡ at)

@@ -11,6 +11,7 @@ use Rattle.rows.specs.declared.Row.{Row}
 use Rattle.rows.specs.declared.Found.the-variants.{At, Nothing}
 use Rattle.rows.specs.declared.Found.{Found}
 use Rattle.rows.specs.Rows.{rowAt, rows, selected, numbered, countOf, nthOf, findThat, foundAt, found}
+use Rattle.rows.specs.Hit.{Hit}
 use Rattle.rows.proofs.Laws.{rows-length, rows-at}
 use Rattle.rows.proofs.Selection.{Nth, nth-entry, nth-past, entry-nth, find-entry, find-none}
 
@@ -41,15 +42,8 @@ foundAt-nothing i none e = refl
 foundAt-nothing i (some r) e = absurd (apart e)
 
 module _ (all : Bool) (key : ℕ) (work : List ℕ) (base n : ℕ) where
-  -- Row number row is selected, and is that number among the selected rows.
-  pub record Hit (number row : ℕ) : Type 0 where
-    pub below : row < n
-    pub is : selected all key (rowAt work base row) ≡ true
-    pub before : countOf all key (take row (rows work base n)) ≡ number
-    pub entry : getElem? (numbered all key 0 (rows work base n)) number ≡ some (row, rowAt work base row)
-
   hit : {number row : ℕ} {r : Row} → getElem? (numbered all key 0 (rows work base n)) number ≡ some (row, r)
-      → Hit number row × (rowAt work base row ≡ r)
+      → Hit all key work base n number row × (rowAt work base row ≡ r)
   hit {number} {row} {r} e =
       let m : Nth all key number (rows work base n) row r = entry-nth all key number (rows work base n) e in
       let b : row < n = rw rows-length at (member-below (rows work base n) row (m .at)) in
@@ -57,7 +51,7 @@ module _ (all : Bool) (key : ℕ) (work : List ℕ) (base n : ℕ) where
       (record { below = b; is = rw s (m .is); before = m .before; entry = rw s e }, s)
 
   module _ {f : Found} (i : ℕ) (answer : f ≡ foundAt i (nthOf all key i (rows work base n))) where
-    pub nth-hit : {k row : ℕ} → f ≡ At k row → (k ≡ i) × Hit i row
+    pub nth-hit : {k row : ℕ} → f ≡ At k row → (k ≡ i) × Hit all key work base n i row
     nth-hit e =
         let (a, o) = foundAt-at i (nthOf all key i (rows work base n)) (sym answer ∙ e) in
         let (r, s) = nth-entry all key i (rows work base n) o in
@@ -67,7 +61,7 @@ module _ (all : Bool) (key : ℕ) (work : List ℕ) (base n : ℕ) where
     nth-miss e = nth-past all key i (rows work base n) (foundAt-nothing i (nthOf all key i (rows work base n)) (sym answer ∙ e))
 
   module _ {f : Found} (test : Row → Bool) (answer : f ≡ found (findThat test all key (rows work base n))) where
-    pub find-hit : {k row : ℕ} → f ≡ At k row → Hit k row × (test (rowAt work base row) ≡ true)
+    pub find-hit : {k row : ℕ} → f ≡ At k row → Hit all key work base n k row × (test (rowAt work base row) ≡ true)
     find-hit {k} {row} e =
         let (r, s, t) = find-entry test all key (rows work base n) (k, row) (found-at (findThat test all key (rows work base n)) (sym answer ∙ e)) in
         let (h, z) = hit s in

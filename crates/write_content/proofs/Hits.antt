@@ -21,12 +21,14 @@ use Rattle.rows.specs.declared.Found.the-variants.{At, Nothing}
 use Rattle.rows.specs.Rows.{rowAt, rows, textOf, selected, numbered, countOf, hasText, findThat, found}
 use Rattle.rows.proofs.Laws.{rows-length}
 use Rattle.rows.proofs.Selection.{count-most, count-all}
-use Rattle.rows.proofs.Answers.{Hit, find-hit}
+use Rattle.rows.specs.Hit.{Hit}
+use Rattle.rows.proofs.Answers.{find-hit}
 use Rattle.layout.specs.Layout.{urisAt, namesAt, valuesAt}
 use Rattle.layout.specs.Meaning.{Memory, uriText, nameAt}
 use Rattle.layout.specs.Writer.{writerMemory}
 use Rattle.layout.proofs.Sizes.{length-uris}
-use Rattle.layout.proofs.Strings.{Listed, numberOf, find-answer, uris-listed, names-listed, values-listed, any-listed, form-uri, form-local, form-value}
+use Rattle.layout.specs.Listed.{Listed}
+use Rattle.layout.proofs.Strings.{numberOf, find-answer, uris-listed, names-listed, values-listed, any-listed, form-uri, form-local, form-value}
 use Rattle.state.specs.declared.State.{State}
 use Rattle.standing.specs.Standing.{countsOf}
 use Rattle.literal.specs.Fault.{faultNumber, stringFault}

@@ -5,7 +5,8 @@ use borrow.Author.Needs.{needs}
 use denote.Ref.{now}
 use Rattle.format.specs.Sizes.{maxUris, maxNames, maxValues}
 use Rattle.rows.specs.Rows.{nthOf, nthIn}
-use Rattle.rows.proofs.Answers.{Hit, nth-hit, nth-miss}
+use Rattle.rows.specs.Hit.{Hit}
+use Rattle.rows.proofs.Answers.{nth-hit, nth-miss}
 use Rattle.layout.specs.Layout.{urisAt, namesAt, valuesAt, learnedAt}
 use Rattle.read_code.proofs.row_read.Statement.{statement}
 use Rattle.read_code.proofs.row_read.Tie as tie

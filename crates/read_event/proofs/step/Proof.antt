@@ -1,9 +1,7 @@
 -- `step` meets its contract.
-use Rattle.read_event.proofs.Assembly.{few-events}
-use Rattle.read_event.proofs.Assembly.{code-asks, store-asks, code-refused, content-asks, undo-asks, content-refused, loose-asks, loose-step, grow-asked, limit-asks, limit-step, done-step}
+use Rattle.read_event.proofs.Assembly.{few-events, code-asks, store-asks, code-refused, content-asks, content-refused, settle-asks, undo-asks, settled-refused, done-step}
 use Rattle.settings.specs.Meant.{settingsFrom}
-use borrow.Author.Tests.{not-true, not-false}
-use mathlib.Core.Path.{sym, _∙_}
+use mathlib.Core.Path.{sym, ap, _∙_}
 use native.Mathlib.Omega.{arith}
 use borrow.Author.Needs.{needs}
 use Rattle.read_event.proofs.step.Statement.{statement}
@@ -21,12 +19,8 @@ same-length-2 c = search needs
 returns : tie.Need-returns
 returns c = code-refused (c .before .before .before .before .before .before .before .before .before .pre) (c .before .before .read-code .ensures) (omega (arith, c .if1 .taken))
 
-read-strings-requires : tie.Need-read-strings-requires
-read-strings-requires c κs = content-asks (c .before .before .before .before .before .before .before .before .before .before .before .pre) (c .before .before .before .before .read-code .ensures) (c .before .before .if1 .left)
-
-undo-requires : tie.Need-undo-requires
-unfolding settingsFrom
-undo-requires c κs = undo-asks (c .before .before .before .before .before .before .before .before .before .before .before .before .before .before .before .before .before .before .before .before .pre) (c .before .before .before .before .before .before .before .before .before .before .before .before .before .read-code .ensures) (c .before .before .before .before .before .before .before .before .before .before .before .if1 .left) (c .before .before .before .before .before .before .before .before .read-strings .ensures)
+read-items-requires : tie.Need-read-items-requires
+read-items-requires c κs = content-asks (c .before .before .before .before .before .before .before .before .before .before .before .pre) (c .before .before .before .before .read-code .ensures) (c .before .before .if1 .left)
 
 same-length-3 : tie.Need-same-length-3
 same-length-3 c = search needs
@@ -36,15 +30,15 @@ same-length-4 c = search needs
 
 returns-2 : tie.Need-returns-2
 unfolding settingsFrom
-returns-2 c = content-refused (c .before .before .before .before .before .before .before .before .before .before .before .before .before .before .before .before .before .before .before .before .before .before .before .before .before .pre) (c .before .before .before .before .before .before .before .before .before .before .before .before .before .before .before .before .before .before .read-code .ensures) (c .before .before .before .before .before .before .before .before .before .before .before .before .before .before .before .before .if1 .left) (c .before .before .before .before .before .before .before .before .before .before .before .before .before .read-strings .ensures) (c .before .before .before .before .undo .ensures .0) (c .before .before .before .before .undo .ensures .1) (omega (arith, c .before .before .before .before .before .before .before .if2 .taken))
+returns-2 c = content-refused (c .before .before .before .before .before .before .before .before .before .before .before .before .before .before .before .before .before .before .pre) (c .before .before .before .before .before .before .before .before .before .before .before .read-code .ensures) (c .before .before .before .before .before .before .before .before .before .if1 .left) (c .before .before .before .before .before .before .read-items .ensures) (omega (arith, c .if2 .taken))
 
-is-loose-requires : tie.Need-is-loose-requires
+settle-requires : tie.Need-settle-requires
 unfolding settingsFrom
-is-loose-requires c κs = loose-asks (c .before .before .before .before .before .before .before .before .before .before .before .before .before .before .before .before .before .before .before .before .pre) (c .before .before .before .before .before .before .before .before .before .before .before .before .before .read-code .ensures) (c .before .before .before .before .before .before .before .before .before .before .before .if1 .left) (c .before .before .before .before .before .before .before .before .read-strings .ensures) (c .before .before .if2 .left)
+settle-requires c κs = settle-asks (c .before .before .before .before .before .before .before .before .before .before .before .before .before .before .before .before .before .before .before .pre) (c .before .before .before .before .before .before .before .before .before .before .before .before .read-code .ensures) (c .before .before .before .before .before .before .before .before .before .before .if1 .left) (c .before .before .before .before .before .before .before .read-items .ensures) (c .before .if2 .left)
 
-undo-requires-2 : tie.Need-undo-requires-2
+undo-requires : tie.Need-undo-requires
 unfolding settingsFrom
-undo-requires-2 c κs = undo-asks (c .before .before .before .before .before .before .before .before .before .before .before .before .before .before .before .before .before .before .before .before .before .before .before .before .pre) (c .before .before .before .before .before .before .before .before .before .before .before .before .before .before .before .before .before .read-code .ensures) (c .before .before .before .before .before .before .before .before .before .before .before .before .before .before .before .if1 .left) (c .before .before .before .before .before .before .before .before .before .before .before .before .read-strings .ensures)
+undo-requires c κs = undo-asks (c .before .before .before .before .before .before .before .before .before .before .before .before .before .before .before .before .before .before .before .before .before .before .before .before .before .before .pre) (c .before .before .before .before .before .before .before .before .before .before .before .before .before .before .before .before .before .before .before .read-code .ensures) (c .before .before .before .before .before .before .before .before .before .before .before .before .before .before .before .before .before .if1 .left) (c .before .before .before .before .before .before .before .before .before .before .before .before .before .before .read-items .ensures) (c .before .before .before .before .before .before .before .before .if2 .left) (c .before .before .before .before .before .before .settle .ensures .1)
 
 same-length-5 : tie.Need-same-length-5
 same-length-5 c = search needs
@@ -54,50 +48,29 @@ same-length-6 c = search needs
 
 returns-3 : tie.Need-returns-3
 unfolding settingsFrom
-returns-3 c = loose-step (c .before .before .before .before .before .before .before .before .before .before .before .before .before .before .before .before .before .before .before .before .before .before .before .before .before .before .before .before .before .pre) (c .before .before .before .before .before .before .before .before .before .before .before .before .before .before .before .before .before .before .before .before .before .before .read-code .ensures) (c .before .before .before .before .before .before .before .before .before .before .before .before .before .before .before .before .before .before .before .before .if1 .left) (c .before .before .before .before .before .before .before .before .before .before .before .before .before .before .before .before .before .read-strings .ensures) (c .before .before .before .before .before .before .before .before .before .before .before .if2 .left) (sym (c .before .before .before .before .before .before .before .before .is-loose .ensures) ∙ c .before .before .before .before .before .before .before .if3 .taken) (c .before .before .before .before .undo2 .ensures .0) (c .before .before .before .before .undo2 .ensures .1)
-
-teaches-requires : tie.Need-teaches-requires
-teaches-requires c κs = search needs
-
-grow-requires : tie.Need-grow-requires
-unfolding settingsFrom
-grow-requires c κs = rw (c .before .teaches .ensures) (grow-asked (c .before .before .before .before .before .before .before .before .before .before .before .before .before .before .before .before .before .before .before .before .before .before .before .before .before .pre) (c .before .before .before .before .before .before .before .before .before .before .before .before .before .before .before .before .before .before .read-code .ensures) (c .before .before .before .before .before .before .before .before .before .before .before .before .before .before .before .before .if1 .left) (c .before .before .before .before .before .before .before .before .before .before .before .before .before .read-strings .ensures) (c .before .before .before .before .before .before .before .if2 .left) (sym (c .before .before .before .before .is-loose .ensures) ∙ c .before .before .before .if3 .left))
-
-undo-requires-3 : tie.Need-undo-requires-3
-unfolding settingsFrom
-undo-requires-3 c κs = limit-asks (c .before .before .before .before .before .before .before .before .before .before .before .before .before .before .before .before .before .before .before .before .before .before .before .before .before .before .before .before .before .before .before .before .pre) (c .before .before .before .before .before .before .before .before .before .before .before .before .before .before .before .before .before .before .before .before .before .before .before .before .before .read-code .ensures) (c .before .before .before .before .before .before .before .before .before .before .before .before .before .before .before .before .before .before .before .before .before .before .before .if1 .left) (c .before .before .before .before .before .before .before .before .before .before .before .before .before .before .before .before .before .before .before .before .read-strings .ensures) (c .before .before .before .before .before .before .before .before .before .before .before .before .before .before .if2 .left) (sym (c .before .before .before .before .before .before .before .before .before .before .before .is-loose .ensures) ∙ c .before .before .before .before .before .before .before .before .before .before .if3 .left) (rw (c .before .before .before .before .before .before .before .before .teaches .ensures) at (c .before .before .before .before .before .before .grow .ensures .0)) (rw (c .before .before .before .before .before .before .before .before .teaches .ensures) at (c .before .before .before .before .before .before .grow .ensures .1))
-
-same-length-7 : tie.Need-same-length-7
-same-length-7 c = c .before .before .before .before .undo3 .kept .1 .0 ∙ c .before .before .before .before .before .before .before .before .before .before .before .before .before .before .before .before .before .before .before .before .before .before .before .before .before .read-strings .kept .1 .1 .1 .1 .0
-
-same-length-8 : tie.Need-same-length-8
-same-length-8 c = c .before .before .before .before .undo3 .kept .1 .1 .0 ∙ c .before .before .before .before .before .before .before .before .before .before .before .grow .kept .1 .1 .1 .1 .0 ∙ c .before .before .before .before .before .before .before .before .before .before .before .before .before .before .before .before .before .before .before .before .before .before .before .before .before .read-strings .kept .1 .1 .1 .1 .1 .0
-
-returns-4 : tie.Need-returns-4
-unfolding settingsFrom
-returns-4 c = limit-step (c .before .before .before .before .before .before .before .before .before .before .before .before .before .before .before .before .before .before .before .before .before .before .before .before .before .before .before .before .before .before .before .before .before .before .before .before .before .pre) (c .before .before .before .before .before .before .before .before .before .before .before .before .before .before .before .before .before .before .before .before .before .before .before .before .before .before .before .before .before .before .read-code .ensures) (c .before .before .before .before .before .before .before .before .before .before .before .before .before .before .before .before .before .before .before .before .before .before .before .before .before .before .before .before .if1 .left) (c .before .before .before .before .before .before .before .before .before .before .before .before .before .before .before .before .before .before .before .before .before .before .before .before .before .read-strings .ensures) (c .before .before .before .before .before .before .before .before .before .before .before .before .before .before .before .before .before .before .before .if2 .left) (sym (c .before .before .before .before .before .before .before .before .before .before .before .before .before .before .before .before .is-loose .ensures) ∙ c .before .before .before .before .before .before .before .before .before .before .before .before .before .before .before .if3 .left) (rw (c .before .before .before .before .before .before .before .before .before .before .before .before .before .teaches .ensures) at (c .before .before .before .before .before .before .before .before .before .before .before .grow .ensures .0)) (rw (c .before .before .before .before .before .before .before .before .before .before .before .before .before .teaches .ensures) at (c .before .before .before .before .before .before .before .before .before .before .before .grow .ensures .1)) (not-true _ (c .before .before .before .before .before .before .before .if4 .taken)) (c .before .before .before .before .undo3 .ensures .0) (c .before .before .before .before .undo3 .ensures .1)
+returns-3 c = rw (c .before .before .before .before .before .before .before .before .before .before .before .settle .ensures .0) (settled-refused (c .before .before .before .before .before .before .before .before .before .before .before .before .before .before .before .before .before .before .before .before .before .before .before .before .before .before .before .before .before .before .before .pre) (c .before .before .before .before .before .before .before .before .before .before .before .before .before .before .before .before .before .before .before .before .before .before .before .before .read-code .ensures) (c .before .before .before .before .before .before .before .before .before .before .before .before .before .before .before .before .before .before .before .before .before .before .if1 .left) (c .before .before .before .before .before .before .before .before .before .before .before .before .before .before .before .before .before .before .before .read-items .ensures) (c .before .before .before .before .before .before .before .before .before .before .before .before .before .if2 .left) (rw (c .before .before .before .before .before .before .before .before .before .before .before .settle .ensures .1) at (c .before .before .before .before .undo .ensures .0)) (c .before .before .before .before .undo .ensures .1) (rw (c .before .before .before .before .before .before .before .before .before .before .before .settle .ensures .0) at (c .before .before .before .before .before .before .before .if3 .taken)))
 
 mul-store : tie.Need-mul-store
-mul-store c = omega (arith, few-events (c .before .before .before .before .before .before .before .before .before .before .before .before .before .before .before .before .before .before .before .before .before .before .before .before .before .before .before .before .before .before .before .before .pre))
+mul-store c = omega (arith, few-events (c .before .before .before .before .before .before .before .before .before .before .before .before .before .before .before .before .before .before .before .before .before .before .before .before .before .before .pre))
 
 store-requires : tie.Need-store-requires
-store-requires c κs = store-asks (c .before .before .before .before .before .before .before .before .before .before .before .before .before .before .before .before .before .before .before .before .before .before .before .before .before .before .before .before .before .before .before .before .pre)
+store-requires c κs = store-asks (c .before .before .before .before .before .before .before .before .before .before .before .before .before .before .before .before .before .before .before .before .before .before .before .before .before .before .pre)
 
 add-state : tie.Need-add-state
-add-state c = omega (arith, few-events (c .before .before .before .before .before .before .before .before .before .before .before .before .before .before .before .before .before .before .before .before .before .before .before .before .before .before .before .before .before .before .before .before .before .before .before .before .before .pre))
+add-state c = omega (arith, few-events (c .before .before .before .before .before .before .before .before .before .before .before .before .before .before .before .before .before .before .before .before .before .before .before .before .before .before .before .before .before .before .before .pre))
+
+same-length-7 : tie.Need-same-length-7
+same-length-7 c = search needs
+
+same-length-8 : tie.Need-same-length-8
+same-length-8 c = c .before .before .before .before .before .before .before .before .before .before .before .before .before .before .before .before .before .before .before .read-items .kept .1 .1 .1 .1 .0
 
 same-length-9 : tie.Need-same-length-9
 same-length-9 c = search needs
 
-same-length-10 : tie.Need-same-length-10
-same-length-10 c = c .before .before .before .before .before .before .before .before .before .before .before .before .before .before .before .before .before .before .before .before .before .before .before .before .before .read-strings .kept .1 .1 .1 .1 .0
-
-same-length-11 : tie.Need-same-length-11
-same-length-11 c = c .before .before .before .before .before .before .before .before .before .before .before .grow .kept .1 .1 .1 .1 .0 ∙ c .before .before .before .before .before .before .before .before .before .before .before .before .before .before .before .before .before .before .before .before .before .before .before .before .before .read-strings .kept .1 .1 .1 .1 .1 .0
-
-returns-5 : tie.Need-returns-5
+returns-4 : tie.Need-returns-4
 unfolding settingsFrom
-returns-5 c = done-step (c .before .before .before .before .before .before .before .before .before .before .before .before .before .before .before .before .before .before .before .before .before .before .before .before .before .before .before .before .before .before .before .before .before .before .before .before .before .pre) (c .before .before .before .before .before .before .before .before .before .before .before .before .before .before .before .before .before .before .before .before .before .before .before .before .before .before .before .before .before .before .read-code .ensures) (c .before .before .before .before .before .before .before .before .before .before .before .before .before .before .before .before .before .before .before .before .before .before .before .before .before .before .before .before .if1 .left) (c .before .before .before .before .before .before .before .before .before .before .before .before .before .before .before .before .before .before .before .before .before .before .before .before .before .read-strings .ensures) (c .before .before .before .before .before .before .before .before .before .before .before .before .before .before .before .before .before .before .before .if2 .left) (sym (c .before .before .before .before .before .before .before .before .before .before .before .before .before .before .before .before .is-loose .ensures) ∙ c .before .before .before .before .before .before .before .before .before .before .before .before .before .before .before .if3 .left) (rw (c .before .before .before .before .before .before .before .before .before .before .before .before .before .teaches .ensures) at (c .before .before .before .before .before .before .before .before .before .before .before .grow .ensures .0)) (rw (c .before .before .before .before .before .before .before .before .before .before .before .before .before .teaches .ensures) at (c .before .before .before .before .before .before .before .before .before .before .before .grow .ensures .1)) (not-false _ (c .before .before .before .before .before .before .before .if4 .left)) (c .before .before .before .before .store .ensures)
+returns-4 c = rw (c .before .before .before .before .before .before .before .before .before .before .before .settle .ensures .0) (done-step (c .before .before .before .before .before .before .before .before .before .before .before .before .before .before .before .before .before .before .before .before .before .before .before .before .before .before .before .before .before .before .before .pre) (c .before .before .before .before .before .before .before .before .before .before .before .before .before .before .before .before .before .before .before .before .before .before .before .before .read-code .ensures) (c .before .before .before .before .before .before .before .before .before .before .before .before .before .before .before .before .before .before .before .before .before .before .if1 .left) (c .before .before .before .before .before .before .before .before .before .before .before .before .before .before .before .before .before .before .before .read-items .ensures) (c .before .before .before .before .before .before .before .before .before .before .before .before .before .if2 .left) (rw (c .before .before .before .before .before .before .before .before .before .before .before .settle .ensures .0) at (c .before .before .before .before .before .before .before .if3 .left)) (c .before .before .before .before .store .ensures) (c .before .before .before .before .before .before .before .before .before .before .before .settle .ensures .1))
 
 pub step-spec : {M : Type 1} → statement M
 step-spec =
@@ -107,26 +80,19 @@ step-spec =
     same-length
     same-length-2
     returns
-    read-strings-requires
-    undo-requires
+    read-items-requires
     same-length-3
     same-length-4
     returns-2
-    is-loose-requires
-    undo-requires-2
+    settle-requires
+    undo-requires
     same-length-5
     same-length-6
     returns-3
-    teaches-requires
-    grow-requires
-    undo-requires-3
-    same-length-7
-    same-length-8
-    returns-4
     mul-store
     store-requires
     add-state
+    same-length-7
+    same-length-8
     same-length-9
-    same-length-10
-    same-length-11
-    returns-5)
+    returns-4)

@@ -1,10 +1,10 @@
 -- `read_strings` meets its contract.
-use Rattle.read_event.proofs.Strings.{start-document, end-document, end-element, name-asks, start-element, top-asks, characters-ask, characters-read, comment-read}
+use Rattle.read_items.proofs.Strings.{start-document, end-document, end-element, name-asks, start-element, top-asks, characters-ask, characters-read, comment-read}
 use native.Mathlib.Omega.{arith}
 use Prim.Native.Nat.{_≤_}
 use borrow.Author.Needs.{needs}
-use Rattle.read_event.proofs.read_strings.Statement.{statement}
-use Rattle.read_event.proofs.read_strings.Tie as tie
+use Rattle.read_items.proofs.read_strings.Statement.{statement}
+use Rattle.read_items.proofs.read_strings.Tie as tie
 
 bare-requires : tie.Need-bare-requires
 bare-requires c κs = search needs

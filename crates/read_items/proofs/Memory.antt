@@ -10,10 +10,12 @@ use lib.Seq.{ext-getD}
 use lib.Dec.{eqb, ltb}
 use borrow.Author.Tests.{eqb-true, eqb-false, ltb-true, ltb-false}
 use Rattle.fields.specs.Field.{Alignment}
+use Rattle.fields.specs.Parser.{Parser}
 use Rattle.fields.proofs.Tests.{split}
 use Rattle.text.specs.Text.{Text}
 use Rattle.format.specs.Sizes.{maxUris, maxNames, maxValues}
-use Rattle.format.specs.Tables.{Role}
+use Rattle.format.specs.Tables.{Placed, Tables}
+use Rattle.format.specs.Grammar.{Production}
 use Rattle.rows.specs.declared.Row.{Row}
 use Rattle.rows.specs.Rows.{rowAt, withRow, withRowBelow}
 use Rattle.rows.proofs.Laws.{withRow-length, withRow-other, withRow-row}
@@ -22,11 +24,12 @@ use Rattle.layout.proofs.Sizes.{urisAt-is, namesAt-is, valuesAt-is, tableCells-
 use Rattle.state.specs.declared.State.{State}
 use Rattle.standing.specs.Standing.{Kept}
 use Rattle.outcome.specs.Memory.{readerMemory, ZeroFrom, ZeroRows, Clear, OneRow}
+use Rattle.outcome.proofs.Outcome.{refused-outcome}
 use Rattle.outcome.proofs.Memory.{longer-refl, longer-then, cleared-back, Grown, clear-uri, clear-name, clear-value, clear-same}
 use Rattle.read_content.specs.declared.Got.{Got}
-use Rattle.read_content.specs.Content.{rowsOf, Counted, StringRead, UriRow, NameRow, ValueRow}
-use Rattle.read_event.specs.Content.{Beside, Off, Left}
-use Rattle.read_event.specs.Step.{zeroRow, undoneWork, undoneText}
+use Rattle.read_content.specs.Content.{rowsOf, Counted, UriRow, NameRow, ValueRow, PartRead}
+use Rattle.read_items.specs.declared.Content.{Content}
+use Rattle.read_items.specs.Content.{Beside, Off, Left, zeroRow, undoneWork, undoneText, ContentRead, refusedContent, ItemsRead}
 
 -- ---- one string
 
@@ -41,8 +44,8 @@ row-cells base n n′ most (inl e) (inr more) few k b = ap (λ w. getD w k 0) e
 row-cells base n n′ most {work} (inr row) (inr more) few k b = ap (λ w. getD w k 0) (row .1) ∙ withRow-other work base n (row .0) k (b (omega arith))
 
 -- A string behind others of its event, with a row of the table at base.
-module _ {a : Alignment} {r : Role} {base n : ℕ} (n′ most : ℕ) {stream work₀ text₀ work text work′ text′ : List ℕ} {st₀ st : State} {g : Got}
-    (l : Left work₀ text₀ st₀ work text st) (s : StringRead a r base n stream work text st work′ text′ g) (m : Counted n n′ work work′)
+module _ {p : Parser (Placed × Tables)} {base n at : ℕ} (n′ most : ℕ) {stream work₀ text₀ work text work′ text′ : List ℕ} {st₀ st : State} {g : Got}
+    (l : Left work₀ text₀ st₀ work text st) (s : PartRead p base n stream at work text st work′ text′ g) (m : Counted n n′ work work′)
     (beside : (k : ℕ) → Off st₀ k → Beside base n most k)
     (few : Kept (readerMemory work text) st (readerMemory work′ text′) (g .state) → n′ ≤ most)
     (grown : Kept (readerMemory work text) st (readerMemory work′ text′) (g .state) → Grown st (g .state))
@@ -71,7 +74,7 @@ module _ {a : Alignment} {r : Role} {base n : ℕ} (n′ most : ℕ) {stream wor
       (λ e.
       let no = eqb-false (g .number) 0 e in
       let u = s .unchanged (omega arith) in
-      rw (u .0, u .1, u .2) l)
+      rw (u .0, u .1, ap (λ (y : Got). y .state) (u .2)) l)
 
 grown-by : {work text work′ text′ : List ℕ} {st st′ : State} → st .values ≤ st′ .values → Kept (readerMemory work text) st (readerMemory work′ text′) st′ → Grown st st′
 grown-by v k =
@@ -92,14 +95,14 @@ counted-more : (n n′ : ℕ) {work work′ : List ℕ} → Counted n n′ work 
 counted-more n n′ (inl same) = omega (arith, same .0)
 counted-more n n′ (inr more) = omega arith
 
-counted-value : {a : Alignment} {r : Role} {base n : ℕ} {stream work text work′ text′ : List ℕ} {st : State} {g : Got} → ValueRow st g
-    → StringRead a r base n stream work text st work′ text′ g → Counted (st .values) (g .state .values) work work′
+counted-value : {p : Parser (Placed × Tables)} {base n at : ℕ} {stream work text work′ text′ : List ℕ} {st : State} {g : Got} → ValueRow st g
+    → PartRead p base n stream at work text st work′ text′ g → Counted (st .values) (g .state .values) work work′
 counted-value {st = st} {g} u s =
     counted-one (st .values) (g .state .values) (rowsOf st) (rowsOf (g .state)) (s .counted) (λ k. omega (arith, u .uris, u .names)) (λ k. omega (arith, u .uris, u .names))
 
-module _ {a : Alignment} {r : Role} {stream work₀ text₀ work text text′ : List ℕ} {st₀ st : State} {g : Got}
+module _ {p : Parser (Placed × Tables)} {at : ℕ} {stream work₀ text₀ work text text′ : List ℕ} {st₀ st : State} {g : Got}
     (l : Left work₀ text₀ st₀ work text st) where
-  pub uri-left : {work′ : List ℕ} → st .uris ≡ st₀ .uris → StringRead a r urisAt (st .uris) stream work text st work′ text′ g → UriRow st work′ text′ g
+  pub uri-left : {work′ : List ℕ} → st .uris ≡ st₀ .uris → PartRead p urisAt (st .uris) stream at work text st work′ text′ g → UriRow st work′ text′ g
       → Left work₀ text₀ st₀ work′ text′ (g .state)
   uri-left e s u =
       string-left (g .state .uris) maxUris l s
@@ -107,7 +110,7 @@ module _ {a : Alignment} {r : Role} {stream work₀ text₀ work text text′ : 
       (λ k o. rw e (o .uris)) (λ k. k .tidy .sized .uris) (grown-by (omega (arith, u .values)))
       (λ z w b m. clear-uri (l .clear) z w (s .one-row) b m)
 
-  pub local-left : {work′ : List ℕ} {u : Text} → st .names ≡ st₀ .names → StringRead a r namesAt (st .names) stream work text st work′ text′ g
+  pub local-left : {work′ : List ℕ} {u : Text} → st .names ≡ st₀ .names → PartRead p namesAt (st .names) stream at work text st work′ text′ g
       → NameRow u st work′ text′ g → Left work₀ text₀ st₀ work′ text′ (g .state)
   local-left e s u =
       string-left (g .state .names) maxNames l s
@@ -115,7 +118,7 @@ module _ {a : Alignment} {r : Role} {stream work₀ text₀ work text text′ : 
       (λ k o. rw e (o .names)) (λ k. k .tidy .sized .names) (grown-by (omega (arith, u .values)))
       (λ z w b m. clear-name (l .clear) z w (s .one-row) b m)
 
-  pub value-left : {work′ : List ℕ} → st .values ≡ st₀ .values → StringRead a r valuesAt (st .values) stream work text st work′ text′ g → ValueRow st g
+  pub value-left : {work′ : List ℕ} → st .values ≡ st₀ .values → PartRead p valuesAt (st .values) stream at work text st work′ text′ g → ValueRow st g
       → Left work₀ text₀ st₀ work′ text′ (g .state)
   value-left e s u =
       string-left (g .state .values) maxValues l s (counted-value u s) (λ k o. rw e (o .values)) (λ k. k .tidy .sized .values)
@@ -123,7 +126,7 @@ module _ {a : Alignment} {r : Role} {stream work₀ text₀ work text text′ : 
       (λ z w b m. clear-value (l .clear) z w (s .one-row) b m)
 
   -- A String by no table adds no row.
-  pub text-left : StringRead a r tableCells 0 stream work text st work text′ g → ValueRow st g → Left work₀ text₀ st₀ work text′ (g .state)
+  pub text-left : PartRead p tableCells 0 stream at work text st work text′ g → ValueRow st g → Left work₀ text₀ st₀ work text′ (g .state)
   text-left s u =
       string-left 0 0 l s (inl (refl, refl)) (λ k o b. absurd (omega arith)) (λ k. omega arith)
       (grown-by (counted-more (st .values) (g .state .values) (counted-value u s))) (λ z w b m. absurd (omega arith))
@@ -185,3 +188,19 @@ module _ {work text work′ text′ : List ℕ} {st st′ : State} (c : Clear wo
       cell-back work x namesAt (st .names) maxNames k (c .names) (omega (arith, namesAt-is, tableCells-is)) (λ n.
       cell-back work work′ urisAt (st .uris) maxUris k (c .uris) (omega (arith, urisAt-is, tableCells-is, l .size)) (λ u.
       l .cells k (record { uris = u; names = n; values = v })))))
+
+-- ---- all strings, or none
+
+module _ {a : Alignment} {p : Production} {stream work text work₁ text₁ : List ℕ} {st : State} {g : Content}
+    (strings : ContentRead a p stream work text st work₁ text₁ g) where
+  pub items-read : g .number ≡ 0 → ItemsRead a p stream work text st work₁ text₁ g
+  items-read z = record { outcome = strings .outcome; left = λ _. strings .left; unchanged = λ l. absurd (omega arith) }
+
+  pub items-refused : Clear work text st → tableCells ≤ length work → (g .number ≡ 0 → ⊥) → {work₂ text₂ : List ℕ}
+      → work₂ ≡ undoneWork work₁ st → text₂ ≡ undoneText text₁ st → ItemsRead a p stream work text st work₂ text₂ (refusedContent (g .number) st)
+  items-refused c room n w t =
+      record {
+        outcome = refused-outcome (strings .outcome .refused (omega arith));
+        left = λ z. absurd (n z);
+        unchanged = λ _. (w ∙ work-back c (strings .left) room, t ∙ text-back c (strings .left), refl);
+      }

@@ -1,9 +1,9 @@
 -- `read_attribute` meets its contract.
-use Rattle.read_event.proofs.Strings.{name-asks, name-refused, value-asks, attribute-read}
+use Rattle.read_items.proofs.Strings.{name-asks, name-refused, value-asks, attribute-read}
 use native.Mathlib.Omega.{arith}
 use borrow.Author.Needs.{needs}
-use Rattle.read_event.proofs.read_attribute.Statement.{statement}
-use Rattle.read_event.proofs.read_attribute.Tie as tie
+use Rattle.read_items.proofs.read_attribute.Statement.{statement}
+use Rattle.read_items.proofs.read_attribute.Tie as tie
 
 read-name-requires : tie.Need-read-name-requires
 read-name-requires c κs = name-asks (c .before .before .before .before .before .pre .0)

@@ -1,10 +1,10 @@
 -- `carried` meets its contract.
-use Rattle.read_event.specs.Content.{carriedAt}
+use Rattle.read_items.specs.Content.{carriedAt}
 use Rattle.layout.specs.Layout.{urisAt, namesAt}
 use Rattle.format.specs.Sizes.{maxUris}
 use borrow.Author.Needs.{needs}
-use Rattle.read_event.proofs.carried.Statement.{statement}
-use Rattle.read_event.proofs.carried.Tie as tie
+use Rattle.read_items.proofs.carried.Statement.{statement}
+use Rattle.read_items.proofs.carried.Tie as tie
 
 row-at-requires : tie.Need-row-at-requires
 unfolding urisAt namesAt maxUris

@@ -3,7 +3,7 @@ use Prim.Native.Nat.{ℕ, _*_, _≤_, _<_}
 use native.Mathlib.Omega.{arith}
 use native.Mathlib.Decide.{decLe}
 use mathlib.Core.Path.{_≡_, refl, sym, ap, subst, _∙_}
-use mathlib.Core.Bool.{true, false}
+use mathlib.Core.Bool.{true, false, true≢false}
 use mathlib.Core.List.{List, []}
 use mathlib.Core.Option.{none, some}
 use lib.ListN.{length}
@@ -35,11 +35,11 @@ use Rattle.read_code.specs.declared.Decoded.{Decoded}
 use Rattle.read_code.specs.Decoding.{productionIn}
 use Rattle.read_content.specs.declared.Got.{Got}
 use Rattle.read_content.specs.Content.{ReadyValue, Read, StringRead, ValueRow}
-use Rattle.read_event.specs.Content.{Left, nameIn, NameFits, NameRead, ContentFits, Held, ContentRead}
-use Rattle.read_event.specs.declared.Named.{Named}
-use Rattle.read_event.specs.declared.Content.{Content}
-use Rattle.read_event.proofs.Memory.{left-none, value-left, text-left}
-use Rattle.read_event.proofs.Names.{string-after, string-outcome}
+use Rattle.read_items.specs.Content.{Left, nameIn, NameFits, NameRead, ContentFits, Held, ContentRead}
+use Rattle.read_items.specs.declared.Named.{Named}
+use Rattle.read_items.specs.declared.Content.{Content}
+use Rattle.read_items.proofs.Memory.{left-none, value-left, text-left}
+use Rattle.read_items.proofs.Names.{string-after, string-outcome}
 
 -- ---- productions
 
@@ -79,6 +79,7 @@ module _ {a : Alignment} {stream work text : List ℕ} {st : State} {code : Deco
               kept = kept-refl (fit .ready .read .tidy);
               small = omega arith;
               row = row;
+              nameless = λ _. refl;
             })
             (fit .ready .read .place));
         left = left-none (fit .ready .clear);
@@ -157,6 +158,7 @@ module _ {a : Alignment} {stream work text work′ text′ : List ℕ} {st : Sta
           small = few-names (h .kept) (h .below);
           row = λ l u. subst (λ q. Numbered (readerMemory work′ text′) (countsOf (r .state)) (startElement q) (r .row)) (h .is)
               (start-numbered (readerMemory work′ text′) (countsOf (r .state)) (r .row) (h .below));
+          nameless = λ w. absurd (true≢false w);
         });
         left = n .left;
       })
@@ -197,6 +199,7 @@ module _ {a : Alignment} {stream work text work′ text′ : List ℕ} {st : Sta
               row = λ l u. subst (λ q. Numbered (readerMemory work₂ text₂) (countsOf (g .state)) (attribute q (x .0 .text)) (r .row))
                   (y .kept .names (r .row) (h .below) ∙ h .is)
                   (attribute-numbered (readerMemory work₂ text₂) (countsOf (g .state)) (r .row) (x .0 .text) b);
+              nameless = λ w. absurd (true≢false w);
             }
 
         pub attribute-read : ContentRead a (productionIn (readerMemory work text) code) stream work text st work₂ text₂ (anAttribute r g)
@@ -208,9 +211,9 @@ module _ {a : Alignment} {stream work text work′ text′ : List ℕ} {st : Sta
               outcome = outcome-then _ (n .outcome .read z)
                   (outcome-map (λ x. attribute (n .outcome .read z .value .0) (x .0))
                   (outcome-as (rw (← h .tables, ← h .is))
-                  (string-outcome a (tablesOf work′ text′ (r .state)) (value (nameAt (readerMemory work′ text′) (r .row))) (s .outcome) attribute-held))
+                  (string-outcome a (tablesOf work′ text′ (r .state)) (value (nameAt (readerMemory work′ text′) (r .row))) (s .by .outcome) attribute-held))
                   (λ z₂ x w. w));
-              left = value-left (n .left) (n .values) s v;
+              left = value-left (n .left) (n .values) (s .by) v;
             })
 
 -- ---- strings without a name
@@ -245,7 +248,7 @@ module _ {stream work text : List ℕ} {st : State} {code : Decoded} (fit : Cont
         (record {
           outcome = outcome-map (λ x. characters (x .0))
               (outcome-as (rw role)
-              (string-outcome a (tablesOf work text st) (value (nameAt (readerMemory work text) _)) (s .outcome) (λ z x y after. record {
+              (string-outcome a (tablesOf work text st) (value (nameAt (readerMemory work text) _)) (s .by .outcome) (λ z x y after. record {
                 places = rw (y .place, y .size);
                 fit = refl;
                 after = y .tables ∙ after ∙ rw role;
@@ -253,9 +256,10 @@ module _ {stream work text : List ℕ} {st : State} {code : Decoded} (fit : Cont
                 small = omega arith;
                 row = λ l u. characters-numbered (readerMemory work′ text′) (countsOf (g .state)) (x .0 .text)
                     (omega (arith, some-names fit (omega arith) (omega arith), y .kept .moreNames));
+                nameless = λ _. refl;
               })))
               (λ z x w. w);
-          left = value-left (left-none (fit .ready .clear)) refl s v;
+          left = value-left (left-none (fit .ready .clear)) refl (s .by) v;
         })
 
   module _ {a : Alignment} {text′ : List ℕ} {g : Got} (s : StringRead a plain tableCells 0 stream work text st work text′ g) (v : ValueRow st g) where
@@ -266,54 +270,56 @@ module _ {stream work text : List ℕ} {st : State} {code : Decoded} (fit : Cont
         rw (plain-production (readerMemory work text) code CM (rw e) refl)
         (record {
           outcome = outcome-map (λ x. comment (x .0))
-              (string-outcome a (tablesOf work text st) plain (s .outcome) (λ z x y after. record {
+              (string-outcome a (tablesOf work text st) plain (s .by .outcome) (λ z x y after. record {
                 places = rw (y .place, y .size);
                 fit = refl;
                 after = y .tables ∙ after;
                 kept = y .kept;
                 small = omega arith;
                 row = λ l u. absurd (omega arith);
+                nameless = λ _. refl;
               }))
               (λ z x w. w);
-          left = text-left (left-none (fit .ready .clear)) s v;
+          left = text-left (left-none (fit .ready .clear)) (s .by) v;
         })
 
   -- ---- an instruction
 
   module _ (e : code .kind ≡ 7) {a : Alignment} {text′ : List ℕ} {g : Got} (s : StringRead a target tableCells 0 stream work text st work text′ g) (v : ValueRow st g) where
     target-left : Left work text st work text′ (g .state)
-    target-left = text-left (left-none (fit .ready .clear)) s v
+    target-left = text-left (left-none (fit .ready .clear)) (s .by) v
 
     pub target-refused : {x y : Part} → 0 < g .number
         → ContentRead a (productionIn (readerMemory work text) code) stream work text st work text′ (aString g (Instruction x y))
     unfolding kindAt carriedName unnamed readContent
     target-refused h =
         rw (plain-production (readerMemory work text) code PI (rw e) refl)
-        (record { outcome = declined-outcome _ (s .outcome .refused h); left = target-left })
+        (record { outcome = declined-outcome _ (s .by .outcome .refused h); left = target-left })
 
     module _ (z : g .number ≡ 0) where
       pub text-asks : ReadReady stream work text′ (g .state)
-      text-asks = ready-behind fit target-left (s .outcome .is z .kept) (s .outcome .read z .inside)
+      text-asks = ready-behind fit target-left (s .by .outcome .is z .kept) (s .by .outcome .read z .inside)
 
       pub instruction-read : {text₂ : List ℕ} {h : Got} → StringRead a plain tableCells 0 stream work text′ (g .state) work text₂ h → ValueRow (g .state) h
           → ContentRead a (productionIn (readerMemory work text) code) stream work text st work text₂
           (aString h (Instruction (record { place = g .place; size = g .size }) (record { place = h .place; size = h .size })))
       unfolding kindAt carriedName unnamed readContent meaning asSpan spanOf mapEvent eventText fits fitsName kindOf nameOf kindNumber items afterItems
       instruction-read s₂ v₂ =
-          let t = s .outcome .is z in
+          let t = s .by .outcome .is z in
           rw (plain-production (readerMemory work text) code PI (rw e) refl)
           (record {
-            outcome = outcome-then _ (s .outcome .read z)
-                (outcome-map (λ x. instruction (s .outcome .read z .value .0) (x .0))
+            outcome = outcome-then _ (s .by .outcome .read z)
+                (outcome-map (λ x. instruction (s .by .outcome .read z .value .0) (x .0))
                 (outcome-as (rw (← t .tables))
-                (string-outcome a (tablesOf work text′ (g .state)) plain (s₂ .outcome) (λ z₂ x y after. record {
+                (string-outcome a (tablesOf work text′ (g .state)) plain (s₂ .by .outcome) (λ z₂ x y after. record {
                   places = rw (t .place, t .size, y .place, y .size);
                   fit = refl;
-                  after = y .tables ∙ after ∙ rw (t .tables, string-after a (tablesOf work text st) target (s .outcome .read z));
+                  after = y .tables ∙ after ∙ rw (t .tables, string-after a (tablesOf work text st) target (s .by .outcome .read z));
                   kept = kept-then (t .kept) (y .kept);
                   small = omega arith;
                   row = λ l u. absurd (omega arith);
+                  nameless = λ _. refl;
                 })))
                 (λ z₂ x w. w));
-            left = text-left target-left s₂ v₂;
+            left = text-left target-left (s₂ .by) v₂;
           })

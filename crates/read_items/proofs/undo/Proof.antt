@@ -1,12 +1,12 @@
 -- `undo` meets its contract.
-use Rattle.read_event.specs.Step.{undoneWork, undoneText}
+use Rattle.read_items.specs.Content.{undoneWork, undoneText}
 use Rattle.layout.proofs.Sizes.{tableCells-is}
 use Rattle.layout.specs.Layout.{urisAt, namesAt, valuesAt}
 use Rattle.format.specs.Sizes.{maxUris, maxNames, maxValues}
 use native.Mathlib.Omega.{arith}
 use borrow.Author.Needs.{needs}
-use Rattle.read_event.proofs.undo.Statement.{statement}
-use Rattle.read_event.proofs.undo.Tie as tie
+use Rattle.read_items.proofs.undo.Statement.{statement}
+use Rattle.read_items.proofs.undo.Tie as tie
 
 cells-from-requires : tie.Need-cells-from-requires
 cells-from-requires c κs = search needs

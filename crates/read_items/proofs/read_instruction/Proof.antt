@@ -1,9 +1,9 @@
 -- `read_instruction` meets its contract.
-use Rattle.read_event.proofs.Strings.{target-refused, text-asks, instruction-read}
+use Rattle.read_items.proofs.Strings.{target-refused, text-asks, instruction-read}
 use native.Mathlib.Omega.{arith}
 use borrow.Author.Needs.{needs}
-use Rattle.read_event.proofs.read_instruction.Statement.{statement}
-use Rattle.read_event.proofs.read_instruction.Tie as tie
+use Rattle.read_items.proofs.read_instruction.Statement.{statement}
+use Rattle.read_items.proofs.read_instruction.Tie as tie
 
 read-text-requires : tie.Need-read-text-requires
 read-text-requires c κs = c .before .before .before .before .pre .0 .ready .read

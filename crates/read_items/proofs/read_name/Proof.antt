@@ -1,9 +1,9 @@
 -- `read_name` meets its contract.
-use Rattle.read_event.proofs.Names.{carried-asks, carried-read, uri-refused, local-asks, written-read}
+use Rattle.read_items.proofs.Names.{carried-asks, carried-read, uri-refused, local-asks, written-read}
 use native.Mathlib.Omega.{arith}
 use borrow.Author.Needs.{needs}
-use Rattle.read_event.proofs.read_name.Statement.{statement}
-use Rattle.read_event.proofs.read_name.Tie as tie
+use Rattle.read_items.proofs.read_name.Statement.{statement}
+use Rattle.read_items.proofs.read_name.Tie as tie
 
 carried-requires : tie.Need-carried-requires
 carried-requires c κs = carried-asks (c .before .before .before .before .before .pre) (c .before .if1 .taken)

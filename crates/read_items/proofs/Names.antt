@@ -23,13 +23,14 @@ use Rattle.format.proofs.Content.{carried-texts}
 use Rattle.rows.specs.declared.Row.{Row}
 use Rattle.rows.specs.Rows.{rowAt, rows, textOf, selected, countOf, nthOf, nthIn}
 use Rattle.rows.proofs.Laws.{rows-at}
-use Rattle.rows.proofs.Answers.{Hit}
+use Rattle.rows.specs.Hit.{Hit}
 use Rattle.rows.proofs.Selection.{nth-of}
 use Rattle.layout.specs.Layout.{urisAt, namesAt}
 use Rattle.layout.specs.Meaning.{Memory, Counts, placedAt, uriText, nameAt, tablesIn}
 use Rattle.layout.specs.Tidy.{Tidy, Lies}
 use Rattle.layout.proofs.Sizes.{room-uris, room-names}
-use Rattle.layout.proofs.Strings.{Listed, uris-listed, names-listed}
+use Rattle.layout.specs.Listed.{Listed}
+use Rattle.layout.proofs.Strings.{uris-listed, names-listed}
 use Rattle.event.specs.Cells.{asSpan, asName}
 use Rattle.event.specs.declared.Part.{Part}
 use Rattle.state.specs.declared.State.{State}
@@ -40,9 +41,9 @@ use Rattle.outcome.proofs.Outcome.{declined-outcome, outcome-as, outcome-then, 
 use Rattle.read_code.specs.declared.Decoded.{Decoded}
 use Rattle.read_content.specs.declared.Got.{Got}
 use Rattle.read_content.specs.Content.{ReadyLocal, StringRead, UriRow, NameRow}
-use Rattle.read_event.specs.Content.{Left, CarriedFits, partOf, carriedAt, nameIn, NameFits, NameHeld, NameRead}
-use Rattle.read_event.specs.declared.Named.{Named}
-use Rattle.read_event.proofs.Memory.{left-none, uri-left, local-left}
+use Rattle.read_items.specs.Content.{Left, CarriedFits, partOf, carriedAt, nameIn, NameFits, NameHeld, NameRead}
+use Rattle.read_items.specs.declared.Named.{Named}
+use Rattle.read_items.proofs.Memory.{left-none, uri-left, local-left}
 
 -- ---- the strings of a carried name
 
@@ -166,25 +167,25 @@ module _ {a : Alignment} {stream work text work₁ text₁ : List ℕ} {st : Sta
     (fit : NameFits stream work text st code)
     (s : StringRead a uri urisAt (st .uris) stream work text st work₁ text₁ g) (u : UriRow st work₁ text₁ g) where
   uri-behind : Left work text st work₁ text₁ (g .state)
-  uri-behind = uri-left (left-none (fit .ready .clear)) refl s u
+  uri-behind = uri-left (left-none (fit .ready .clear)) refl (s .by) u
 
   pub uri-refused : {attr : Bool} {x y : Part} → code .learned ≡ false → 0 < g .number
       → NameRead a attr (nameIn (readerMemory work text) code) stream work text st work₁ text₁
       (record { number = g .number; row = 0; uri = x; local = y; state = g .state })
   unfolding nameIn readName
-  uri-refused learned h = rw learned (record { outcome = declined-outcome _ (s .outcome .refused h); left = uri-behind; values = u .values })
+  uri-refused learned h = rw learned (record { outcome = declined-outcome _ (s .by .outcome .refused h); left = uri-behind; values = u .values })
 
   module _ (z : g .number ≡ 0) where
-    uri-text : uriText (readerMemory work₁ text₁) (g .row) ≡ s .outcome .read z .value .0 .text
-    uri-text = u .is z ∙ s .outcome .is z .text-is
+    uri-text : uriText (readerMemory work₁ text₁) (g .row) ≡ s .by .outcome .read z .value .0 .text
+    uri-text = u .is z ∙ s .by .outcome .is z .text-is
 
     pub local-asks : ReadyLocal stream work₁ text₁ (g .state) (g .row) (uriText (readerMemory work₁ text₁) (g .row))
     local-asks =
-        let v = s .outcome .is z in
+        let v = s .by .outcome .is z in
         record {
           ready = record {
             size = fit .ready .read .size;
-            place = s .outcome .read z .inside;
+            place = s .by .outcome .read z .inside;
             tidy = v .kept .tidy;
             room = omega (arith, fit .ready .read .room, v .longer .size);
             zeros = v .longer .zeros;
@@ -196,17 +197,17 @@ module _ {a : Alignment} {stream work text work₁ text₁ : List ℕ} {st : Sta
     module _ {attr : Bool} {work₂ text₂ : List ℕ} {h : Got}
         (s₂ : StringRead a (local attr (uriText (readerMemory work₁ text₁) (g .row))) namesAt (g .state .names) stream work₁ text₁ (g .state) work₂ text₂ h)
         (n : NameRow (uriText (readerMemory work₁ text₁) (g .row)) (g .state) work₂ text₂ h) where
-      local-outcome : Outcome (readString a (s .outcome .read z .value .1) (local attr (s .outcome .read z .value .0 .text))) stream (g .state .at) (h .number) (h .state .at)
-          (λ y. NameHeld attr none work text st work₂ text₂ (twoStrings g h) (record { uri = s .outcome .read z .value .0; local = y .0 }, y .1))
+      local-outcome : Outcome (readString a (s .by .outcome .read z .value .1) (local attr (s .by .outcome .read z .value .0 .text))) stream (g .state .at) (h .number) (h .state .at)
+          (λ y. NameHeld attr none work text st work₂ text₂ (twoStrings g h) (record { uri = s .by .outcome .read z .value .0; local = y .0 }, y .1))
       unfolding asName asSpan mapName spanOf fitsName nameText nameItems isWildcard afterItems item
       local-outcome =
-          let x = s .outcome .is z in
+          let x = s .by .outcome .is z in
           outcome-as (rw (← x .tables, ← uri-text))
-          (string-outcome a (tablesOf work₁ text₁ (g .state)) (local attr (uriText (readerMemory work₁ text₁) (g .row))) (s₂ .outcome) (λ z₂ v y after. record {
+          (string-outcome a (tablesOf work₁ text₁ (g .state)) (local attr (uriText (readerMemory work₁ text₁) (g .row))) (s₂ .by .outcome) (λ z₂ v y after. record {
             places = rw (x .place, x .size, y .place, y .size);
             fit = refl;
             tables = y .tables;
-            after = λ k. after ∙ rw (x .tables, string-after a (tablesOf work text st) uri (s .outcome .read z), uri-text);
+            after = λ k. after ∙ rw (x .tables, string-after a (tablesOf work text st) uri (s .by .outcome .read z), uri-text);
             kept = kept-then (x .kept) (y .kept);
             below = n .below z₂;
             is = n .is z₂ ∙ rw (uri-text, y .text-is);
@@ -217,7 +218,7 @@ module _ {a : Alignment} {stream work text work₁ text₁ : List ℕ} {st : Sta
       written-read learned =
           rw learned
           (record {
-            outcome = outcome-then _ (s .outcome .read z) (outcome-map (λ y. (record { uri = s .outcome .read z .value .0; local = y .0 }, y .1)) local-outcome (λ _ y f. f));
-            left = local-left uri-behind (u .names) s₂ n;
+            outcome = outcome-then _ (s .by .outcome .read z) (outcome-map (λ y. (record { uri = s .by .outcome .read z .value .0; local = y .0 }, y .1)) local-outcome (λ _ y f. f));
+            left = local-left uri-behind (u .names) (s₂ .by) n;
             values = n .values ∙ u .values;
           })

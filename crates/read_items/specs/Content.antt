@@ -1,11 +1,11 @@
--- What the functions ask and leave that read the strings of an event, in the definitions' terms.
-use Prim.Native.Nat.{ℕ, _+_, _*_, _≤_, _<_}
+-- What reading the strings of an event asks and leaves, in the definitions' terms.
+use Prim.Native.Nat.{ℕ, _+_, _*_, _-_, _≤_, _<_}
 use mathlib.Core.Path.{_≡_}
 use mathlib.Core.Logic.{_⊎_}
-use mathlib.Core.Bool.{Bool, true, cond}
-use mathlib.Core.List.{List}
+use mathlib.Core.Bool.{Bool, true, false, cond}
+use mathlib.Core.List.{List, _++_}
 use mathlib.Core.Option.{Option, none, some}
-use lib.ListN.{length, getD}
+use lib.ListN.{length, getD, take, replicate}
 use Rattle.fields.specs.Field.{Alignment}
 use Rattle.text.specs.Text.{Text}
 use Rattle.format.specs.Event.{QName, Event, Kind, kindOf, mapName, mapEvent}
@@ -15,19 +15,20 @@ use Rattle.format.specs.Grammar.{Production, kindNumber, fitsName, fits}
 use Rattle.format.specs.Context.{nameItems, items, afterItems}
 use Rattle.format.specs.Reader.{nameText, eventText, readName, readContent}
 use Rattle.rows.specs.declared.Row.{Row}
-use Rattle.rows.specs.Rows.{Room, rowAt}
+use Rattle.rows.specs.Rows.{Room, rowAt, withRowBelow}
 use Rattle.layout.specs.Layout.{urisAt, namesAt, valuesAt}
-use Rattle.layout.specs.Meaning.{Memory, nameAt}
+use Rattle.layout.specs.Meaning.{Memory, nameAt, carries}
 use Rattle.productions.specs.Numbered.{Numbered}
 use Rattle.event.specs.Cells.{asName, meaning}
 use Rattle.event.specs.declared.Part.{Part}
+use Rattle.event.specs.declared.Event.the-variants.{StartDocument}
 use Rattle.state.specs.declared.State.{State}
 use Rattle.standing.specs.Standing.{countsOf, contextOf, Standing, Kept}
 use Rattle.outcome.specs.Outcome.{Outcome}
 use Rattle.outcome.specs.Memory.{readerMemory, tablesOf, ReadReady, Clear, Longer}
 use Rattle.read_code.specs.declared.Decoded.{Decoded}
-use Rattle.read_event.specs.declared.Named.{Named}
-use Rattle.read_event.specs.declared.Content.{Content}
+use Rattle.read_items.specs.declared.Named.{Named}
+use Rattle.read_items.specs.declared.Content.{Content}
 
 -- ---- memory
 
@@ -41,13 +42,27 @@ pub record Off (st : State) (k : ℕ) : Type 0 where
   pub names : Beside namesAt (st .names) maxNames k
   pub values : Beside valuesAt (st .values) maxValues k
 
--- What the strings of an event leave of memory, all read or one refused: the store is as it was and may be longer, behind the counts all is zero, and
--- only those rows may have changed.
+-- What strings of an event leave of memory, all read or one refused: the store is as it was up to its old end, behind the counts all is zero, and only
+-- those rows may have changed.
 pub record Left (work text : List ℕ) (st : State) (work′ text′ : List ℕ) (st′ : State) : Type 0 where
   pub longer : Longer text st text′ st′
   pub clear : Clear work′ text′ st′
   pub size : length work′ ≡ length work
   pub cells : (k : ℕ) → Off st k → getD work′ k 0 ≡ getD work k 0
+
+abbrev pub zeroRow : Row
+zeroRow = record { key = 0; place = 0; size = 0 }
+
+-- Zeros in the row behind each string table's rows.
+unfoldable pub undoneWork : List ℕ → State → List ℕ
+undoneWork work st =
+    withRowBelow maxValues
+    (withRowBelow maxNames (withRowBelow maxUris work urisAt (st .uris) zeroRow) namesAt (st .names) zeroRow)
+    valuesAt (st .values) zeroRow
+
+-- Zeros behind the store.
+unfoldable pub undoneText : List ℕ → State → List ℕ
+undoneText text st = take (st .stored) text ++ replicate (length text - st .stored) 0
 
 pub record Ready (stream work text : List ℕ) (st : State) : Type 0 where
   pub read : ReadReady stream work text st
@@ -116,8 +131,21 @@ pub record Held (p : Production) (work text : List ℕ) (st : State) (work′ te
   pub small : r .row < 65536
   pub row : 2 ≤ kindNumber (kindOf (eventText e)) → kindNumber (kindOf (eventText e)) ≤ 5
       → Numbered (readerMemory work′ text′) (countsOf (r .state)) (eventText e) (r .row)
+  pub nameless : carries (kindOf (eventText e)) ≡ false → r .row ≡ 0
 
+-- Before anything is taken back.
 pub record ContentRead (a : Alignment) (p : Production) (stream work text : List ℕ) (st : State) (work′ text′ : List ℕ) (r : Content) : Type 0 where
   pub outcome : Outcome (readContent a (tablesOf work text st) (contextOf (readerMemory work text) st .state) (p .kind) (p .qname)) stream (st .at) (r .number)
       (r .state .at) (Held p work text st work′ text′ r)
   pub left : Left work text st work′ text′ (r .state)
+
+-- A refusal, with this number.
+abbrev pub refusedContent : ℕ → State → Content
+refusedContent number st = record { number = number; row = 0; event = StartDocument; state = st }
+
+-- By the definitions' parser of an event's content. A refusal leaves everything as it was.
+pub record ItemsRead (a : Alignment) (p : Production) (stream work text : List ℕ) (st : State) (work′ text′ : List ℕ) (r : Content) : Type 0 where
+  pub outcome : Outcome (readContent a (tablesOf work text st) (contextOf (readerMemory work text) st .state) (p .kind) (p .qname)) stream (st .at) (r .number)
+      (r .state .at) (Held p work text st work′ text′ r)
+  pub left : r .number ≡ 0 → Left work text st work′ text′ (r .state)
+  pub unchanged : 0 < r .number → (work′ ≡ work) × (text′ ≡ text) × (r ≡ refusedContent (r .number) st)
