@@ -167,7 +167,7 @@ fn read_stream(
     read_events(o, stream, state::start(h.at, 99, 3, 6), events, text, work)
 }
 
-// The same, after what the lent parts and the settings are asked first.
+// First tests the lent lengths, the numbers of the settings and the length of the stream.
 fn attempt(
     s: SettingNumbers,
     stream: &[u8],
@@ -192,7 +192,7 @@ fn attempt(
     read_stream(settings::settings_of(s), stream, events, text, work)
 }
 
-// Reads the stream: the cells of its events and its text store, and zeros behind them. After a refusal every cell is zero. Work memory is zero then, too.
+// Reads the stream: the cells of its events and its text store, and zeros behind them; after a refusal zeros alone. Work memory is left zero.
 pub fn read(
     s: SettingNumbers,
     stream: &[u8],

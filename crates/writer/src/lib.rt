@@ -184,8 +184,8 @@ fn attempt(
     put_list(settings::settings_of(s), stream, events, text, work)
 }
 
-// Writes the strict form of the list that the event cells and the text store hold: the octets, and zeros behind them. After a refusal every octet is zero.
-// Work memory is zero after either.
+// Writes the strict form of the list that the event cells and the text store hold: the octets, and zeros behind them; after a refusal zeros alone.
+// Work memory is left zero.
 pub fn write(
     s: SettingNumbers,
     stream: &mut [u8],
