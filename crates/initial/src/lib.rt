@@ -34,9 +34,10 @@ pub fn lay_text(cells: &mut [u32], origin: usize)
     requires { ⌜ origin + 99 ≤ length (now cells) ⌝ }
     ensures { λ _. ⌜ now (cells .exit) ≡ withText (now (cells .entry)) origin ⌝ }
 {
+    let text = TEXT;
     let mut i: usize = 0;
     while i < 99 {
-        cells[origin + i] = wide(TEXT[i]);
+        cells[origin + i] = wide(text[i]);
         i += 1;
     }
 }

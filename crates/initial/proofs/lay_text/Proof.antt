@@ -10,10 +10,10 @@ use Rattle.initial.proofs.lay_text.Statement.{statement}
 use Rattle.initial.proofs.lay_text.Tie as tie
 
 abbrev Inv-loop : tie.InvT-loop
-Inv-loop cells₀ origin i₀ cells i = Copied cells₀ origin cells i
+Inv-loop cells₀ origin text₀ i₀ cells i = Copied cells₀ origin cells i
 
 abbrev μ-loop : tie.MeasureT-loop
-μ-loop cells₀ origin i₀ cells i = 99 - i
+μ-loop cells₀ origin text₀ i₀ cells i = 99 - i
 
 loop-holds : tie.Need-loop-holds Inv-loop μ-loop
 loop-holds c = none-copied _ _ (c .before .pre)
