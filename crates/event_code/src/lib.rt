@@ -24,21 +24,21 @@ pub enum Code {
     Three(Part, Part, Part),
 }
 
-const SD: u32 = 0;
+pub const SD: u32 = 0;
 
-const ED: u32 = 1;
+pub const ED: u32 = 1;
 
-const SE: u32 = 2;
+pub const SE: u32 = 2;
 
-const AT: u32 = 3;
+pub const AT: u32 = 3;
 
-const EE: u32 = 4;
+pub const EE: u32 = 4;
 
-const CH: u32 = 5;
+pub const CH: u32 = 5;
 
-const CM: u32 = 6;
+pub const CM: u32 = 6;
 
-const PI: u32 = 7;
+pub const PI: u32 = 7;
 
 fn number(b: bool) -> u32
     ensures { λ r. ⌜ r ≡ cond b 1 0 ⌝ }

@@ -1,11 +1,9 @@
 // The learned production that fits an event, in either memory. What the functions ask and leave is in specs/Fitting.antt.
 ghost use mathlib.Core.Path.{_≡_};
 ghost use Rattle.fitting.specs.Fitting.{NumberedFits, newerOf, NewestFits, newestOf};
+use layout::LEARNED;
 use rows::Found;
 use state::State;
-
-// Where the learned rows begin in work memory.
-const LEARNED: usize = 1968;
 
 // How many productions the innermost element has learned in this state, and the number of the one that fits.
 pub struct Newer {

@@ -49,7 +49,7 @@ eventCells = cellsPerEvent * maxEvents
 
 -- work memory of the reader, and of the writer, which has a text store in it
 unfoldable pub readerWork : ℕ
-readerWork = 8192
+readerWork = 4096
 
 unfoldable pub writerWork : ℕ
-writerWork = 24576
+writerWork = 20480

@@ -5,6 +5,8 @@ ghost use Prim.Native.Nat.{_+_, _*_, _≤_};
 ghost use lib.ListN.{length};
 ghost use Rattle.layout.specs.Layout.{tableCells};
 ghost use Rattle.initial.specs.Initial.{withText, someRows, withRows, withTables};
+use layout::NAMES;
+use layout::URIS;
 
 // The texts of the initial entries, one behind the other.
 const TEXT: [u8; 99] =
@@ -16,11 +18,6 @@ const KEYS: [u32; 9] = [0, 0, 0, 1, 1, 1, 1, 2, 2];
 const PLACES: [u32; 9] = [0, 0, 36, 77, 81, 83, 87, 92, 95];
 
 const SIZES: [u32; 9] = [0, 36, 41, 4, 2, 4, 5, 3, 4];
-
-// Where the tables of URIs and local names begin in work memory.
-const URIS: usize = 0;
-
-const NAMES: usize = 48;
 
 // A code point of the text.
 fn wide(x: u8) -> u32

@@ -6,7 +6,7 @@ use Rattle.format.specs.Sizes.{maxUris, maxNames, maxValues, maxLearned, maxGra
 use Rattle.layout.specs.Layout.{urisAt, namesAt, valuesAt, learnedAt, grammarsAt, tableCells}
 use Rattle.layout.specs.Writer.{storeAt}
 
-pub storeAt-is : storeAt ≡ 8192
+pub storeAt-is : storeAt ≡ 4096
 unfolding storeAt
 storeAt-is = refl
 

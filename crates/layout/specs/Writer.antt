@@ -5,7 +5,7 @@ use Rattle.layout.specs.Meaning.{Memory}
 
 -- Where the text store begins.
 unfoldable pub storeAt : ℕ
-storeAt = 8192
+storeAt = 4096
 
 abbrev pub writerMemory : List ℕ → Memory
 writerMemory w = record { work = w; cells = w; origin = storeAt }

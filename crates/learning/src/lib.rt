@@ -7,13 +7,10 @@ ghost use Rattle.productions.specs.Locate.{hasKey};
 ghost use Rattle.layout.specs.Layout.{grammarsAt};
 ghost use Rattle.layout.specs.Meaning.{learnedKey};
 ghost use Rattle.learning.specs.Learning.{regrown, entered, withGrammarRow, left, contentBegun, turned, withTurn, keyOf, grown, withGrowth, InElement, EnterFits, GrowFits, Teaching};
+use layout::GRAMMARS;
+use layout::LEARNED;
 use state::Stack;
 use state::State;
-
-// Where the tables begin in work memory.
-const LEARNED: usize = 1968;
-
-const GRAMMARS: usize = 3504;
 
 // Whether the tables and the open elements had room, and the state then.
 pub struct Grown {

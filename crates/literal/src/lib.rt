@@ -6,12 +6,9 @@ ghost use Prim.Native.Nat.{_+_, _≤_};
 ghost use lib.ListN.{length, take, drop};
 ghost use Rattle.format.specs.Sizes.{maxStore};
 ghost use Rattle.literal.specs.Fault.{faultNumber, stringFault};
-
-const CHARACTER: u32 = 8;
-
-const NAME: u32 = 11;
-
-const LIMIT: u32 = 12;
+use refusal::CHARACTER;
+use refusal::LIMIT;
+use refusal::NAME;
 
 // The number of the refusal for a string, or 0: the length limit, the store limit if it goes out as a literal behind `stored` code points,
 // characters, whether the name is allowed, and whether its table has a row left.

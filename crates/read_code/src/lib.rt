@@ -9,7 +9,17 @@ ghost use Rattle.read_field.specs.View.{alignmentOf, InStream, NumberIn};
 ghost use Rattle.outcome.specs.Memory.{readerMemory};
 ghost use Rattle.read_code.specs.Levels.{refusedAs, plainAs, PartRead, KeptRead, LevelRead, RowFits, RowRead, kindsIn, lower};
 ghost use Rattle.read_code.specs.Decoding.{CodeReady, CodeRead};
+use event_code::AT;
+use event_code::CH;
+use event_code::CM;
+use event_code::ED;
+use event_code::EE;
+use event_code::PI;
+use event_code::SD;
+use event_code::SE;
+use layout::LEARNED;
 use read_field::Field;
+use refusal::CODE;
 use rows::Found;
 use settings::Settings;
 use state::State;
@@ -30,28 +40,6 @@ struct Part {
     value: u32,
     next: usize,
 }
-
-// The value names no production.
-const CODE: u32 = 6;
-
-const SD: u32 = 0;
-
-const ED: u32 = 1;
-
-const SE: u32 = 2;
-
-const AT: u32 = 3;
-
-const EE: u32 = 4;
-
-const CH: u32 = 5;
-
-const CM: u32 = 6;
-
-const PI: u32 = 7;
-
-// Where the learned rows begin in work memory.
-const LEARNED: usize = 1968;
 
 fn one(b: bool) -> u32
     ensures { λ r. ⌜ r ≡ cond b 1 0 ⌝ }

@@ -15,25 +15,17 @@ ghost use Rattle.read_field.specs.View.{alignmentOf};
 ghost use Rattle.outcome.specs.Memory.{readerMemory, tablesOf, ReadReady};
 ghost use Rattle.read_content.specs.Content.{ReadyLocal, ReadyValue, StringRead, UriRow, NameRow, ValueRow, refusedGot, PartRead};
 ghost use Rattle.read_content.specs.Parts.{readAsNew, readAsHit, ReadFrom, HitFit, NewFit, LocalFrom, ValueFrom, readGot, laidState, EntryTaken, HitRead, NewRead};
+use layout::NAMES;
+use layout::URIS;
+use layout::VALUES;
 use read_field::Field;
 use read_string::Literal;
+use refusal::LIMIT;
+use refusal::LOOSE;
+use refusal::NAME;
+use refusal::REFERENCE;
 use rows::Found;
 use state::State;
-
-// Where the string tables begin in work memory.
-const URIS: usize = 0;
-
-const NAMES: usize = 48;
-
-const VALUES: usize = 432;
-
-const REFERENCE: u32 = 9;
-
-const LOOSE: u32 = 10;
-
-const NAME: u32 = 11;
-
-const LIMIT: u32 = 12;
 
 // The number of the string's refusal or 0, the row of a URI or a local name in its table or 0, where it lies, and the state behind it.
 pub struct Got {

@@ -5,13 +5,11 @@ ghost use Rattle.fitting.specs.Fitting.{NewestFits};
 ghost use Rattle.settings.specs.Meant.{settingsFrom};
 ghost use Rattle.read_event.specs.Step.{looseIn, SettleFits, settled, withSettled, StepReady, Step};
 use read_code::Decoded;
+use refusal::LIMIT;
+use refusal::LOOSE;
 use rows::Found;
 use settings::Settings;
 use state::State;
-
-const LOOSE: u32 = 10;
-
-const LIMIT: u32 = 12;
 
 // The number of the event's refusal or 0, and the state behind the event.
 pub struct Stepped {

@@ -10,16 +10,12 @@ ghost use Rattle.read_code.specs.Decoding.{productionIn};
 ghost use Rattle.read_items.specs.Content.{CarriedFits, carriedAt, nameIn, NameFits, NameRead, ContentFits, ContentRead, ItemsRead, undoneWork, undoneText};
 use event::Event;
 use event::Part;
+use layout::NAMES;
+use layout::URIS;
+use layout::VALUES;
 use read_code::Decoded;
 use read_content::Got;
 use state::State;
-
-// Where the string tables begin in work memory.
-const URIS: usize = 0;
-
-const NAMES: usize = 48;
-
-const VALUES: usize = 432;
 
 // The number of a name's refusal or 0, its row, where its two strings lie, and the state behind them; after a refusal, before the one that was refused.
 struct Named {

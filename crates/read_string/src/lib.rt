@@ -3,16 +3,14 @@
 ghost use mathlib.Core.Path.{_≡_};
 ghost use Rattle.read_string.specs.Literal.{CharactersFit, CharactersRead, LiteralFit, LiteralRead};
 use read_field::Field;
+use refusal::CHARACTER;
+use refusal::LIMIT;
 
 // The number of a refusal or 0, and the position behind the string.
 pub struct Literal {
     pub number: u32,
     pub next: usize,
 }
-
-const CHARACTER: u32 = 8;
-
-const LIMIT: u32 = 12;
 
 // Reads n code points to the store's end. Behind the store all is zero, so that clearing is undoing.
 fn read_characters(stream: &[u8], at: usize, text: &mut [u32], stored: usize, n: usize) -> Literal

@@ -68,31 +68,31 @@ fits a b c k m n e =
 
 module _ (s : SettingNumbers) (stream events text work : List ℕ) where
   abbrev short : Bool
-  short = ltb (length events) 28672 || ltb (length text) 16384 || ltb (length work) 8192
+  short = ltb (length events) 28672 || ltb (length text) 16384 || ltb (length work) 4096
 
   pub no-room : short ≡ true → {events′ text′ : List ℕ} {r : declared.ReadReply} → r ≡ refusalOf 1 0 → Attempted (answerOf s stream events text work) events text events′ text′ r
   unfolding answerOf format-reader.read enoughToRead eventCells cellsPerEvent maxEvents maxStore readerWork numberOf
-  no-room e is = attempted-refused room 0 1 0 (rw (enough (length events) (length text) (length work) 28672 16384 8192, e)) refl refl is
+  no-room e is = attempted-refused room 0 1 0 (rw (enough (length events) (length text) (length work) 28672 16384 4096, e)) refl refl is
 
   module _ (few : short ≡ false) {asked : Bool} (meant : asked ≡ meaningful (numbersOf s)) where
     pub no-meaning : not asked ≡ true → {events′ text′ : List ℕ} {r : declared.ReadReply} → r ≡ refusalOf 2 0 → Attempted (answerOf s stream events text work) events text events′ text′ r
     unfolding answerOf format-reader.read enoughToRead eventCells cellsPerEvent maxEvents maxStore readerWork numberOf
     no-meaning e is =
-        attempted-refused settings 0 2 0 (rw (enough (length events) (length text) (length work) 28672 16384 8192, few, ← meant, e)) refl refl is
+        attempted-refused settings 0 2 0 (rw (enough (length events) (length text) (length work) 28672 16384 4096, few, ← meant, e)) refl refl is
 
     module _ (fine : not asked ≡ false) where
       pub too-long : 16384 < length stream → {events′ text′ : List ℕ} {r : declared.ReadReply} → r ≡ refusalOf 3 0 → Attempted (answerOf s stream events text work) events text events′ text′ r
       unfolding answerOf format-reader.read enoughToRead eventCells cellsPerEvent maxEvents maxStore readerWork maxStream numberOf
       too-long l is =
           attempted-refused long 0 3 0
-          (rw (enough (length events) (length text) (length work) 28672 16384 8192, few, ← meant, fine, lt-leb (length stream) 16384 l)) refl refl is
+          (rw (enough (length events) (length text) (length work) 28672 16384 4096, few, ← meant, fine, lt-leb (length stream) 16384 l)) refl refl is
 
       module _ (small : length stream ≤ 16384) {events₁ text₁ work₁ : List ℕ} (e : events₁ ≡ replicate (length events) 0) (t : text₁ ≡ replicate (length text) 0)
           (w : work₁ ≡ replicate (length work) 0) where
         pub stream-asks : StreamReady stream events₁ text₁ work₁
         unfolding eventCells cellsPerEvent maxEvents maxStore readerWork maxStream
         stream-asks =
-            let (a, b, c) = fits (length events) (length text) (length work) 28672 16384 8192 few in
+            let (a, b, c) = fits (length events) (length text) (length work) 28672 16384 4096 few in
             rw (e, t, w)
             (record {
               size = small;
@@ -106,7 +106,7 @@ module _ (s : SettingNumbers) (stream events text work : List ℕ) where
 
         answer-stream : answerOf s stream events text work ≡ readStream (settingsOf (numbersOf s)) stream
         unfolding answerOf format-reader.read enoughToRead eventCells cellsPerEvent maxEvents maxStore readerWork maxStream
-        answer-stream = rw (enough (length events) (length text) (length work) 28672 16384 8192, few, ← meant, fine, le-leb (length stream) 16384 small)
+        answer-stream = rw (enough (length events) (length text) (length work) 28672 16384 4096, few, ← meant, fine, le-leb (length stream) 16384 small)
 
         pub stream-answered : {o : Settings} {events′ text′ : List ℕ} {r : declared.ReadReply} → o ≡ settingsMeant s
             → Attempted (readStream (settingsFrom o) stream) events₁ text₁ events′ text′ r → Attempted (answerOf s stream events text work) events text events′ text′ r

@@ -10,6 +10,12 @@ ghost use Rattle.format.specs.Reader.{readStream, readReply};
 ghost use Rattle.settings.specs.Meant.{settingsFrom};
 ghost use Rattle.reader.specs.Read.{OctetsReady, headerOctets, Passes, PlaceIn, RunReady, answerFrom, StreamReady, Attempted, refusalOf, answerOf, replyOf, eventsFilled, textFilled};
 use read_field::Field;
+use refusal::HEADER;
+use refusal::LIMIT;
+use refusal::LONG;
+use refusal::ROOM;
+use refusal::SETTINGS;
+use refusal::TAIL;
 use settings::SettingNumbers;
 use settings::Settings;
 use state::State;
@@ -28,18 +34,6 @@ struct Passed {
     number: u32,
     at: usize,
 }
-
-const ROOM: u32 = 1;
-
-const SETTINGS: u32 = 2;
-
-const LONG: u32 = 3;
-
-const HEADER: u32 = 4;
-
-const LIMIT: u32 = 12;
-
-const TAIL: u32 = 13;
 
 // The octets of the header (EXI 5): the cookie "$EXI", then bits 10, no options, version 1.
 const OCTETS: [u32; 5] = [36, 69, 88, 73, 128];
@@ -177,7 +171,7 @@ fn attempt(
 ) -> ReadReply
     ensures { λ r. ⌜ Attempted (answerOf s (now (stream .entry)) (now (events .entry)) (now (text .entry)) (now (work .entry))) (now (events .entry)) (now (text .entry)) (now (events .exit)) (now (text .exit)) r ⌝ }
 {
-    if (events.len() < 28672) | (text.len() < 16384) | (work.len() < 8192) {
+    if (events.len() < 28672) | (text.len() < 16384) | (work.len() < 4096) {
         return refusal(ROOM, 0);
     }
     if !settings::are_meaningful(s) {

@@ -1,6 +1,37 @@
-// The refusals' names. The definitions that the contract cites are in specs/Names.antt.
+// The refusals' numbers and names. The definitions that the contract cites are in specs/Names.antt.
 ghost use mathlib.Core.Path.{_≡_};
 ghost use Rattle.refusal.specs.Names.{nameAt};
+
+// The numbers (crates/fields/specs/Refusal.antt). Functions that answer one have it in their contract.
+pub const ROOM: u32 = 1;
+
+pub const SETTINGS: u32 = 2;
+
+pub const LONG: u32 = 3;
+
+pub const HEADER: u32 = 4;
+
+pub const ENDED: u32 = 5;
+
+pub const CODE: u32 = 6;
+
+pub const NUMBER: u32 = 7;
+
+pub const CHARACTER: u32 = 8;
+
+pub const REFERENCE: u32 = 9;
+
+pub const LOOSE: u32 = 10;
+
+pub const NAME: u32 = 11;
+
+pub const LIMIT: u32 = 12;
+
+pub const TAIL: u32 = 13;
+
+pub const SHAPE: u32 = 14;
+
+pub const PLACE: u32 = 15;
 
 // A name in ASCII, and zeros behind it.
 #[repr(C)]

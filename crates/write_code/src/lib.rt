@@ -8,14 +8,11 @@ ghost use Rattle.write_form.specs.Form.{moved};
 ghost use Rattle.fitting.specs.Fitting.{NameFound, rowOr};
 ghost use Rattle.write_code.specs.Coding.{CodeReady, Stands, Coded};
 use event_code::Code;
+use layout::NAMES;
+use layout::URIS;
 use rows::Found;
 use settings::Settings;
 use state::State;
-
-// Where the tables begin in work memory.
-const URIS: usize = 0;
-
-const NAMES: usize = 48;
 
 // Whether a production fits, and a learned one; whether it teaches one; the row of the event's name, or 0; and the state behind the code.
 pub struct Coding {

@@ -5,10 +5,8 @@ ghost use Rattle.fields.specs.Field.{unsignedBits, choiceBits};
 ghost use Rattle.read_field.specs.View.{alignmentOf};
 ghost use Rattle.write_field.specs.Written.{Put};
 ghost use Rattle.write_form.specs.Form.{HitFits, LiteralFits, Laid, EntryFits, Entered, HitSends, HitSent, EntrySends, EntrySent, TextSends, TextSent};
+use layout::STORE;
 use state::State;
-
-// Where the writer's text store begins in work memory, behind the tables.
-const STORE: usize = 8192;
 
 // What a string that was sent leaves: the number of its refusal or 0, the row of a URI or a name, and 0 for other
 // strings, and the state behind it.

@@ -20,7 +20,7 @@ use Rattle.standing.proofs.Laws.{start-standing, start-context}
 use Rattle.write_field.proofs.Written.{put-blank}
 use Rattle.writer.specs.Write.{HeaderPut, RunFits}
 
-tables-before : tableCells ≤ 8192
+tables-before : tableCells ≤ 4096
 unfolding tableCells grammarsAt learnedAt valuesAt namesAt urisAt maxUris maxNames maxValues maxLearned maxGrammars
 tables-before = omega arith
 
@@ -38,16 +38,16 @@ module _ (w : List ℕ) (room : writerWork ≤ length w) where
   unfolding writerWork
   tables-fit = omega (arith, tables-before)
 
-  pub text-fits : 8192 + 99 ≤ length (withTables w 8192)
+  pub text-fits : 4096 + 99 ≤ length (withTables w 4096)
   unfolding writerWork
-  text-fits = rw (withTables-length w 8192) (omega arith)
+  text-fits = rw (withTables-length w 4096) (omega arith)
 
-  begun : Begun (writerMemory (withText (withTables w 8192) 8192))
+  begun : Begun (writerMemory (withText (withTables w 4096) 4096))
   unfolding storeAt writerWork
-  begun = begun-inside w 8192 tables-before (omega arith)
+  begun = begun-inside w 4096 tables-before (omega arith)
 
   -- The rows are laid, then the text.
-  module _ (at : ℕ) {tables w′ : List ℕ} {st : State} (rows : tables ≡ withTables w 8192) (text : w′ ≡ withText tables 8192)
+  module _ (at : ℕ) {tables w′ : List ℕ} {st : State} (rows : tables ≡ withTables w 4096) (text : w′ ≡ withText tables 4096)
       (begins : st ≡ started at 99 3 6) where
     pub events-ask : (s : Settings) {stream mid : List ℕ} → HeaderPut s stream mid at → RunFits mid w′ st
     unfolding startCounts started
@@ -56,8 +56,8 @@ module _ (w : List ℕ) (room : writerWork ≤ length w) where
         (record {
           blank = put-blank put;
           near = omega (arith, put .next, length-unpack (headerOf s), short-header s);
-          standing = start-standing (writerMemory (withText (withTables w 8192) 8192)) at 99 3 6 (start-tidy _ begun);
-          room = rw (withText-length (withTables w 8192) 8192 text-fits, withTables-length w 8192) room;
+          standing = start-standing (writerMemory (withText (withTables w 4096) 4096)) at 99 3 6 (start-tidy _ begun);
+          room = rw (withText-length (withTables w 4096) 4096 text-fits, withTables-length w 4096) room;
           first = refl;
         })
 
@@ -67,5 +67,5 @@ module _ (w : List ℕ) (room : writerWork ≤ length w) where
         rw (text, rows, begins)
         (record {
           there = refl;
-          context = rw (start-context (writerMemory (withText (withTables w 8192) 8192)) at 99 3 6, start-tables _ begun);
+          context = rw (start-context (writerMemory (withText (withTables w 4096) 4096)) at 99 3 6, start-tables _ begun);
         })

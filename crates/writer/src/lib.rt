@@ -7,6 +7,12 @@ ghost use Rattle.settings.specs.Meant.{settingsFrom};
 ghost use Rattle.event.specs.Cells.{eventsOf};
 ghost use Rattle.writer.specs.Write.{HeaderFits, CookiePut, HeaderPut, RunFits, Ran, ListFits, ListPut, Attempted, answerOf, replyOf, filled};
 use event::Loaded;
+use layout::STORE;
+use refusal::LIMIT;
+use refusal::LONG;
+use refusal::ROOM;
+use refusal::SETTINGS;
+use refusal::SHAPE;
 use settings::SettingNumbers;
 use settings::Settings;
 use state::State;
@@ -25,19 +31,6 @@ struct Run {
     index: usize,
     at: usize,
 }
-
-const ROOM: u32 = 1;
-
-const SETTINGS: u32 = 2;
-
-const LONG: u32 = 3;
-
-const LIMIT: u32 = 12;
-
-const SHAPE: u32 = 14;
-
-// Where the text store begins in work memory.
-const STORE: usize = 8192;
 
 // The cookie "$EXI".
 fn put_cookie(stream: &mut [u8]) -> usize
@@ -166,7 +159,7 @@ fn attempt(
 ) -> WriteReply
     ensures { λ r. ⌜ Attempted (answerOf s (now (stream .entry)) (eventsOf (now (events .entry))) (now (text .entry)) (now (work .entry))) (now (stream .entry)) (now (stream .exit)) r ⌝ }
 {
-    if (stream.len() < 16384) | (work.len() < 24576) {
+    if (stream.len() < 16384) | (work.len() < 20480) {
         return WriteReply {
             number: ROOM,
             index: 0,
