@@ -89,6 +89,7 @@ module _ {s w : List ℕ} {st : State} {key : ℕ} {x : Text} {f : Found} (h : O
         → Sending a (item (value (nameAt (writerMemory w) key)) x ∷ []) s w st s′ w (sent .number) (sent .state)
     unfolding partitionsOf nameAllowed
     any-hit = hit-sent (value (nameAt (writerMemory w) key)) x (h .ready .ready) any-form refl any-count few-values
+
 -- ---- a literal
 
 -- The state with another count of values.

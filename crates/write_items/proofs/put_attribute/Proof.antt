@@ -1,11 +1,11 @@
 -- `put_attribute` meets its contract.
 use borrow.Author.Needs.{needs}
-use Rattle.write_event.proofs.Sent.{name-fits, value-fits, name-refused, value-behind}
-use Rattle.write_event.proofs.put_attribute.Statement.{statement}
-use Rattle.write_event.proofs.put_attribute.Tie as tie
+use Rattle.write_items.proofs.Sent.{value-fits, name-refused, value-behind}
+use Rattle.write_items.proofs.put_attribute.Statement.{statement}
+use Rattle.write_items.proofs.put_attribute.Tie as tie
 
 put-name-requires : tie.Need-put-name-requires
-put-name-requires c κs = name-fits (c .before .before .before .before .before .before .before .pre)
+put-name-requires c κs = c .before .before .before .before .before .before .before .pre .named
 
 same-length : tie.Need-same-length
 same-length c = search needs
@@ -14,16 +14,10 @@ same-length-2 : tie.Need-same-length-2
 same-length-2 c = search needs
 
 returns : tie.Need-returns
-returns c =
-    name-refused
-    (c .before .before .before .before .before .before .before .before .before .before .before .before .before .before .args .value .now)
-    (c .before .before .before .before .before .before .put-name .ensures .0)
-    (c .if1 .taken)
+returns c = name-refused (c .before .before .before .before .before .before .put-name .ensures .0) (c .before .before .before .before .before .before .put-name .ensures .1) (c .if1 .taken)
 
 put-value-requires : tie.Need-put-value-requires
-put-value-requires c κs =
-    let b = c .before .before .before .before .before .before .before .before .before in
-    value-fits (b .before .before .before .before .before .before .before .before .pre) (b .put-name .ensures .0) (b .put-name .ensures .1) (c .before .before .before .if1 .left)
+put-value-requires c κs = value-fits (c .before .before .before .before .before .before .before .before .before .put-name .ensures .0) (c .before .before .before .before .before .before .before .before .before .before .before .before .before .before .before .before .before .pre) (c .before .before .before .before .before .before .before .before .before .put-name .ensures .1) (c .before .before .before .if1 .left)
 
 same-length-3 : tie.Need-same-length-3
 same-length-3 c = search needs
@@ -34,7 +28,6 @@ same-length-4 c = search needs
 returns-2 : tie.Need-returns-2
 returns-2 c =
     value-behind
-    (c .before .before .before .before .before .before .before .before .before .before .before .before .before .before .before .before .before .before .before .before .before .before .before .args .value .now)
     (c .before .before .before .before .before .before .before .before .before .before .before .before .before .before .before .put-name .ensures .0)
     (c .before .before .before .before .before .before .before .before .before .before .before .before .before .before .before .put-name .ensures .1)
     (c .before .before .before .before .before .before .before .before .before .if1 .left)
