@@ -3,9 +3,9 @@ use native.Mathlib.Omega.{arith}
 use mathlib.Core.List.{[], _∷_}
 use borrow.Author.Needs.{needs}
 use Rattle.settings.specs.Meant.{settingsFrom}
-use Rattle.writer.proofs.Header.{octet-asks, header-plain, header-cookie}
-use Rattle.writer.proofs.put_header.Statement.{statement}
-use Rattle.writer.proofs.put_header.Tie as tie
+use Rattle.write_header.proofs.Header.{octet-asks, header-plain, header-cookie}
+use Rattle.write_header.proofs.put_header.Statement.{statement}
+use Rattle.write_header.proofs.put_header.Tie as tie
 
 put-cookie-requires : tie.Need-put-cookie-requires
 put-cookie-requires c κs = search needs

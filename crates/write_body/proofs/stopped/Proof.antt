@@ -1,7 +1,7 @@
 -- `stopped` meets its contract.
 use mathlib.Core.Path.{refl}
-use Rattle.writer.proofs.stopped.Statement.{statement}
-use Rattle.writer.proofs.stopped.Tie as tie
+use Rattle.write_body.proofs.stopped.Statement.{statement}
+use Rattle.write_body.proofs.stopped.Tie as tie
 
 returns : tie.Need-returns
 returns c = refl

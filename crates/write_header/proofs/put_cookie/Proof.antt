@@ -2,9 +2,9 @@
 use native.Mathlib.Omega.{arith}
 use mathlib.Core.List.{[], _∷_}
 use borrow.Author.Needs.{needs}
-use Rattle.writer.proofs.Header.{octet-first, octet-next, octet-asks}
-use Rattle.writer.proofs.put_cookie.Statement.{statement}
-use Rattle.writer.proofs.put_cookie.Tie as tie
+use Rattle.write_header.proofs.Header.{octet-first, octet-next, octet-asks}
+use Rattle.write_header.proofs.put_cookie.Statement.{statement}
+use Rattle.write_header.proofs.put_cookie.Tie as tie
 
 put-number-requires : tie.Need-put-number-requires
 put-number-requires c κs = search needs

@@ -12,7 +12,7 @@ use Rattle.format.specs.Settings.{Settings, headerOf}
 use Rattle.read_field.specs.View.{alignmentOf}
 use Rattle.write_field.specs.Written.{Put, NumberFits}
 use Rattle.write_field.proofs.Written.{put-then, put-blank}
-use Rattle.writer.specs.Write.{CookiePut, HeaderPut}
+use Rattle.write_header.specs.Header.{CookiePut, HeaderPut}
 
 -- An octet's bits.
 octet-bits : (o : ℕ) → o < 256 → numberBits (alignmentOf true) 8 o ≡ unpack (o ∷ [])

@@ -30,12 +30,12 @@ use Rattle.standing.specs.Standing.{contextOf, reached, Standing}
 use Rattle.standing.proofs.Laws.{document-state, docContent-state, docEnd-state, finished-state, startTag-state, elementContent-state}
 use Rattle.standing.proofs.Laws.{reached-standing, reached-context}
 use Rattle.literal.specs.Fault.{faultNumber}
-use Rattle.literal.proofs.Laws.{none-fault, some-fault, fault-none}
+use Rattle.literal.proofs.Laws.{none-fault, some-fault, fault-none, refusal-number}
 use Rattle.write_field.specs.Written.{Put}
 use Rattle.write_field.proofs.Written.{put-then, put-blank, put-nothing}
 use Rattle.write_event.specs.Step.{StepReady, Step, Done}
 use Rattle.write_event.specs.declared.Stepped.{Stepped}
-use Rattle.writer.specs.Write.{RunFits, Ran}
+use Rattle.write_body.specs.Body.{RunFits, Ran}
 
 -- n events, with these bits, stand before what this answer is about.
 pub shifted : ℕ → Bits → Answer Bits → Answer Bits
@@ -156,6 +156,7 @@ module _ {s : Settings} {cells : List ℕ} {store : Text} {stream₀ w₀ : List
       record {
         refused-as = λ k′ i′ e′. (cc, cc);
         accepted-as = λ bs e′. let z : _≡_ {A = ℕ} 0 1 = cc in absurd (omega arith);
+        whole = λ z. absurd (omega (arith, refusal-number k));
         few = h .few;
         near = near-end;
       }
@@ -178,6 +179,7 @@ module _ {s : Settings} {cells : List ℕ} {store : Text} {stream₀ w₀ : List
         record {
           refused-as = λ k i e. let z : _≡_ {A = ℕ} 0 1 = cc in absurd (omega arith);
           accepted-as = λ bs e. let same : h .bits ≡ bs = cc in (refl, rw (← same) (h .put));
+          whole = λ z. refl;
           few = omega arith;
           near = near-end;
         }

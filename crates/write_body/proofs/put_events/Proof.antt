@@ -8,9 +8,9 @@ use Rattle.format.specs.Sizes.{maxEvents}
 use Rattle.settings.specs.Meant.{settingsFrom}
 use Rattle.event.proofs.Laws.{whole-means, shape-means}
 use Rattle.write_field.proofs.Written.{put-length}
-use Rattle.writer.proofs.Events.{Running, running-start, ended-early, ended, too-many, cut-short, no-event, step-asks, refused-event, event-more}
-use Rattle.writer.proofs.put_events.Statement.{statement}
-use Rattle.writer.proofs.put_events.Tie as tie
+use Rattle.write_body.proofs.Events.{Running, running-start, ended-early, ended, too-many, cut-short, no-event, step-asks, refused-event, event-more}
+use Rattle.write_body.proofs.put_events.Statement.{statement}
+use Rattle.write_body.proofs.put_events.Tie as tie
 
 abbrev Inv-loop : tie.InvT-loop
 Inv-loop o stream₀ events text work₀ t₀ cell₀ stream work t cell = Running (settingsFrom o) events text stream₀ work₀ t₀ stream work t cell
