@@ -29,12 +29,13 @@ use Rattle.literal.proofs.Laws.{fault-none, some-fault, none-fault, refusal-num
 use Rattle.write_field.specs.Written.{Put}
 use Rattle.write_field.proofs.Written.{put-then, put-blank}
 use Rattle.write_form.specs.declared.Sent.{Sent}
-use Rattle.write_content.specs.Sending.{tablesOf, Wrote}
+use Rattle.sending.specs.Sending.{tablesOf, Wrote}
+use Rattle.write_items.specs.Items.{productionOf, ItemsFit, ItemsSent}
 use Rattle.learning.specs.declared.Grown.{Grown}
 use Rattle.learning.specs.Growth.{grownContext, Grows, Growth}
 use Rattle.write_code.specs.Coding.{Encoded, CodeSent}
 use Rattle.write_code.specs.declared.Coding.{Coding}
-use Rattle.write_event.specs.Step.{productionOf, StringsFit, StringsSent, Done, Step}
+use Rattle.write_event.specs.Step.{Done, Step}
 use Rattle.write_event.proofs.Fault.{fault-shape, fault-place, fault-content, fault-limit, fault-none-of}
 
 -- No event has more than three strings.
@@ -63,7 +64,7 @@ module _ {s : Settings} {w : List ℕ} {st : state.State} {ev : Event Text} {str
   unfolding contextOf contextIn
   same-tables = ap (tablesOf w) (enc .moved-is)
 
-  same-items : items (contextOf (writerMemory w) (code .state) .state) (productionOf code ev) ev
+  same-items : items (contextOf (writerMemory w) (code .state) .state) (productionOf (code .learned) ev) ev
       ≡ items (contextOf (writerMemory w) st .state) (enc .code .production) ev
   unfolding productionOf
   same-items = rw (same-context, enc .production)
@@ -73,8 +74,8 @@ module _ {s : Settings} {w : List ℕ} {st : state.State} {ev : Event Text} {str
     code-standing = subst (Standing (writerMemory w)) (sym (enc .moved-is)) (reached-standing (code .state .at) (st .events) stand)
 
     -- What the strings ask.
-    pub strings-ask : st .at ≤ 1073741824 → writerWork ≤ length w → StringsFit stream₁ w code ev
-    strings-ask near room =
+    pub items-ask : st .at ≤ 1073741824 → writerWork ≤ length w → ItemsFit stream₁ w (code .state) (code .learned) (code .row) ev
+    items-ask near room =
         record {
           ready = record { blank = put-blank (enc .put); near = omega (arith, enc .near); tidy = code-standing .tidy; room = room };
           standing = code-standing;
@@ -83,7 +84,7 @@ module _ {s : Settings} {w : List ℕ} {st : state.State} {ev : Event Text} {str
           inside = λ l u. rw (ap (λ (x : state.State). x .mode) (enc .moved-is)) (enc .inside l u);
         }
 
-  module _ {a : Alignment} {stream₂ w₂ : List ℕ} {r : Sent} (sent : StringsSent a code ev stream₁ w stream₂ w₂ r) where
+  module _ {a : Alignment} {stream₂ w₂ : List ℕ} {r : Sent} (sent : ItemsSent a (code .learned) ev stream₁ w (code .state) stream₂ w₂ r) where
     content-fault : r .number
         ≡ faultNumber (firstFailed (contentTests (contextOf (writerMemory w) st .tables)
         (items (contextOf (writerMemory w) st .state) (enc .code .production) ev)))
@@ -97,22 +98,22 @@ module _ {s : Settings} {w : List ℕ} {st : state.State} {ev : Event Text} {str
       wrote : Wrote a (items (contextOf (writerMemory w) st .state) (enc .code .production) ev) stream₁ w (code .state) stream₂ w₂ (r .state)
       wrote = subst (λ is. Wrote a is stream₁ w (code .state) stream₂ w₂ (r .state)) same-items (sent .sent .wrote zero)
 
-      strings-context : contextOf (writerMemory w₂) (r .state)
+      items-context : contextOf (writerMemory w₂) (r .state)
           ≡ record {
             state = contextOf (writerMemory w) st .state;
             tables = tablesOf w₂ (r .state);
             learned = contextOf (writerMemory w) st .learned;
             grammars = contextOf (writerMemory w) st .grammars;
           }
-      strings-context = kept-context (code-standing stand) (wrote .kept) ∙ rw same-context
+      items-context = kept-context (code-standing stand) (wrote .kept) ∙ rw same-context
 
       -- What the grammars then leave is what the event leaves.
       next-grown : grownContext (contextOf (writerMemory w₂) (r .state)) ev (code .teaches) ≡ next s (contextOf (writerMemory w) st) ev
       unfolding grownContext next afterCode after
-      next-grown = rw (strings-context, enc .is, wrote .tables, same-tables, enc .taught-is)
+      next-grown = rw (items-context, enc .is, wrote .tables, same-tables, enc .taught-is)
 
-      pub strings-grow : {kind : ℕ} → kind ≡ kindNumber (kindOf ev) → Grows (writerMemory w₂) (r .state) ev kind (code .teaches) (r .row)
-      strings-grow k =
+      pub items-grow : {kind : ℕ} → kind ≡ kindNumber (kindOf ev) → Grows (writerMemory w₂) (r .state) ev kind (code .teaches) (r .row)
+      items-grow k =
           let m = wrote .kept .sameMode ∙ ap (λ (t : state.State). t .mode) (enc .moved-is) in
           record {
             standing = kept-standing (code-standing stand) (wrote .kept);
@@ -121,7 +122,7 @@ module _ {s : Settings} {w : List ℕ} {st : state.State} {ev : Event Text} {str
             row = sent .row zero;
             inside = λ x y. rw m (enc .inside x y);
             outside = λ x. rw m (enc .outside x);
-            new = λ t. rw strings-context (enc .new t);
+            new = λ t. rw items-context (enc .new t);
             inner = λ t. rw m (enc .inner t);
             kinds = enc .kinds;
           }
@@ -167,7 +168,7 @@ module _ {s : Settings} (store : Text) (e : Event Span) {stream w stream′ w′
     place-step h = refused-step 15 t (fault-place s (contextOf (writerMemory w) st) store e (enc .code) (enc .is) h) refl
 
     module _ (h : every (inside store) (stringsOf e) ≡ true) {a : Alignment} {stream₂ w₂ : List ℕ} {r : Sent}
-        (sent : StringsSent a code (mapEvent (part store) e) stream₁ w stream₂ w₂ r) where
+        (sent : ItemsSent a (code .learned) (mapEvent (part store) e) stream₁ w (code .state) stream₂ w₂ r) where
       pub content-step : 0 < r .number → Step s store e stream w st stream′ w′ (record { number = r .number; state = t })
       content-step n = go _ refl
         where
@@ -195,7 +196,7 @@ module _ {s : Settings} (store : Text) (e : Event Span) {stream w stream′ w′
 
 pub done-step : {s : Settings} (store : Text) (e : Event Span) {stream w stream₁ stream₂ w₂ w₃ : List ℕ} {st : state.State} {code : Coding} {r : Sent} {g : Grown}
     → (enc : Encoded s (writerMemory w) st (mapEvent (part store) e) stream stream₁ code) → every (inside store) (stringsOf e) ≡ true
-    → StringsSent (s .alignment) code (mapEvent (part store) e) stream₁ w stream₂ w₂ r → Standing (writerMemory w) st → r .number ≡ 0
+    → ItemsSent (s .alignment) (code .learned) (mapEvent (part store) e) stream₁ w (code .state) stream₂ w₂ r → Standing (writerMemory w) st → r .number ≡ 0
     → Growth (writerMemory w₂) (writerMemory w₃) (r .state) (mapEvent (part store) e) (code .teaches) g → g .ok ≡ true
     → Step s store e stream w st stream₂ w₃ (record { number = 0; state = g .state })
 done-step {s} store e {w} {st} enc h sent stand zero grew f =

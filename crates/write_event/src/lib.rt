@@ -1,8 +1,7 @@
 // One event of a list, written: its code, its strings, and what it leaves in tables and grammars. What the functions ask and leave is in
 // specs/Step.antt.
 ghost use mathlib.Core.Path.{_≡_};
-ghost use mathlib.Core.Bool.{not};
-ghost use Prim.Native.Nat.{_+_, _≤_};
+ghost use Prim.Native.Nat.{_≤_};
 ghost use Rattle.text.specs.Text.{inside, part};
 ghost use Rattle.format.specs.Event.{kindOf, mapEvent, stringsOf};
 ghost use Rattle.format.specs.Grammar.{kindNumber};
@@ -10,30 +9,23 @@ ghost use Rattle.format.specs.Lists.{every};
 ghost use Rattle.event.specs.Cells.{meaning, asSpan};
 ghost use Rattle.layout.specs.Writer.{writerMemory};
 ghost use Rattle.settings.specs.Meant.{settingsFrom};
-ghost use Rattle.read_field.specs.View.{alignmentOf};
-ghost use Rattle.write_form.specs.Form.{midway};
-ghost use Rattle.write_content.specs.Sending.{Ready, ReadyName, Sending, NameRow, nameAs};
 ghost use Rattle.write_code.specs.Coding.{CodeReady, CodeSent};
-ghost use Rattle.write_event.specs.Step.{NamedCode, StringsFit, StringsSent, AttributeFit, AttributeSent, InstructionSent, StepReady, Step};
+ghost use Rattle.write_event.specs.Step.{NamedCode, StepReady, Step};
 use event::Event;
 use event::Part;
+use refusal::LIMIT;
+use refusal::PLACE;
+use refusal::SHAPE;
 use rows::Found;
 use settings::Settings;
 use state::State;
 use write_code::Coding;
-use write_form::Sent;
 
 // The number of the event's refusal or 0, and the state behind the event.
 pub struct Stepped {
     pub number: u32,
     pub state: State,
 }
-
-const LIMIT: u32 = 12;
-
-const SHAPE: u32 = 14;
-
-const PLACE: u32 = 15;
 
 fn kind_of(e: Event) -> u32
     ensures { λ r. ⌜ r ≡ kindNumber (kindOf (meaning e)) ⌝ }
@@ -140,138 +132,6 @@ fn put_event_code(
     }
 }
 
-// The name of a start element or an attribute.
-fn put_name(
-    aligned: bool,
-    stream: &mut [u8],
-    code: Coding,
-    attr: bool,
-    uri: &[u32],
-    local: &[u32],
-    work: &mut [u32],
-) -> Sent
-    requires { ⌜ ReadyName (now stream) (now work) (code .state) (code .learned) (code .row) (record { uri = now uri; local = now local }) ⌝ }
-    ensures { λ r. ⌜ Sending (alignmentOf aligned) (nameAs (not (code .learned)) attr (record { uri = now (uri .entry); local = now (local .entry) })) (now (stream .entry)) (now (work .entry)) (code .state) (now (stream .exit)) (now (work .exit)) (r .number) (r .state) ⌝ }
-    ensures { λ r. ⌜ NameRow (record { uri = now (uri .entry); local = now (local .entry) }) (now (work .exit)) r ⌝ }
-{
-    let st = code.state;
-    write_content::put_name(
-        aligned,
-        stream,
-        st,
-        attr,
-        uri,
-        local,
-        code.learned,
-        code.row,
-        work,
-    )
-}
-
-fn put_attribute(
-    aligned: bool,
-    stream: &mut [u8],
-    code: Coding,
-    uri: &[u32],
-    local: &[u32],
-    value: &[u32],
-    work: &mut [u32],
-) -> Sent
-    requires { ⌜ AttributeFit (now stream) (now work) code (record { uri = now uri; local = now local }) ⌝ }
-    ensures { λ r. ⌜ AttributeSent (alignmentOf aligned) (record { uri = now (uri .entry); local = now (local .entry) }) (now (value .entry)) code (now (stream .entry)) (now (work .entry)) (now (stream .exit)) (now (work .exit)) r ⌝ }
-{
-    let sent = put_name(aligned, stream, code, true, uri, local, work);
-    if sent.number != 0 {
-        return sent;
-    }
-    let named = sent.state;
-    let last = write_content::put_value(aligned, stream, named, sent.row, value, work);
-    let state = last.state;
-    Sent {
-        number: last.number,
-        row: sent.row,
-        state,
-    }
-}
-
-// A string that is no name has no row.
-fn bare(sent: Sent) -> Sent
-    ensures { λ r. ⌜ r ≡ record { number = sent .number; row = 0; state = sent .state } ⌝ }
-{
-    let state = sent.state;
-    Sent {
-        number: sent.number,
-        row: 0,
-        state,
-    }
-}
-
-fn put_instruction(
-    stream: &mut [u8],
-    st: State,
-    target: &[u32],
-    x: &[u32],
-    work: &mut [u32],
-) -> Sent
-    requires { ⌜ Ready (now stream) (now work) st ⌝ }
-    requires { ⌜ st .at + 65536 ≤ midway ⌝ }
-    ensures { λ r. ⌜ InstructionSent (now (target .entry)) (now (x .entry)) st (now (stream .entry)) (now (work .entry)) (now (stream .exit)) (now (work .exit)) r ⌝ }
-{
-    let sent = write_content::put_text(stream, st, true, target, work);
-    if sent.number != 0 {
-        return sent;
-    }
-    let named = sent.state;
-    write_content::put_text(stream, named, false, x, work)
-}
-
-// The strings of the event, behind its code.
-fn put_strings(
-    aligned: bool,
-    stream: &mut [u8],
-    code: Coding,
-    text: &[u32],
-    e: Event,
-    work: &mut [u32],
-) -> Sent
-    requires { ⌜ StringsFit (now stream) (now work) code (mapEvent (part (now text)) (meaning e)) ⌝ }
-    ensures { λ r. ⌜ StringsSent (alignmentOf aligned) code (mapEvent (part (now (text .entry))) (meaning e)) (now (stream .entry)) (now (work .entry)) (now (stream .exit)) (now (work .exit)) r ⌝ }
-{
-    let st = code.state;
-    match e {
-        Event::StartElement(uri, local) => {
-            let u = text::look_up(text, uri.place, uri.size);
-            let l = text::look_up(text, local.place, local.size);
-            put_name(aligned, stream, code, false, u, l, work)
-        }
-        Event::Attribute(uri, local, value) => {
-            let u = text::look_up(text, uri.place, uri.size);
-            let l = text::look_up(text, local.place, local.size);
-            let v = text::look_up(text, value.place, value.size);
-            put_attribute(aligned, stream, code, u, l, v, work)
-        }
-        Event::Characters(value) => {
-            let v = text::look_up(text, value.place, value.size);
-            let key = state::top(st.stack) as u32;
-            bare(write_content::put_value(aligned, stream, st, key, v, work))
-        }
-        Event::Comment(x) => {
-            let y = text::look_up(text, x.place, x.size);
-            bare(write_content::put_text(stream, st, false, y, work))
-        }
-        Event::Instruction(target, x) => {
-            let t = text::look_up(text, target.place, target.size);
-            let y = text::look_up(text, x.place, x.size);
-            bare(put_instruction(stream, st, t, y, work))
-        }
-        _ => Sent {
-            number: 0,
-            row: 0,
-            state: st,
-        },
-    }
-}
-
 // Writes one event behind the state.
 pub fn step(
     o: Settings,
@@ -297,7 +157,17 @@ pub fn step(
             state: st,
         };
     }
-    let sent = put_strings(o.aligned, stream, code, text, e, work);
+    let coded = code.state;
+    let sent = write_items::put_items(
+        o.aligned,
+        stream,
+        coded,
+        text,
+        e,
+        code.learned,
+        code.row,
+        work,
+    );
     if sent.number != 0 {
         return Stepped {
             number: sent.number,

@@ -25,9 +25,11 @@ use Rattle.settings.specs.declared.Settings.{Settings}
 use Rattle.literal.proofs.Laws.{refusal-number}
 use Rattle.write_field.specs.Written.{Put}
 use Rattle.write_field.proofs.Written.{zeros-blank, put-then}
-use Rattle.writer.specs.declared.Run.{Run}
+use Rattle.write_header.specs.Header.{HeaderPut}
+use Rattle.write_body.specs.Body.{Ran}
+use Rattle.write_body.specs.declared.Run.{Run}
 use Rattle.writer.specs.declared.WriteReply as declared
-use Rattle.writer.specs.Write.{answerOf, replyOf, filled, Attempted, ListFits, ListPut, HeaderPut, Ran}
+use Rattle.writer.specs.Write.{answerOf, replyOf, filled, Attempted, ListFits, ListPut}
 use Rattle.writer.proofs.Octets.{pack-length, put-packed}
 use Rattle.writer.proofs.Start.{Begins}
 

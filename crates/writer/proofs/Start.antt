@@ -18,7 +18,8 @@ use Rattle.state.specs.Stack.{started}
 use Rattle.standing.specs.Standing.{contextOf}
 use Rattle.standing.proofs.Laws.{start-standing, start-context}
 use Rattle.write_field.proofs.Written.{put-blank}
-use Rattle.writer.specs.Write.{HeaderPut, RunFits}
+use Rattle.write_header.specs.Header.{HeaderPut}
+use Rattle.write_body.specs.Body.{RunFits}
 
 tables-before : tableCells ≤ 4096
 unfolding tableCells grammarsAt learnedAt valuesAt namesAt urisAt maxUris maxNames maxValues maxLearned maxGrammars

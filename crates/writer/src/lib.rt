@@ -5,17 +5,13 @@ ghost use lib.ListN.{length, replicate};
 ghost use Rattle.format.specs.Writer.{writeReply};
 ghost use Rattle.settings.specs.Meant.{settingsFrom};
 ghost use Rattle.event.specs.Cells.{eventsOf};
-ghost use Rattle.writer.specs.Write.{HeaderFits, CookiePut, HeaderPut, RunFits, Ran, ListFits, ListPut, Attempted, answerOf, replyOf, filled};
-use event::Loaded;
+ghost use Rattle.writer.specs.Write.{ListFits, ListPut, Attempted, answerOf, replyOf, filled};
 use layout::STORE;
-use refusal::LIMIT;
 use refusal::LONG;
 use refusal::ROOM;
 use refusal::SETTINGS;
-use refusal::SHAPE;
 use settings::SettingNumbers;
 use settings::Settings;
-use state::State;
 
 // The number of the refusal or 0, the index of the event concerned, and the count of octets.
 #[repr(C)]
@@ -23,93 +19,6 @@ pub struct WriteReply {
     pub number: u32,
     pub index: u32,
     pub octets: u32,
-}
-
-// A list that was gone through: the number and index of its refusal, or 0, and the position behind its bits.
-struct Run {
-    number: u32,
-    index: usize,
-    at: usize,
-}
-
-// The cookie "$EXI".
-fn put_cookie(stream: &mut [u8]) -> usize
-    requires { ⌜ HeaderFits (now stream) ⌝ }
-    ensures { λ r. ⌜ CookiePut (now (stream .entry)) (now (stream .exit)) r ⌝ }
-{
-    let first = write_field::put_number(true, stream, 0, 8, 0x24);
-    let second = write_field::put_number(true, stream, first, 8, 0x45);
-    let third = write_field::put_number(true, stream, second, 8, 0x58);
-    write_field::put_number(true, stream, third, 8, 0x49)
-}
-
-// The header (EXI 5): the cookie if set, then bits 10, no options, version 1.
-fn put_header(o: Settings, stream: &mut [u8]) -> usize
-    requires { ⌜ HeaderFits (now stream) ⌝ }
-    ensures { λ r. ⌜ HeaderPut (settingsFrom o) (now (stream .entry)) (now (stream .exit)) r ⌝ }
-{
-    if o.cookie {
-        let at = put_cookie(stream);
-        return write_field::put_number(true, stream, at, 8, 0x80);
-    }
-    write_field::put_number(true, stream, 0, 8, 0x80)
-}
-
-// A refusal of the event that comes next.
-fn stopped(number: u32, t: State) -> Run
-    ensures { λ r. ⌜ r ≡ record { number = number; index = t .events; at = t .at } ⌝ }
-{
-    Run {
-        number,
-        index: t.events,
-        at: t.at,
-    }
-}
-
-// The events, one behind the other.
-fn put_events(
-    o: Settings,
-    stream: &mut [u8],
-    st: State,
-    events: &[u32],
-    text: &[u32],
-    work: &mut [u32],
-) -> Run
-    requires { ⌜ RunFits (now stream) (now work) st ⌝ }
-    ensures { λ r. ⌜ Ran (settingsFrom o) (eventsOf (now (events .entry))) (now (text .entry)) (now (stream .entry)) (now (work .entry)) st (now (stream .exit)) r ⌝ }
-{
-    let mut t = st;
-    let mut cell: usize = 0;
-    while cell < events.len() {
-        if t.events == 4096 {
-            return stopped(LIMIT, t);
-        }
-        if events.len() - cell < 7 {
-            return stopped(SHAPE, t);
-        }
-        match event::load(events, cell) {
-            Loaded::Shape => {
-                return stopped(SHAPE, t);
-            }
-            Loaded::Whole(e) => {
-                let r = write_event::step(o, stream, t, text, e, work);
-                if r.number != 0 {
-                    return stopped(r.number, t);
-                }
-                t = r.state;
-                t.events += 1;
-            }
-        }
-        cell += 7;
-    }
-    if t.mode != 3 {
-        return stopped(SHAPE, t);
-    }
-    Run {
-        number: 0,
-        index: 0,
-        at: t.at,
-    }
 }
 
 // The header and the events, with the initial entries in tables and store. LONG comes last.
@@ -123,10 +32,10 @@ fn put_list(
     requires { ⌜ ListFits (now stream) (now work) ⌝ }
     ensures { λ r. ⌜ ListPut (settingsFrom o) (eventsOf (now (events .entry))) (now (text .entry)) (now (stream .entry)) (now (stream .exit)) r ⌝ }
 {
-    let at = put_header(o, stream);
+    let at = write_header::put_header(o, stream);
     initial::lay_rows(work, STORE as u32);
     initial::lay_text(work, STORE);
-    let run = put_events(o, stream, state::start(at, 99, 3, 6), events, text, work);
+    let run = write_body::put_events(o, stream, state::start(at, 99, 3, 6), events, text, work);
     if run.number != 0 {
         return WriteReply {
             number: run.number,

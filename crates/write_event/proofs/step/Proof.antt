@@ -1,18 +1,20 @@
 -- `step` meets its contract.
+use native.Mathlib.Omega.{arith}
 use mathlib.Core.Path.{sym, ap, _∙_}
-use Rattle.format.specs.Grammar.{kindNumber}
-use Rattle.write_event.proofs.Events.{same-kind}
-use Rattle.write_event.proofs.Assembly.{shape-step, place-step, content-step, limit-step, done-step, strings-ask, strings-grow}
+use borrow.Author.Tests.{not-true, not-false}
+use borrow.Author.Needs.{needs}
 use Rattle.learning.proofs.Growth.{grow-writer, grow-asks}
 use Rattle.settings.specs.Meant.{settingsFrom}
-use borrow.Author.Tests.{not-true, not-false}
-use native.Mathlib.Omega.{arith}
-use borrow.Author.Needs.{needs}
+use Rattle.format.specs.Grammar.{kindNumber}
+use Rattle.write_event.proofs.Assembly.{shape-step, place-step, content-step, limit-step, done-step, items-ask, items-grow}
+use Rattle.write_event.proofs.Events.{same-kind}
 use Rattle.write_event.proofs.step.Statement.{statement}
 use Rattle.write_event.proofs.step.Tie as tie
 
 put-event-code-requires : tie.Need-put-event-code-requires
-put-event-code-requires c κs = record { blank = c .before .before .before .before .before .pre .blank; near = omega (arith, c .before .before .before .before .before .pre .near); standing = c .before .before .before .before .before .pre .standing }
+put-event-code-requires c κs =
+    let start = c .before .before .before .before .before in
+    record { blank = start .pre .blank; near = omega (arith, start .pre .near); standing = start .pre .standing }
 
 same-length : tie.Need-same-length
 same-length c = search needs
@@ -33,10 +35,17 @@ same-length-4 : tie.Need-same-length-4
 same-length-4 c = search needs
 
 returns-2 : tie.Need-returns-2
-returns-2 c = place-step _ _ ((c .before .before .before .before .before .before .put-event-code .ensures) .encoded (not-false _ (c .before .before .if1 .left))) _ (sym (c .before .all-inside .ensures) ∙ not-true _ (c .if2 .taken))
+returns-2 c =
+    let coded = c .before .before in
+    place-step _ _ (coded .before .before .before .before .put-event-code .ensures .encoded (not-false _ (coded .if1 .left))) _
+    (sym (c .before .all-inside .ensures) ∙ not-true _ (c .if2 .taken))
 
-put-strings-requires : tie.Need-put-strings-requires
-put-strings-requires c κs = strings-ask ((c .before .before .before .before .before .before .before .before .put-event-code .ensures) .encoded (not-false _ (c .before .before .before .before .if1 .left))) (c .before .before .before .before .before .before .before .before .before .before .before .before .before .before .pre .standing) (c .before .before .before .before .before .before .before .before .before .before .before .before .before .before .pre .near) (c .before .before .before .before .before .before .before .before .before .before .before .before .before .before .pre .room)
+put-items-requires : tie.Need-put-items-requires
+put-items-requires c κs =
+    let coded = c .before .before .before .before .before in
+    let code = coded .before .before .before .before in
+    let start = code .before .before .before .before .before .before in
+    items-ask (code .put-event-code .ensures .encoded (not-false _ (coded .if1 .left))) (start .pre .standing) (start .pre .near) (start .pre .room)
 
 same-length-5 : tie.Need-same-length-5
 same-length-5 c = search needs
@@ -45,32 +54,65 @@ same-length-6 : tie.Need-same-length-6
 same-length-6 c = search needs
 
 returns-3 : tie.Need-returns-3
-returns-3 c = content-step _ _ ((c .before .before .before .before .before .before .before .before .before .before .before .before .before .before .before .put-event-code .ensures) .encoded (not-false _ (c .before .before .before .before .before .before .before .before .before .before .before .if1 .left))) _ (sym (c .before .before .before .before .before .before .before .before .before .before .all-inside .ensures) ∙ not-false _ (c .before .before .before .before .before .before .before .before .before .if2 .left)) (c .before .before .before .before .before .before .put-strings .ensures) (omega (arith, c .if3 .taken))
+returns-3 c =
+    let inside = c .before .before .before .before .before .before .before .before .before .before in
+    let coded = inside .before .before in
+    content-step _ _ (coded .before .before .before .before .put-event-code .ensures .encoded (not-false _ (coded .if1 .left))) _
+    (sym (inside .before .all-inside .ensures) ∙ not-false _ (inside .if2 .left)) (c .before .before .before .before .before .before .put-items .ensures) (omega (arith, c .if3 .taken))
 
 kind-of-requires : tie.Need-kind-of-requires
 kind-of-requires c κs = search needs
 
 grow-requires : tie.Need-grow-requires
-grow-requires c κs = grow-asks (strings-grow ((c .before .before .before .before .before .before .before .before .before .before .before .before .before .before .before .before .before .before .put-event-code .ensures) .encoded (not-false _ (c .before .before .before .before .before .before .before .before .before .before .before .before .before .before .if1 .left))) (c .before .before .before .before .before .before .before .before .before .put-strings .ensures) (c .before .before .before .before .before .before .before .before .before .before .before .before .before .before .before .before .before .before .before .before .before .before .before .before .pre .standing) (omega (arith, c .before .before .before .if3 .left)) (c .before .kind-of .ensures ∙ sym (ap kindNumber (same-kind _ _))))
+grow-requires c κs =
+    let sent = c .before .before .before .before .before .before .before .before .before in
+    let coded = sent .before .before .before .before .before .before in
+    let code = coded .before .before .before .before in
+    grow-asks (items-grow (code .put-event-code .ensures .encoded (not-false _ (coded .if1 .left))) (sent .put-items .ensures) (code .before .before .before .before .before .before .pre .standing)
+    (c .before .before .before .if3 .left) (c .before .kind-of .ensures ∙ sym (ap kindNumber (same-kind _ _))))
 
 same-length-7 : tie.Need-same-length-7
-same-length-7 c = c .before .before .before .before .before .before .before .before .before .before .before .before .before .before .put-strings .kept .1 .0 ∙ c .before .before .before .before .before .before .before .before .before .before .before .before .before .before .before .before .before .before .before .before .before .before .before .put-event-code .kept .1 .0
+same-length-7 c = let sent = c .before .before .before .before .before .before .before .before .before .before .before .before .before .before in sent .put-items .kept .1 .0 ∙ sent .before .before .before .before .before .before .before .before .before .before .put-event-code .kept .1 .0
 
 same-length-8 : tie.Need-same-length-8
 same-length-8 c = search needs
 
 returns-4 : tie.Need-returns-4
-returns-4 c = limit-step _ _ ((c .before .before .before .before .before .before .before .before .before .before .before .before .before .before .before .before .before .before .before .before .before .before .before .put-event-code .ensures) .encoded (not-false _ (c .before .before .before .before .before .before .before .before .before .before .before .before .before .before .before .before .before .before .before .if1 .left))) _ (sym (c .before .before .before .before .before .before .before .before .before .before .before .before .before .before .before .before .before .before .all-inside .ensures) ∙ not-false _ (c .before .before .before .before .before .before .before .before .before .before .before .before .before .before .before .before .before .if2 .left)) (c .before .before .before .before .before .before .before .before .before .before .before .before .before .before .put-strings .ensures) (c .before .before .before .before .before .before .before .before .before .before .before .before .before .before .before .before .before .before .before .before .before .before .before .before .before .before .before .before .before .pre .standing) (omega (arith, c .before .before .before .before .before .before .before .before .if3 .left)) (grow-writer (strings-grow ((c .before .before .before .before .before .before .before .before .before .before .before .before .before .before .before .before .before .before .before .before .before .before .before .put-event-code .ensures) .encoded (not-false _ (c .before .before .before .before .before .before .before .before .before .before .before .before .before .before .before .before .before .before .before .if1 .left))) (c .before .before .before .before .before .before .before .before .before .before .before .before .before .before .put-strings .ensures) (c .before .before .before .before .before .before .before .before .before .before .before .before .before .before .before .before .before .before .before .before .before .before .before .before .before .before .before .before .before .pre .standing) (omega (arith, c .before .before .before .before .before .before .before .before .if3 .left)) (c .before .before .before .before .before .before .kind-of .ensures ∙ sym (ap kindNumber (same-kind _ _)))) (c .before .before .before .before .grow .ensures .0) (c .before .before .before .before .grow .ensures .1)) (not-true _ (c .if4 .taken))
+returns-4 c =
+    let grown = c .before .before .before .before in
+    let whole = grown .before .before .before .before in
+    let sent = whole .before .before .before .before .before .before in
+    let inside = sent .before .before .before .before in
+    let coded = inside .before .before in
+    let code = coded .before .before .before .before in
+    let stand = code .before .before .before .before .before .before .pre .standing in
+    let enc = code .put-event-code .ensures .encoded (not-false _ (coded .if1 .left)) in
+    limit-step _ _ enc _ (sym (inside .before .all-inside .ensures) ∙ not-false _ (inside .if2 .left)) (sent .put-items .ensures) stand (whole .if3 .left)
+    (grow-writer (items-grow enc (sent .put-items .ensures) stand (whole .if3 .left) (grown .before .before .kind-of .ensures ∙ sym (ap kindNumber (same-kind _ _))))
+    (grown .grow .ensures .0) (grown .grow .ensures .1))
+    (not-true _ (c .if4 .taken))
 
 same-length-9 : tie.Need-same-length-9
-same-length-9 c = c .before .before .before .before .before .before .before .before .before .before .before .before .before .before .before .put-strings .kept .1 .0 ∙ c .before .before .before .before .before .before .before .before .before .before .before .before .before .before .before .before .before .before .before .before .before .before .before .before .put-event-code .kept .1 .0
+same-length-9 c = let sent = c .before .before .before .before .before .before .before .before .before .before .before .before .before .before .before in sent .put-items .kept .1 .0 ∙ sent .before .before .before .before .before .before .before .before .before .before .put-event-code .kept .1 .0
 
 same-length-10 : tie.Need-same-length-10
 same-length-10 c = search needs
 
 returns-5 : tie.Need-returns-5
 unfolding settingsFrom
-returns-5 c = done-step _ _ ((c .before .before .before .before .before .before .before .before .before .before .before .before .before .before .before .before .before .before .before .before .before .before .before .before .put-event-code .ensures) .encoded (not-false _ (c .before .before .before .before .before .before .before .before .before .before .before .before .before .before .before .before .before .before .before .before .if1 .left))) (sym (c .before .before .before .before .before .before .before .before .before .before .before .before .before .before .before .before .before .before .before .all-inside .ensures) ∙ not-false _ (c .before .before .before .before .before .before .before .before .before .before .before .before .before .before .before .before .before .before .if2 .left)) (c .before .before .before .before .before .before .before .before .before .before .before .before .before .before .before .put-strings .ensures) (c .before .before .before .before .before .before .before .before .before .before .before .before .before .before .before .before .before .before .before .before .before .before .before .before .before .before .before .before .before .before .pre .standing) (omega (arith, c .before .before .before .before .before .before .before .before .before .if3 .left)) (grow-writer (strings-grow ((c .before .before .before .before .before .before .before .before .before .before .before .before .before .before .before .before .before .before .before .before .before .before .before .before .put-event-code .ensures) .encoded (not-false _ (c .before .before .before .before .before .before .before .before .before .before .before .before .before .before .before .before .before .before .before .before .if1 .left))) (c .before .before .before .before .before .before .before .before .before .before .before .before .before .before .before .put-strings .ensures) (c .before .before .before .before .before .before .before .before .before .before .before .before .before .before .before .before .before .before .before .before .before .before .before .before .before .before .before .before .before .before .pre .standing) (omega (arith, c .before .before .before .before .before .before .before .before .before .if3 .left)) (c .before .before .before .before .before .before .before .kind-of .ensures ∙ sym (ap kindNumber (same-kind _ _)))) (c .before .before .before .before .before .grow .ensures .0) (c .before .before .before .before .before .grow .ensures .1)) (not-false _ (c .before .if4 .left))
+returns-5 c =
+    let grown = c .before .before .before .before .before in
+    let whole = grown .before .before .before .before in
+    let sent = whole .before .before .before .before .before .before in
+    let inside = sent .before .before .before .before in
+    let coded = inside .before .before in
+    let code = coded .before .before .before .before in
+    let stand = code .before .before .before .before .before .before .pre .standing in
+    let enc = code .put-event-code .ensures .encoded (not-false _ (coded .if1 .left)) in
+    done-step _ _ enc (sym (inside .before .all-inside .ensures) ∙ not-false _ (inside .if2 .left)) (sent .put-items .ensures) stand (whole .if3 .left)
+    (grow-writer (items-grow enc (sent .put-items .ensures) stand (whole .if3 .left) (grown .before .before .kind-of .ensures ∙ sym (ap kindNumber (same-kind _ _))))
+    (grown .grow .ensures .0) (grown .grow .ensures .1))
+    (not-false _ (c .before .if4 .left))
 
 pub step-spec : {M : Type 1} → statement M
 step-spec =
@@ -84,7 +126,7 @@ step-spec =
     same-length-3
     same-length-4
     returns-2
-    put-strings-requires
+    put-items-requires
     same-length-5
     same-length-6
     returns-3

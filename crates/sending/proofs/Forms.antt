@@ -1,0 +1,220 @@
+-- A single string by the form that it takes: a hit leaves the tables as they were, a literal is added to them.
+use Prim.Native.Nat.{ℕ, _+_, _≤_}
+use native.Mathlib.Omega.{arith}
+use mathlib.Core.Path.{_≡_, refl, sym, ap, _∙_}
+use mathlib.Core.Bool.{Bool, true, false}
+use mathlib.Core.List.{List, [], _∷_}
+use lib.ListN.{length, getD, length-append}
+use lib.Dec.{eqb}
+use borrow.Author.Tests.{eqb-true, eqb-false}
+use Rattle.fields.proofs.Tests.{split}
+use Rattle.fields.specs.Field.{Alignment, unsignedBits, choiceBits}
+use Rattle.text.specs.Text.{Text}
+use Rattle.format.specs.Sizes.{maxStore}
+use Rattle.format.specs.Tables.{Placed, Tables, Role, literals, partitionsOf, hit, literal, formOf, formBits, added, tablesAfter, nameAllowed}
+use Rattle.format.specs.Context.{Item, item, afterItem}
+use Rattle.format.specs.Strict.{itemBits}
+use Rattle.format.specs.Lists.{withinTables}
+use Rattle.layout.specs.Writer.{writerMemory}
+use Rattle.layout.specs.Tidy.{Tidy}
+use Rattle.layout.proofs.Sizes.{length-text, within-tables}
+use Rattle.layout.proofs.Adding.{After, countsAfter}
+use Rattle.state.specs.declared.State.{State}
+use Rattle.standing.specs.Standing.{countsOf, Kept}
+use Rattle.literal.specs.Fault.{faultNumber, stringFault}
+use Rattle.literal.proofs.Laws.{fault-kept, fault-added, Passed}
+use Rattle.write_field.specs.Written.{Put}
+use Rattle.write_field.proofs.Lengths.{unsigned-length, choice-length}
+use Rattle.write_form.specs.Form.{moved, HitSent, EntrySent, TextSent}
+use Rattle.write_form.specs.declared.Sent.{Sent}
+use Rattle.write_form.proofs.Laws.{sound}
+use Rattle.sending.specs.Sending.{tablesOf, Ready, Wrote, Sending, Unmoved, Rowless}
+use Rattle.sending.proofs.Items.{one-fault, one-bits, one-after}
+
+-- The state at another position, with other counts.
+abbrev pub recounted : State → (at stored uris names values : ℕ) → State
+recounted st at stored uris names values =
+    record {
+      at = at;
+      events = st .events;
+      stored = stored;
+      uris = uris;
+      names = names;
+      values = values;
+      learned = st .learned;
+      grammars = st .grammars;
+      mode = st .mode;
+      stack = st .stack;
+    }
+
+-- ---- a refusal
+
+-- Of a refusal's octets, work memory and state nothing is said.
+pub refused-sending : {a : Alignment} {is : List Item} {s w s′ w′ s″ w″ : List ℕ} {st st′ st″ : State} {n : ℕ} → (n ≡ 0 → ⊥)
+    → Sending a is s w st s′ w′ n st′ → Sending a is s w st s″ w″ n st″
+refused-sending refused f = record { fault = f .fault; wrote = λ z. absurd (refused z) }
+
+-- What write_form leaves then.
+module _ {x : Text} {allowed : Bool} {s s′ : List ℕ} {st : State} {sent : Sent} where
+  pub hit-unmoved : {a : Alignment} {j among i row : ℕ} → HitSent a x allowed j among i row s st s′ sent → Unmoved st sent
+  hit-unmoved f = record { row = λ l. f .refused l .0; state = λ l. f .refused l .1 }
+
+  pub hit-rowless : {a : Alignment} {j among i : ℕ} → HitSent a x allowed j among i 0 s st s′ sent → Rowless st sent
+  hit-rowless f =
+      record {
+        row = split (eqb (sent .number) 0)
+            (λ e. f .done (eqb-true (sent .number) 0 e) .row-is)
+            (λ e. let some = eqb-false (sent .number) 0 e in f .refused (omega arith) .0);
+        state = λ l. f .refused l .1;
+      }
+
+  module _ {w w′ : List ℕ} where
+    pub entry-unmoved : {raised base n most key : ℕ} → EntrySent raised x allowed base n most key s w st s′ w′ sent → Unmoved st sent
+    entry-unmoved f = record { row = λ l. f .refused l .0; state = λ l. f .refused l .1 }
+
+    pub text-rowless : {raised : ℕ} → TextSent raised x allowed s w st s′ w′ sent → Rowless st sent
+    text-rowless f = record { row = f .row; state = λ l. f .refused l .0 }
+
+-- ---- a hit
+
+module _ (t : Tables) (r : Role) (x : Text) {j i : ℕ} (e : formOf (partitionsOf t r) x ≡ hit j i) where
+  hit-after : afterItem t (item r x) ≡ t
+  unfolding afterItem item tablesAfter
+  hit-after = rw e
+
+  hit-bits : (a : Alignment) → itemBits a t (item r x) ≡ formBits a (partitionsOf t r) (hit j i) x
+  unfolding itemBits item
+  hit-bits a = rw e
+
+-- The hit is written, and only the position moves.
+pub record HitPut (a : Alignment) (r : Role) (x : Text) (j i : ℕ) (s w : List ℕ) (st : State) (s′ : List ℕ) (st′ : State) : Type 0 where
+  pub put : Put s (st .at) (formBits a (partitionsOf (tablesOf w st) r) (hit j i) x) s′ (st′ .at)
+  pub near : st′ .at ≤ st .at + 65536
+  pub state : st′ ≡ moved st (st′ .at) (st .stored)
+
+kept-moved : {w : List ℕ} {st : State} (at : ℕ) → Tidy (writerMemory w) (countsOf st)
+    → Kept (writerMemory w) st (writerMemory w) (moved st at (st .stored))
+kept-moved at t =
+    record {
+      tidy = t;
+      size = refl;
+      uris = λ u b. refl;
+      names = λ n b. refl;
+      learned = refl;
+      grammars = refl;
+      moreUris = omega arith;
+      moreNames = omega arith;
+      sameEvents = refl;
+      sameLearned = refl;
+      sameGrammars = refl;
+      sameMode = refl;
+      sameStack = refl;
+    }
+
+module _ {a : Alignment} {s w s′ : List ℕ} {st st′ : State} {j i : ℕ} (r : Role) (x : Text) (h : Ready s w st)
+    (e : formOf (partitionsOf (tablesOf w st) r) x ≡ hit j i) where
+  hit-wrote : HitPut a r x j i s w st s′ st′ → Wrote a (item r x ∷ []) s w st s′ w st′
+  hit-wrote p =
+      let t : Tables = tablesOf w st in
+      record {
+        put = rw (one-bits t (item r x) a, hit-bits t r x e a) (p .put);
+        near = p .near;
+        tables = ap (tablesOf w) (p .state) ∙ sym (one-after t (item r x) ∙ hit-after t r x e);
+        kept = rw (p .state) (kept-moved (st′ .at) (h .tidy));
+      }
+
+  pub hit-sending : {n : ℕ} → n ≡ faultNumber (stringFault x false (st .stored) (nameAllowed r x) true)
+      → (n ≡ 0 → HitPut a r x j i s w st s′ st′) → Sending a (item r x ∷ []) s w st s′ w n st′
+  unfolding item
+  hit-sending f p =
+      let t : Tables = tablesOf w st in
+      record {
+        fault = f ∙ rw (
+          one-fault t (item r x),
+          fault-kept t (item r x) (within-tables (h .tidy .sized)) (hit-after t r x e),
+          length-text (writerMemory w) (countsOf st) (h .tidy .sized),
+        );
+        wrote = λ z. hit-wrote (p z);
+      }
+
+-- A hit as write_form sends it, in partition j of those that are optimized for literals.
+pub hit-sent : {a : Alignment} {s w s′ : List ℕ} {st : State} {sent : Sent} {j i among row : ℕ} {ess : List (List Placed)} (r : Role) (x : Text)
+    → Ready s w st → formOf (partitionsOf (tablesOf w st) r) x ≡ hit j i → partitionsOf (tablesOf w st) r ≡ literals ess
+    → length (getD ess j []) ≡ among → among ≤ 65536 → HitSent a x (nameAllowed r x) j among i row s st s′ sent
+    → Sending a (item r x ∷ []) s w st s′ w (sent .number) (sent .state)
+unfolding formBits
+hit-sent {a} {j} {i} {among} r x h e p l few f =
+    hit-sending r x h e (f .fault) (λ z.
+    let done = f .done z in
+    record {
+      put = rw (p, l) (done .put);
+      near = omega (arith, done .put .next, length-append (unsignedBits j) (choiceBits a among i), unsigned-length j, choice-length a among i few);
+      state = done .state;
+    })
+
+-- ---- a literal
+
+module _ (t : Tables) (r : Role) (x : Text) (e : formOf (partitionsOf t r) x ≡ literal) where
+  literal-after : afterItem t (item r x) ≡ added t r x
+  unfolding afterItem item tablesAfter
+  literal-after = rw e
+
+  literal-bits : (a : Alignment) → itemBits a t (item r x) ≡ formBits a (partitionsOf t r) literal x
+  unfolding itemBits item
+  literal-bits a = rw e
+
+-- The literal is written and joins, so that the counts are these.
+pub record LiteralPut (a : Alignment) (r : Role) (x : Text) (u n v : ℕ) (s w : List ℕ) (st : State) (s′ w′ : List ℕ) (st′ : State) : Type 0 where
+  pub put : Put s (st .at) (formBits a (partitionsOf (tablesOf w st) r) literal x) s′ (st′ .at)
+  pub near : st′ .at ≤ st .at + 65536
+  pub state : st′ ≡ recounted st (st′ .at) (st .stored + length x) u n v
+  pub after : After (writerMemory w) (writerMemory w′) (countsOf st) (countsAfter (countsOf st) (length x) u n v) r x
+  pub moreUris : st .uris ≤ u
+  pub moreNames : st .names ≤ n
+
+module _ {a : Alignment} {s w s′ w′ : List ℕ} {st st′ : State} (r : Role) (x : Text) {u n v : ℕ} (h : Ready s w st)
+    (e : formOf (partitionsOf (tablesOf w st) r) x ≡ literal) where
+  kept-literal : LiteralPut a r x u n v s w st s′ w′ st′
+      → Kept (writerMemory w) st (writerMemory w′) (recounted st (st′ .at) (st .stored + length x) u n v)
+  kept-literal p =
+      record {
+        tidy = p .after .tidy;
+        size = p .after .size;
+        uris = p .after .uris;
+        names = p .after .names;
+        learned = p .after .learned;
+        grammars = p .after .grammars;
+        moreUris = p .moreUris;
+        moreNames = p .moreNames;
+        sameEvents = refl;
+        sameLearned = refl;
+        sameGrammars = refl;
+        sameMode = refl;
+        sameStack = refl;
+      }
+
+  literal-wrote : LiteralPut a r x u n v s w st s′ w′ st′ → Wrote a (item r x ∷ []) s w st s′ w′ st′
+  literal-wrote p =
+      let t : Tables = tablesOf w st in
+      record {
+        put = rw (one-bits t (item r x) a, literal-bits t r x e a) (p .put);
+        near = p .near;
+        tables = ap (tablesOf w′) (p .state) ∙ p .after .tables ∙ sym (one-after t (item r x) ∙ literal-after t r x e);
+        kept = rw (p .state) (kept-literal p);
+      }
+
+  pub literal-sending : {number : ℕ} {left : Bool} → number ≡ faultNumber (stringFault x true (st .stored) (nameAllowed r x) left)
+      → (length (tablesOf w st .store) + length x ≤ maxStore → withinTables (added (tablesOf w st) r x) ≡ left)
+      → (number ≡ 0 → Passed x true (st .stored) (nameAllowed r x) left → LiteralPut a r x u n v s w st s′ w′ st′)
+      → Sending a (item r x ∷ []) s w st s′ w′ number st′
+  unfolding item
+  literal-sending {left} f l p =
+      let t : Tables = tablesOf w st in
+      record {
+        fault = f ∙ rw (
+          one-fault t (item r x),
+          fault-added t (item r x) left (literal-after t r x e) l,
+          length-text (writerMemory w) (countsOf st) (h .tidy .sized),
+        );
+        wrote = λ z. literal-wrote (p z (sound f z));
+      }

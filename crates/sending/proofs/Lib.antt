@@ -1,0 +1,5 @@
+pub mod Items
+pub mod Memory
+pub mod Forms
+pub mod Hits
+pub mod Entries

@@ -1,0 +1,265 @@
+-- What the loop over the events needs: the answer for all events by those that are written and the answer for those that are left.
+use mathlib.Core.Path.{_≡_, refl, sym, ap, ap₂, _∙_}
+use Prim.Native.Nat.{ℕ, zero, suc, _+_, _*_, _-_, _≤_, _<_}
+use native.Mathlib.Omega.{arith}
+use mathlib.Core.Bool.{true, false}
+use mathlib.Core.List.{List, [], _∷_, _++_, append-assoc, append-nil}
+use mathlib.Core.Option.{Option, none, some}
+use lib.ListN.{length, getD, take, drop}
+use mir.Syntax.{w8}
+use mir.Val.{Fits}
+use lib.Dec.{ltb}
+use borrow.Author.Tests.{ltb-true, ltb-false}
+use Rattle.fields.proofs.Tests.{split}
+use Rattle.fields.specs.Bits.{Bits}
+use Rattle.fields.specs.Refusal.{Refusal, numberOf, limit, shape, Answer, refused, accepted}
+use Rattle.text.specs.Text.{Text, Span, part}
+use Rattle.format.specs.Event.{Event, mapEvent}
+use Rattle.format.specs.Settings.{Settings}
+use Rattle.format.specs.Sizes.{maxEvents}
+use Rattle.format.specs.Grammar.{isFinished}
+use Rattle.format.specs.Context.{Context, next}
+use Rattle.format.specs.Strict.{eventBits}
+use Rattle.format.specs.Writer.{Stored, faultOf, prepended, unless, writeEvents}
+use Rattle.event.specs.Cells.{loadedFrom, eventsOf}
+use Rattle.event.proofs.Laws.{events-at, events-cut, events-end}
+use Rattle.layout.specs.Meaning.{Memory}
+use Rattle.layout.specs.Writer.{writerMemory}
+use Rattle.state.specs.declared.State.{State}
+use Rattle.standing.specs.Standing.{contextOf, reached, Standing}
+use Rattle.standing.proofs.Laws.{document-state, docContent-state, docEnd-state, finished-state, startTag-state, elementContent-state}
+use Rattle.standing.proofs.Laws.{reached-standing, reached-context}
+use Rattle.literal.specs.Fault.{faultNumber}
+use Rattle.literal.proofs.Laws.{none-fault, some-fault, fault-none, refusal-number}
+use Rattle.write_field.specs.Written.{Put}
+use Rattle.write_field.proofs.Written.{put-then, put-blank, put-nothing}
+use Rattle.write_event.specs.Step.{StepReady, Step, Done}
+use Rattle.write_event.specs.declared.Stepped.{Stepped}
+use Rattle.write_body.specs.Body.{RunFits, Ran}
+
+-- n events, with these bits, stand before what this answer is about.
+pub shifted : ℕ → Bits → Answer Bits → Answer Bits
+shifted n w (refused k i) = refused k (n + i)
+shifted n w (accepted bs) = accepted (w ++ bs)
+
+shifted-none : (x : Answer Bits) → shifted 0 [] x ≡ x
+unfolding shifted
+shifted-none (refused k i) = ap (refused k) (omega arith)
+shifted-none (accepted bs) = refl
+
+shifted-prepended : (n : ℕ) (w u : Bits) (x : Answer Bits) → shifted n w (prepended u x) ≡ shifted (n + 1) (w ++ u) x
+unfolding shifted prepended
+shifted-prepended n w u (refused k i) = ap (refused k) (omega arith)
+shifted-prepended n w u (accepted bs) = ap accepted (sym (append-assoc w u bs))
+
+-- ---- the definitions' answer, by the first of the events
+
+module _ (n : ℕ) (s : Settings) (c : Context) (store : Text) where
+  answer-ended : isFinished (c .state) ≡ true → writeEvents n s c store [] ≡ accepted []
+  unfolding writeEvents
+  answer-ended e = rw e
+
+  answer-early : isFinished (c .state) ≡ false → writeEvents n s c store [] ≡ refused shape 0
+  unfolding writeEvents
+  answer-early e = rw e
+
+  answer-full : (x : Stored) (xs : List Stored) → writeEvents 0 s c store (x ∷ xs) ≡ refused limit 0
+  unfolding writeEvents
+  answer-full x xs = refl
+
+  answer-shape : (xs : List Stored) → writeEvents (suc n) s c store (none ∷ xs) ≡ refused shape 0
+  unfolding writeEvents
+  answer-shape xs = refl
+
+  answer-refused : (e : Event Span) (xs : List Stored) (k : Refusal) → faultOf s c store e ≡ some k
+      → writeEvents (suc n) s c store (some e ∷ xs) ≡ refused k 0
+  unfolding writeEvents unless
+  answer-refused e xs k f = rw f
+
+  answer-more : (e : Event Span) (xs : List Stored) → faultOf s c store e ≡ none
+      → (let e′ = mapEvent (part store) e in
+      writeEvents (suc n) s c store (some e ∷ xs) ≡ prepended (eventBits s c e′) (writeEvents n s (next s c e′) store xs))
+  unfolding writeEvents unless
+  answer-more e xs f = rw f
+
+-- A refusal has a number.
+some-refusal : (o : Option Refusal) → (faultNumber o ≡ 0 → ⊥) → (k : Refusal) × (o ≡ some k)
+some-refusal none h = absurd (h none-fault)
+some-refusal (some k) h = (k, refl)
+
+-- ---- the list's end
+
+unfinished : {m : Memory} {st : State} → Standing m st → (st .mode ≡ 3 → ⊥) → isFinished (contextOf m st .state) ≡ false
+unfolding isFinished
+unfinished {m} {st} h other = by-mode (st .mode) refl where
+  by-mode : (k : ℕ) → st .mode ≡ k → isFinished (contextOf m st .state) ≡ false
+  by-mode zero e = ap isFinished (document-state h e)
+  by-mode (suc zero) e = ap isFinished (docContent-state h e)
+  by-mode (suc (suc zero)) e = ap isFinished (docEnd-state h e)
+  by-mode (suc (suc (suc zero))) e = absurd (other e)
+  by-mode (suc (suc (suc (suc zero)))) e = ap isFinished (startTag-state h e)
+  by-mode (suc (suc (suc (suc (suc zero))))) e = ap isFinished (elementContent-state h e)
+  by-mode (suc (suc (suc (suc (suc (suc k)))))) e = absurd (omega (arith, h .mode .known))
+
+-- ---- the loop
+
+abbrev answerFor : ℕ → Settings → List ℕ → State → Text → List ℕ → Answer Bits
+answerFor n s w st store cells = writeEvents n s (contextOf (writerMemory w) st) store (eventsOf cells)
+
+-- The events before this cell are written.
+pub record Running (s : Settings) (cells : List ℕ) (store : Text) (stream₀ w₀ : List ℕ) (st : State) (stream w : List ℕ) (t : State) (cell : ℕ)
+    : Type 0 where
+  pub bits : Bits
+  pub answer : answerFor maxEvents s w₀ st store cells ≡ shifted (t .events) bits (answerFor (maxEvents - t .events) s w t store (drop cell cells))
+  pub put : Put stream₀ (st .at) bits stream (t .at)
+  pub near : t .at ≤ 64 + 262144 * t .events
+  pub standing : Standing (writerMemory w) t
+  pub few : t .events ≤ maxEvents
+  pub place : cell ≡ 7 * t .events
+  pub size : length w ≡ length w₀
+
+pub running-start : {s : Settings} {cells : List ℕ} {store : Text} {stream w : List ℕ} {st : State} → ((i : ℕ) → Fits w8 (getD stream i 0))
+    → RunFits stream w st → Running s cells store stream w st stream w st 0
+running-start {s} {cells} {store} {stream} {w} {st} known h =
+    let e : maxEvents - st .events ≡ maxEvents = omega (arith, h .first) in
+    record {
+      bits = [];
+      answer = sym (
+          ap₂ (λ n m. shifted n [] (answerFor m s w st store cells)) (h .first) e ∙ shifted-none (answerFor maxEvents s w st store cells)
+          );
+      put = put-nothing known (h .blank);
+      near = omega (arith, h .near);
+      standing = h .standing;
+      few = omega (arith, h .first);
+      place = omega (arith, h .first);
+      size = refl;
+    }
+
+module _ {s : Settings} {cells : List ℕ} {store : Text} {stream₀ w₀ : List ℕ} {st : State} {stream w : List ℕ} {t : State} {cell : ℕ}
+    (h : Running s cells store stream₀ w₀ st stream w t cell) where
+  left-is : {n : ℕ} {xs : List Stored} → maxEvents - t .events ≡ n → eventsOf (drop cell cells) ≡ xs
+      → answerFor (maxEvents - t .events) s w t store (drop cell cells) ≡ writeEvents n s (contextOf (writerMemory w) t) store xs
+  left-is a b = ap₂ (λ n l. writeEvents n s (contextOf (writerMemory w) t) store l) a b
+
+  near-end : t .at ≤ 2147483648
+  unfolding maxEvents
+  near-end = omega (arith, h .near, h .few)
+
+  -- What is left is refused at its first event.
+  ran-refused : (k : Refusal) → answerFor (maxEvents - t .events) s w t store (drop cell cells) ≡ refused k 0
+      → (number : ℕ) (after : List ℕ) → number ≡ numberOf k
+      → Ran s (eventsOf cells) store stream₀ w₀ st after (record { number = number; index = t .events; at = t .at })
+  unfolding shifted
+  ran-refused k e number after same =
+      let here : answerFor maxEvents s w₀ st store cells ≡ refused k (t .events) =
+      h .answer ∙ ap (shifted (t .events) (h .bits)) e ∙ ap (refused k) (omega arith) in
+      record {
+        refused-as = λ k′ i′ e′. (cc, cc);
+        accepted-as = λ bs e′. let z : _≡_ {A = ℕ} 0 1 = cc in absurd (omega arith);
+        whole = λ z. absurd (omega (arith, refusal-number k));
+        few = h .few;
+        near = near-end;
+      }
+
+  -- ---- the list's end
+
+  module _ (end : length cells ≤ cell) where
+    pub ended-early : (t .mode ≡ 3 → ⊥) → Ran s (eventsOf cells) store stream₀ w₀ st stream (record { number = 14; index = t .events; at = t .at })
+    unfolding numberOf
+    ended-early other =
+        ran-refused shape (left-is refl (events-end cells cell end) ∙ answer-early _ s _ store (unfinished (h .standing) other)) 14 stream refl
+
+    pub ended : t .mode ≡ 3 → Ran s (eventsOf cells) store stream₀ w₀ st stream (record { number = 0; index = 0; at = t .at })
+    unfolding shifted isFinished
+    ended last =
+        let all : answerFor (maxEvents - t .events) s w t store (drop cell cells) ≡ accepted [] =
+        left-is refl (events-end cells cell end) ∙ answer-ended _ s _ store (ap isFinished (finished-state (h .standing) last)) in
+        let here : answerFor maxEvents s w₀ st store cells ≡ accepted (h .bits) =
+        h .answer ∙ ap (shifted (t .events) (h .bits)) all ∙ ap accepted (append-nil (h .bits)) in
+        record {
+          refused-as = λ k i e. let z : _≡_ {A = ℕ} 0 1 = cc in absurd (omega arith);
+          accepted-as = λ bs e. let same : h .bits ≡ bs = cc in (refl, rw (← same) (h .put));
+          whole = λ z. refl;
+          few = omega arith;
+          near = near-end;
+        }
+
+  -- ---- one event more, or its refusal
+
+  module _ (inside : cell < length cells) where
+    some-left : (x : Stored) × (xs : List Stored) × (eventsOf (drop cell cells) ≡ x ∷ xs)
+    some-left =
+        split (ltb (length cells) (cell + 7))
+        (λ l. (none, [], events-cut cells cell inside (ltb-true (length cells) (cell + 7) l)))
+        (λ l. (_, _, events-at cells cell (ltb-false (length cells) (cell + 7) l)))
+
+    pub too-many : t .events ≡ 4096 → Ran s (eventsOf cells) store stream₀ w₀ st stream (record { number = 12; index = t .events; at = t .at })
+    unfolding maxEvents numberOf
+    too-many full =
+        let (x, xs, e) = some-left in
+        ran-refused limit (left-is (omega arith) e ∙ answer-full 0 s _ store x xs) 12 stream refl
+
+    module _ (more : (t .events ≡ 4096 → ⊥)) where
+      one-less : maxEvents - t .events ≡ suc (maxEvents - (t .events + 1))
+      unfolding maxEvents
+      one-less = omega (arith, h .few)
+
+      shape-here : {xs : List Stored} → eventsOf (drop cell cells) ≡ none ∷ xs
+          → Ran s (eventsOf cells) store stream₀ w₀ st stream (record { number = 14; index = t .events; at = t .at })
+      unfolding numberOf
+      shape-here e = ran-refused shape (left-is one-less e ∙ answer-shape _ s _ store _) 14 stream refl
+
+      pub cut-short : length cells - cell < 7 → Ran s (eventsOf cells) store stream₀ w₀ st stream (record { number = 14; index = t .events; at = t .at })
+      cut-short l = shape-here (events-cut cells cell inside (omega arith))
+
+      pub step-asks : RunFits stream₀ w₀ st → StepReady stream w t
+      unfolding maxEvents
+      step-asks f =
+          record {
+            blank = put-blank (h .put);
+            near = omega (arith, h .near, h .few);
+            standing = h .standing;
+            room = omega (arith, h .size, f .room);
+          }
+
+      module _ (whole : cell + 7 ≤ length cells) where
+        pub no-event : loadedFrom (take 7 (drop cell cells)) ≡ none
+            → Ran s (eventsOf cells) store stream₀ w₀ st stream (record { number = 14; index = t .events; at = t .at })
+        no-event l = shape-here (events-at cells cell whole ∙ ap (λ x. x ∷ eventsOf (drop (cell + 7) cells)) l)
+
+        module _ {e : Event Span} {stream′ w′ : List ℕ} {r : Stepped} (loaded : loadedFrom (take 7 (drop cell cells)) ≡ some e)
+            (step : Step s store e stream w t stream′ w′ r) where
+          first-left : answerFor (maxEvents - t .events) s w t store (drop cell cells)
+              ≡ writeEvents (suc (maxEvents - (t .events + 1))) s (contextOf (writerMemory w) t) store (some e ∷ eventsOf (drop (cell + 7) cells))
+          first-left = left-is one-less (events-at cells cell whole ∙ ap (λ x. x ∷ eventsOf (drop (cell + 7) cells)) loaded)
+
+          pub refused-event : (r .number ≡ 0 → ⊥)
+              → Ran s (eventsOf cells) store stream₀ w₀ st stream′ (record { number = r .number; index = t .events; at = t .at })
+          refused-event some-number =
+              let (k, f) = some-refusal (faultOf s (contextOf (writerMemory w) t) store e) (λ z. some-number (step .fault ∙ z)) in
+              ran-refused k (first-left ∙ answer-refused _ s _ store e _ k f) (r .number) stream′ (step .fault ∙ ap faultNumber f ∙ some-fault k)
+
+          pub event-more : r .number ≡ 0
+              → Running s cells store stream₀ w₀ st stream′ w′ (reached (r .state) (r .state .at) (r .state .events + 1)) (cell + 7)
+          event-more zero-number =
+              let c : Context = contextOf (writerMemory w) t in
+              let e′ : Event Text = mapEvent (part store) e in
+              let fine : faultOf s c store e ≡ none = fault-none (faultOf s c store e) (sym (step .fault) ∙ zero-number) in
+              let d : Done s e′ stream w t stream′ w′ (r .state) = step .done zero-number in
+              let count : t .events + 1 ≡ r .state .events + 1 = omega (arith, d .events) in
+              let t′ : State = reached (r .state) (r .state .at) (r .state .events + 1) in
+              let context : next s c e′ ≡ contextOf (writerMemory w′) t′ =
+              sym (reached-context (writerMemory w′) (r .state) (r .state .at) (r .state .events + 1) ∙ d .context) in
+              record {
+                bits = h .bits ++ eventBits s c e′;
+                answer = h .answer
+                    ∙ ap (shifted (t .events) (h .bits)) (first-left ∙ answer-more _ s c store e _ fine)
+                    ∙ shifted-prepended (t .events) (h .bits) (eventBits s c e′) _
+                    ∙ ap₂ (λ n x. shifted n (h .bits ++ eventBits s c e′) (writeEvents (maxEvents - n) s x store (eventsOf (drop (cell + 7) cells)))) count context;
+                put = put-then (h .put) (d .put);
+                near = omega (arith, h .near, d .near);
+                standing = reached-standing (r .state .at) (r .state .events + 1) (d .standing);
+                few = omega (arith, one-less, h .few);
+                place = omega (arith, h .place);
+                size = d .size ∙ h .size;
+              }

@@ -1,0 +1,57 @@
+-- What writing the strings of an event asks and leaves, in the definitions' terms. After a refusal octets and work memory, row and state are free:
+-- `write` clears the first two, and `step` drops the others.
+use Prim.Native.Nat.{ℕ, _+_, _≤_, _<_}
+use mathlib.Core.Path.{_≡_}
+use mathlib.Core.Bool.{Bool, true, cond, not}
+use mathlib.Core.List.{List, [], _∷_, _++_}
+use Rattle.fields.specs.Field.{Alignment}
+use Rattle.text.specs.Text.{Text}
+use Rattle.format.specs.Event.{QName, Event, kindOf}
+use Rattle.format.specs.Tables.{value, target, plain}
+use Rattle.format.specs.Grammar.{Production, kindNumber, productionFor, unnamed}
+use Rattle.format.specs.Context.{item, items}
+use Rattle.layout.specs.Writer.{writerMemory}
+use Rattle.productions.specs.Numbered.{Numbered}
+use Rattle.state.specs.declared.State.{State}
+use Rattle.standing.specs.Standing.{countsOf, contextOf, Standing}
+use Rattle.write_form.specs.Form.{midway}
+use Rattle.write_form.specs.declared.Sent.{Sent}
+use Rattle.sending.specs.Sending.{Ready, Sending}
+use Rattle.write_name.specs.Name.{ReadyName, NameRow, nameAs}
+
+-- ---- all of an event
+
+-- The production that the event's code names: a learned one, or not.
+unfoldable pub productionOf : Bool → Event Text → Production
+productionOf learned e = cond learned (productionFor e) (unnamed (kindOf e))
+
+pub record ItemsFit (stream w : List ℕ) (st : State) (learned : Bool) (name : ℕ) (e : Event Text) : Type 0 where
+  pub ready : Ready stream w st
+  pub early : st .at + 131072 ≤ midway
+  pub standing : Standing (writerMemory w) st
+  pub row : learned ≡ true → Numbered (writerMemory w) (countsOf st) e name
+  -- characters and end elements stand in an element
+  pub inside : 4 ≤ kindNumber (kindOf e) → kindNumber (kindOf e) ≤ 5 → 4 ≤ st .mode
+
+pub record ItemsSent (a : Alignment) (learned : Bool) (e : Event Text) (stream w : List ℕ) (st : State) (stream′ w′ : List ℕ) (r : Sent) : Type 0 where
+  pub sent : Sending a (items (contextOf (writerMemory w) st .state) (productionOf learned e) e) stream w st stream′ w′ (r .number) (r .state)
+  -- the row of the event's name, or 0
+  pub small : r .number ≡ 0 → r .row < 65536
+  pub row : r .number ≡ 0 → 2 ≤ kindNumber (kindOf e) → kindNumber (kindOf e) ≤ 5 → Numbered (writerMemory w′) (countsOf (r .state)) e (r .row)
+
+-- ---- an attribute
+
+-- The value begins behind the two parts of the name.
+pub record AttributeFit (stream w : List ℕ) (st : State) (learned : Bool) (name : ℕ) (q : QName Text) : Type 0 where
+  pub named : ReadyName stream w st learned name q
+  pub early : st .at + 131072 ≤ midway
+
+pub record AttributeSent (a : Alignment) (q : QName Text) (v : Text) (learned : Bool) (stream w : List ℕ) (st : State) (stream′ w′ : List ℕ) (r : Sent) : Type 0 where
+  pub sent : Sending a (nameAs (not learned) true q ++ (item (value q) v ∷ [])) stream w st stream′ w′ (r .number) (r .state)
+  pub row : NameRow q w′ r
+
+-- ---- a processing instruction
+
+pub record InstructionSent (x y : Text) (stream w : List ℕ) (st : State) (stream′ w′ : List ℕ) (r : Sent) : Type 0 where
+  pub sent : (a : Alignment) → Sending a (item target x ∷ item plain y ∷ []) stream w st stream′ w′ (r .number) (r .state)
+  pub rowless : r .row ≡ 0
