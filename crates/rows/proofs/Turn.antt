@@ -2,7 +2,7 @@
 use Prim.Native.Nat.{ℕ, suc, _+_, _-_, _≤_, _<_}
 use native.Mathlib.Omega.{arith}
 use native.Mathlib.Numerals.{add-one}
-use mathlib.Core.Path.{_≡_, refl, ap}
+use mathlib.Core.Path.{_≡_, refl, sym, ap, _∙_}
 use mathlib.Core.Bool.{Bool, true, false}
 use mathlib.Core.List.{List, [], _∷_}
 use lib.ListN.{length, drop, drop-of-length-le}
@@ -10,6 +10,7 @@ use Rattle.rows.specs.declared.Row.{Row}
 use Rattle.rows.specs.declared.Found.the-variants.{At, Nothing}
 use Rattle.rows.specs.Rows.{rowAt, rows, selected, keep, numbered, countOf, nthIn, nthOf, firstThat, findThat, foundAt, found}
 use Rattle.rows.proofs.Laws.{rows-length, rows-drop}
+use Rattle.rows.proofs.Selection.{nth-none, count-all, nth-all}
 
 -- ---- the selected rows from row i on
 
@@ -119,3 +120,17 @@ module _ {all : Bool} {key : ℕ} {work : List ℕ} {test : Row → Bool} {base 
       pub find-here : d ≡ true → At number row ≡ found (findThat test all key (rows work base n))
       unfolding firstThat found
       find-here u = cc (hit all key work base n row h s e, l .same)
+
+-- ---- every row is selected
+
+module _ (all : Bool) (key : ℕ) (work : List ℕ) (base n : ℕ) (every : all ≡ true) where
+  pub all-count : n ≡ countOf all key (rows work base n)
+  all-count = rw every (sym (count-all key (rows work base n) ∙ rows-length work base n))
+
+  pub all-at : (i : ℕ) → i < n → At i i ≡ foundAt i (nthOf all key i (rows work base n))
+  unfolding foundAt
+  all-at i h = rw (every, nth-all key i (rows work base n) (omega (arith, rows-length work base n)))
+
+  pub all-past : (i : ℕ) → n ≤ i → Nothing ≡ foundAt i (nthOf all key i (rows work base n))
+  unfolding foundAt
+  all-past i h = rw (nth-none all key i (rows work base n) (omega (arith, all-count)))

@@ -44,6 +44,9 @@ pub fn count(work: &[u32], base: usize, n: usize, all: bool, key: u32) -> u32
     requires { ⌜ Room (now work) base n ⌝ }
     ensures { λ r. ⌜ r ≡ countOf all key (rows (now (work .entry)) base n) ⌝ }
 {
+    if all {
+        return n as u32;
+    }
     let mut number: u32 = 0;
     let mut row: usize = 0;
     while row < n {
@@ -61,6 +64,12 @@ pub fn nth(work: &[u32], base: usize, n: usize, all: bool, key: u32, i: u32) -> 
     requires { ⌜ Room (now work) base n ⌝ }
     ensures { λ r. ⌜ r ≡ foundAt i (nthOf all key i (rows (now (work .entry)) base n)) ⌝ }
 {
+    if all {
+        if i as usize >= n {
+            return Found::Nothing;
+        }
+        return Found::At { number: i, row: i };
+    }
     let mut left = i;
     let mut row: usize = 0;
     while row < n {

@@ -1,7 +1,7 @@
--- `count` meets its contract. The loop's invariant is `Counting`, of Turn.
+use Rattle.rows.proofs.Turn.{Counting, count-start, count-in, count-out, count-end, all-count}
 use Prim.Native.Nat.{_-_}
+-- `count` meets its contract. The loop's invariant is `Counting`, of Turn.
 use borrow.Author.Needs.{needs}
-use Rattle.rows.proofs.Turn.{Counting, count-start, count-in, count-out, count-end}
 use Rattle.rows.proofs.count.Statement.{statement}
 use Rattle.rows.proofs.count.Tie as tie
 
@@ -10,6 +10,12 @@ Inv-loop work base n all key number₀ row₀ number row = Counting all key work
 
 abbrev μ-loop : tie.MeasureT-loop
 μ-loop work base n all key number₀ row₀ number row = n - row
+
+cast-result : tie.Need-cast-result Inv-loop μ-loop
+cast-result c = search needs
+
+returns : tie.Need-returns Inv-loop μ-loop
+returns c = all-count _ _ _ _ _ (c .if1 .taken)
 
 loop-holds : tie.Need-loop-holds Inv-loop μ-loop
 loop-holds c = count-start _ _ _ _ _
@@ -27,20 +33,16 @@ loop-less : tie.Need-loop-less Inv-loop μ-loop
 loop-less c = search needs
 
 loop-again : tie.Need-loop-again Inv-loop μ-loop
-loop-again c =
-    let turn = c .before in
-    count-in (turn .before .before .loop .inv) (turn .before .loop-test .taken) (turn .is-selected .ensures) (c .if1 .taken)
+loop-again c = count-in (c .before .before .before .loop .inv) (c .before .before .loop-test .taken) (c .before .is-selected .ensures) (c .if2 .taken)
 
 loop-less-2 : tie.Need-loop-less-2 Inv-loop μ-loop
 loop-less-2 c = search needs
 
 loop-again-2 : tie.Need-loop-again-2 Inv-loop μ-loop
-loop-again-2 c =
-    let turn = c .before in
-    count-out (turn .before .before .loop .inv) (turn .before .loop-test .taken) (turn .is-selected .ensures) (c .if1 .left)
+loop-again-2 c = count-out (c .before .before .before .loop .inv) (c .before .before .loop-test .taken) (c .before .is-selected .ensures) (c .if2 .left)
 
-returns : tie.Need-returns Inv-loop μ-loop
-returns c = count-end (c .before .loop .inv) (c .loop-test .left)
+returns-2 : tie.Need-returns-2 Inv-loop μ-loop
+returns-2 c = count-end (c .before .loop .inv) (c .loop-test .left)
 
 pub count-spec : {M : Type 1} → statement M
 count-spec =
@@ -48,6 +50,8 @@ count-spec =
     (tie.spec
     Inv-loop
     μ-loop
+    cast-result
+    returns
     loop-holds
     is-selected-requires
     add-row
@@ -56,4 +60,4 @@ count-spec =
     loop-again
     loop-less-2
     loop-again-2
-    returns)
+    returns-2)
