@@ -1,0 +1,27 @@
+-- `take` meets its contract: each return knows the tests of the definition that lead to it.
+use borrow.Author.Tests.{lt-ltb, le-ltb}
+use Rattle.exi.specs.Words.{taken}
+use borrow.Author.Needs.{needs}
+use Rattle.exi.proofs.words.take.Statement.{statement}
+use Rattle.exi.proofs.words.take.Tie as tie
+
+mul-b : tie.Need-mul-b
+mul-b c = search needs
+
+element-write-b : tie.Need-element-write-b
+element-write-b c = search needs
+
+returns : tie.Need-returns
+unfolding taken
+returns c = rw (lt-ltb _ _ (c .if1 .taken))
+
+returns-2 : tie.Need-returns-2
+unfolding taken
+returns-2 c = rw (le-ltb _ _ (c .before .if1 .left), c .if2 .taken)
+
+returns-3 : tie.Need-returns-3
+unfolding taken
+returns-3 c = rw (le-ltb _ _ (c .before .if1 .left), c .if2 .left)
+
+pub take-spec : {M : Type 1} → statement M
+take-spec = tie.close (tie.spec mul-b element-write-b returns returns-2 returns-3)

@@ -1,0 +1,55 @@
+// Octets from a file or from standard input.
+ghost use Prim.Native.Nat.{_+_, _≤_};
+ghost use lib.ListN.{length};
+ghost use Rattle.io.specs.Counts.{Counts};
+use libc::STDIN_FILENO;
+
+// How many octets were read, and whether a read failed.
+pub struct Got {
+    pub octets: usize,
+    pub failed: bool,
+}
+
+// Where to read: `-` is standard input. Negative where the file cannot be opened.
+pub(crate) fn descriptor(name: &[u8]) -> i32 {
+    if name.len() == 1 {
+        if name[0] == b'-' {
+            return STDIN_FILENO;
+        }
+    }
+    os::open_read(name)
+}
+
+// One read, to the octets from `at` on.
+fn read_more(fd: i32, stream: &mut [u8], at: usize) -> Got
+    requires { ⌜ at ≤ length (now stream) ⌝ }
+    ensures { λ r. ⌜ at + r .octets ≤ length (now (stream .entry)) ⌝ }
+{
+    let part = &mut stream[at..];
+    let got = libc::read(fd, part);
+    Got {
+        octets: io::count(got, part),
+        failed: got < 0,
+    }
+}
+
+// Reads until the octets are full, the input ends or a read fails.
+pub(crate) fn fill(fd: i32, stream: &mut [u8]) -> Got
+    ensures { λ r. ⌜ Counts (r .octets) (now (stream .exit)) ⌝ }
+{
+    let mut at = 0;
+    while at < stream.len() {
+        let more = read_more(fd, stream, at);
+        if more.octets == 0 {
+            return Got {
+                octets: at,
+                failed: more.failed,
+            };
+        }
+        at += more.octets;
+    }
+    Got {
+        octets: at,
+        failed: false,
+    }
+}

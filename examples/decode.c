@@ -1,0 +1,115 @@
+/*
+ * Decodes an EXI stream and prints its events.
+ *
+ *   rt staticlib plumethrift
+ *   cc -std=c99 -Wall -Wextra -Werror -Iinclude examples/decode.c target/staticlib/libplumethrift.a -o target/decode
+ *   printf '\200\001\002\141\003\003\142\000' | target/decode 1000 -
+ *
+ * The first argument is four digits, the settings in order: alignment (0 bit-packed, 1
+ * byte-aligned), cookie, comments, instructions (0 no, 1 yes). The second is a file's name, or -
+ * for standard input. Exit status: 0 read, 1 refused, 2 bad usage or no input.
+ */
+#include <inttypes.h>
+#include <stdio.h>
+#include <string.h>
+
+#include "plumethrift.h"
+
+/* The stream: one octet more than it may have, so that a longer one is refused and not cut off. */
+static uint8_t stream[PLUMETHRIFT_STREAM_OCTETS + 1];
+
+/* Lent to the reader. */
+static uint32_t events[PLUMETHRIFT_EVENT_CELLS];
+static uint32_t text[PLUMETHRIFT_TEXT_CELLS];
+static uint32_t work[PLUMETHRIFT_READER_WORK_CELLS];
+
+/* Each kind's name and number of strings, by its number. The reader answers no other kinds. */
+static const struct {
+  const char *name;
+  unsigned strings;
+} kinds[] = {
+  [PLUMETHRIFT_START_DOCUMENT] = {"start document", 0},
+  [PLUMETHRIFT_END_DOCUMENT] = {"end document", 0},
+  [PLUMETHRIFT_START_ELEMENT] = {"start element", 2},
+  [PLUMETHRIFT_ATTRIBUTE] = {"attribute", 3},
+  [PLUMETHRIFT_END_ELEMENT] = {"end element", 0},
+  [PLUMETHRIFT_CHARACTERS] = {"characters", 1},
+  [PLUMETHRIFT_COMMENT] = {"comment", 1},
+  [PLUMETHRIFT_INSTRUCTION] = {"instruction", 2},
+};
+
+/* Prints a string in quotes: printable ASCII as it is, any other code point as \u{hexadecimal}. */
+static void print_string(plumethrift_string string) {
+  fputs(" \"", stdout);
+  for (size_t i = 0; i < string.length; i++) {
+    const uint32_t point = string.code_points[i];
+    if (point == '"' || point == '\\')
+      printf("\\%c", (int)point);
+    else if (point >= 32 && point < 127)
+      putchar((int)point);
+    else
+      printf("\\u{%" PRIX32 "}", point);
+  }
+  putchar('"');
+}
+
+/* Prints the event in the seven cells at `event`, indented by `depth`. */
+static void print_event(const uint32_t *event, unsigned depth, size_t code_points) {
+  printf("%*s%s", (int)(2 * depth), "", kinds[event[0]].name);
+  for (unsigned i = 0; i < kinds[event[0]].strings; i++)
+    print_string(plumethrift_event_string(event, i, text, code_points));
+  putchar('\n');
+}
+
+/* Takes four digits as settings; 0 if they are no such. What they mean is the library's to say. */
+static int parse_settings(const char *digits, plumethrift_settings *settings) {
+  if (strlen(digits) != 4 || strspn(digits, "0123456789") != 4)
+    return 0;
+  settings->alignment = (uint32_t)(digits[0] - '0');
+  settings->cookie = (uint32_t)(digits[1] - '0');
+  settings->comments = (uint32_t)(digits[2] - '0');
+  settings->instructions = (uint32_t)(digits[3] - '0');
+  return 1;
+}
+
+int main(int argc, char **argv) {
+  plumethrift_settings settings;
+  if (argc != 3 || !parse_settings(argv[1], &settings)) {
+    fputs("usage: decode SETTINGS FILE (such as: decode 1000 -)\n", stderr);
+    return 2;
+  }
+
+  FILE *file = strcmp(argv[2], "-") == 0 ? stdin : fopen(argv[2], "rb");
+  if (file == NULL) {
+    perror(argv[2]);
+    return 2;
+  }
+  const size_t octets = fread(stream, 1, sizeof stream, file);
+  if (ferror(file)) {
+    perror(argv[2]);
+    return 2;
+  }
+  fclose(file);
+
+  const plumethrift_read_reply reply = plumethrift_read(
+      settings, stream, octets, events, PLUMETHRIFT_EVENT_CELLS, text, PLUMETHRIFT_TEXT_CELLS, work,
+      PLUMETHRIFT_READER_WORK_CELLS);
+  if (reply.number != PLUMETHRIFT_OK) {
+    const plumethrift_name name = plumethrift_refusal_name(reply.number);
+    fprintf(stderr, "refused: %" PRIu32 " %s at event %" PRIu32 "\n", reply.number, name.text,
+            reply.index);
+    return 1;
+  }
+
+  /* The list is well-formed: what starts also ends, and depth comes back to 0. */
+  unsigned depth = 0;
+  for (uint32_t i = 0; i < reply.events; i++) {
+    const uint32_t *event = events + (size_t)PLUMETHRIFT_CELLS_PER_EVENT * i;
+    if (event[0] == PLUMETHRIFT_END_ELEMENT || event[0] == PLUMETHRIFT_END_DOCUMENT)
+      depth--;
+    print_event(event, depth, reply.code_points);
+    if (event[0] == PLUMETHRIFT_START_ELEMENT || event[0] == PLUMETHRIFT_START_DOCUMENT)
+      depth++;
+  }
+  return 0;
+}

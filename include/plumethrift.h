@@ -1,0 +1,206 @@
+/*
+ * Plumethrift: a proved reader and writer of schema-less EXI 1.0 (W3C Efficient XML Interchange,
+ * Second Edition).
+ *
+ * The reader turns the octets of a stream into a list of events, the writer a list of events into
+ * octets. The reader accepts exactly the strict forms of well-formed lists inside the sizes below:
+ * each accepted stream has one list, each such list one stream. Anything else is refused with a
+ * number and the index of the event concerned. Both are proved against the format's definitions for
+ * every input; this header is written by hand, and nothing checks it against the proved source but
+ * the tests in rust/.
+ *
+ * Memory
+ *
+ *   Both calls work in memory that the caller lends: parts, each a pointer and a length in octets
+ *   or in cells of 32 bits. What the caller owes is this, and no more:
+ *
+ *   - Each pointer is good for its length, to write where it is not const, and aligned for its
+ *     type. It is null only where the length is 0.
+ *   - A part lent for writing overlaps no other part of the call.
+ *
+ *   All else is safe: any octets as a stream, any cells as a list, any numbers as settings, any
+ *   lengths. A part that is too short is refused (ROOM). What memory lent for writing holds before
+ *   a call does not matter.
+ *
+ * What a call leaves
+ *
+ *   - Success (number 0): index is 0 and the counts say what was written. Every lent cell or octet
+ *     past the last one used is zero, and all work memory is zero.
+ *   - Refusal (number 1 to 15): the counts are 0, and all memory lent for writing is zero.
+ *
+ *   Both hold for all that is lent, however long; more than asked for only costs time.
+ *
+ * The library allocates nothing, keeps no pointer after a call and has no state of its own. Calls
+ * may run in any number of threads at once, as long as none of them writes a part of another.
+ *
+ * The archive is for x86-64 with the System V calling convention. Of other libraries it needs
+ * memcpy and memset alone.
+ */
+#ifndef PLUMETHRIFT_H
+#define PLUMETHRIFT_H
+
+#include <stddef.h>
+#include <stdint.h>
+
+#ifdef __cplusplus
+extern "C" {
+#endif
+
+/* Sizes to lend, at least. The functions of the same names answer the same numbers. */
+#define PLUMETHRIFT_EVENT_CELLS 28672       /* reader: events, 7 cells for each of 4,096 */
+#define PLUMETHRIFT_TEXT_CELLS 16384        /* reader: text store, one code point a cell */
+#define PLUMETHRIFT_STREAM_OCTETS 16384     /* writer: octets; the reader takes no longer stream */
+#define PLUMETHRIFT_READER_WORK_CELLS 4096  /* reader: work memory */
+#define PLUMETHRIFT_WRITER_WORK_CELLS 20480 /* writer: work memory */
+
+/* Cells of one event. */
+#define PLUMETHRIFT_CELLS_PER_EVENT 7
+
+/*
+ * Settings of a stream. They travel outside it: reader and writer have to be given the same. A
+ * number other than those named here is refused (SETTINGS). All zero, as from `= {0}`, is
+ * bit-packed, no cookie, nothing kept.
+ */
+typedef struct plumethrift_settings {
+  uint32_t alignment;    /* PLUMETHRIFT_BIT_PACKED or PLUMETHRIFT_BYTE_ALIGNED */
+  uint32_t cookie;       /* 1: the stream begins with 24 45 58 49 ("$EXI"); 0: it does not */
+  uint32_t comments;     /* 1: comments are kept; 0: no list or stream has any */
+  uint32_t instructions; /* 1: processing instructions are kept; 0: no list or stream has any */
+} plumethrift_settings;
+
+enum plumethrift_alignment {
+  PLUMETHRIFT_BIT_PACKED = 0, /* EXI's default */
+  PLUMETHRIFT_BYTE_ALIGNED = 1
+};
+
+/*
+ * The kind of an event, its cell 0. A string takes two cells: its place in the text store, and its
+ * length. Cells 1 and 2 hold an event's first string, 3 and 4 its second, 5 and 6 its third; cells
+ * that a kind does not use are 0. Seven zero cells are no event.
+ */
+enum plumethrift_kind {
+  PLUMETHRIFT_START_DOCUMENT = 1,
+  PLUMETHRIFT_END_DOCUMENT = 2,
+  PLUMETHRIFT_START_ELEMENT = 3, /* URI, local name */
+  PLUMETHRIFT_ATTRIBUTE = 4,     /* URI, local name, value */
+  PLUMETHRIFT_END_ELEMENT = 5,
+  PLUMETHRIFT_CHARACTERS = 6, /* text */
+  PLUMETHRIFT_COMMENT = 7,    /* text */
+  PLUMETHRIFT_INSTRUCTION = 8 /* target, text */
+};
+
+/*
+ * Refusals, the `number` of a reply. `index` is the number of events before the one concerned; it
+ * is 0 for ROOM, SETTINGS, LONG and HEADER, and counts all events for TAIL.
+ *
+ * LIMIT speaks of these sizes: 4,096 events; 100 elements open at once; 16 URIs and 128 local names
+ * over all URIs, with those that every stream begins with (3 and 6); 512 distinct values that are
+ * not empty; 64 element grammars; 512 learned productions; 1,024 code points in a string; 16,384 in
+ * the reader's text store.
+ */
+enum plumethrift_refusal {
+  PLUMETHRIFT_OK = 0,        /* not refused */
+  PLUMETHRIFT_ROOM = 1,      /* a lent part is shorter than asked for */
+  PLUMETHRIFT_SETTINGS = 2,  /* a settings number has no meaning */
+  PLUMETHRIFT_LONG = 3,      /* reader: the input is over 16,384 octets; writer: it would be */
+  PLUMETHRIFT_HEADER = 4,    /* an octet differs from the header that the settings ask for */
+  PLUMETHRIFT_ENDED = 5,     /* the input ends inside the header or a field */
+  PLUMETHRIFT_CODE = 6,      /* an event code part names no production */
+  PLUMETHRIFT_NUMBER = 7,    /* an Unsigned Integer not in fewest octets, over 5, or over 2^31-1 */
+  PLUMETHRIFT_CHARACTER = 8, /* a code point is no XML 1.0 Char */
+  PLUMETHRIFT_REFERENCE = 9, /* a URI, name or value number names no entry */
+  PLUMETHRIFT_LOOSE = 10,    /* a literal, hit or production where the strict form has another */
+  PLUMETHRIFT_NAME = 11,     /* empty name or target; attribute nil or type of XMLSchema-instance */
+  PLUMETHRIFT_LIMIT = 12,    /* one of the sizes above would be passed */
+  PLUMETHRIFT_TAIL = 13,     /* a pad bit is 1, or octets follow the end */
+  PLUMETHRIFT_SHAPE = 14,    /* writer: kinds or order of events break a well-formed list */
+  PLUMETHRIFT_PLACE = 15     /* writer: a string's place plus length passes the store's length */
+};
+
+typedef struct plumethrift_read_reply {
+  uint32_t number;      /* 0, or the refusal's number */
+  uint32_t index;       /* the event concerned by a refusal; 0 on success */
+  uint32_t events;      /* events written: the list is the first 7 * events of the event cells */
+  uint32_t code_points; /* code points written: the store is the first so many of the text cells */
+} plumethrift_read_reply;
+
+typedef struct plumethrift_write_reply {
+  uint32_t number; /* 0, or the refusal's number */
+  uint32_t index;  /* the event concerned by a refusal; 0 on success */
+  uint32_t octets; /* octets written: the stream is the first so many of the octets */
+} plumethrift_write_reply;
+
+/* A refusal's name: ASCII, padded with zeros, of which there is at least one. */
+typedef struct plumethrift_name {
+  char text[16];
+} plumethrift_name;
+
+/*
+ * Reads the stream of `stream_octets` octets. `events`, `text` and `work` are lent for writing, at
+ * least PLUMETHRIFT_EVENT_CELLS, PLUMETHRIFT_TEXT_CELLS and PLUMETHRIFT_READER_WORK_CELLS cells.
+ * Refusals 1 to 13.
+ *
+ * On success the list is well-formed, every string in it lies inside the code points counted, and
+ * each of those is an XML 1.0 Char. The store begins with the 99 of the initial URIs and local
+ * names; every literal of the stream follows, in stream order.
+ */
+plumethrift_read_reply plumethrift_read(plumethrift_settings settings,
+                                        const uint8_t *stream, size_t stream_octets,
+                                        uint32_t *events, size_t event_cells,
+                                        uint32_t *text, size_t text_cells,
+                                        uint32_t *work, size_t work_cells);
+
+/*
+ * Writes the list that is all of `events`, with its strings in `text`: both are only read, and may
+ * have any length. Where `event_cells` is no multiple of 7, the rest is one more event, which is
+ * SHAPE. `stream` and `work` are lent for writing, at least PLUMETHRIFT_STREAM_OCTETS octets and
+ * PLUMETHRIFT_WRITER_WORK_CELLS cells. Refusals 1 to 3, 8, 11, 12, 14 and 15.
+ *
+ * A well-formed list is: start document; comments and instructions; one element, balanced; comments
+ * and instructions; end document; nothing after. Attributes come before any other event in their
+ * element. Kinds that the settings drop are not allowed.
+ */
+plumethrift_write_reply plumethrift_write(plumethrift_settings settings,
+                                          uint8_t *stream, size_t stream_octets,
+                                          const uint32_t *events, size_t event_cells,
+                                          const uint32_t *text, size_t text_cells,
+                                          uint32_t *work, size_t work_cells);
+
+/* The name of a refusal, "ROOM" to "PLACE" for 1 to 15; "" for any other number. */
+plumethrift_name plumethrift_refusal_name(uint32_t number);
+
+/* The sizes to lend, at least: what the macros of the same names say. */
+size_t plumethrift_event_cells(void);
+size_t plumethrift_text_cells(void);
+size_t plumethrift_stream_octets(void);
+size_t plumethrift_reader_work_cells(void);
+size_t plumethrift_writer_work_cells(void);
+
+/* A string that was looked up: a part of the caller's own text store. It is not ended by a zero. */
+typedef struct plumethrift_string {
+  const uint32_t *code_points;
+  size_t length;
+} plumethrift_string;
+
+/*
+ * Looks up string `which` (0, 1 or 2: first, second or third) of the event in the seven cells at
+ * `event`, in the store of `text_cells` cells at `text`. A string that lies outside the store is
+ * the empty part at its start, and so is one that the kind does not have.
+ */
+static inline plumethrift_string plumethrift_event_string(const uint32_t *event, unsigned which,
+                                                          const uint32_t *text, size_t text_cells) {
+  plumethrift_string string = {text, 0};
+  const size_t place = event[1 + 2 * which];
+  const size_t length = event[2 + 2 * which];
+  if (place < text_cells && length <= text_cells - place) {
+    string.code_points = text + place;
+    string.length = length;
+  }
+  return string;
+}
+
+#ifdef __cplusplus
+}
+#endif
+
+#endif

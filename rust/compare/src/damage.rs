@@ -1,0 +1,584 @@
+//! Faults in streams and lists: some whose answer the scope determines, and damage at random.
+
+use crate::encode::{encode_loosely, unsigned_octets, width, Encoded, Field, Loose, Role, Shape};
+use crate::event::{
+    strings_of, text, Event, Stored, ATTRIBUTE, CELLS, COMMENT, END_DOCUMENT, END_ELEMENT,
+    INSTRUCTION, START_ELEMENT, XSI_URI,
+};
+use crate::generate::NO_CHARS;
+use crate::lent::{
+    CHARACTER, CODE, ENDED, HEADER, LIMIT, LOOSE, NAME, NUMBER, PLACE, REFERENCE, SHAPE, TAIL,
+};
+use crate::prng::Prng;
+
+/// A fault in the strict form of a list that is inside the limits.
+#[derive(Clone, Copy, Debug, PartialEq, Eq, Hash, PartialOrd, Ord)]
+pub enum StreamFault {
+    Header,
+    Code,
+    UriNumber,
+    NameNumber,
+    LocalNumber,
+    GlobalNumber,
+    EmptyTable,
+    NotFewestOctets,
+    NumberTooLarge,
+    SixOctets,
+    NoChar,
+    StringTooLong,
+    EmptyName,
+    EmptyTarget,
+    PadBit,
+    Tail,
+    Ended,
+    Loose(Loose),
+}
+
+impl StreamFault {
+    pub fn all() -> Vec<StreamFault> {
+        let mut all = vec![
+            StreamFault::Header,
+            StreamFault::Code,
+            StreamFault::UriNumber,
+            StreamFault::NameNumber,
+            StreamFault::LocalNumber,
+            StreamFault::GlobalNumber,
+            StreamFault::EmptyTable,
+            StreamFault::NotFewestOctets,
+            StreamFault::NumberTooLarge,
+            StreamFault::SixOctets,
+            StreamFault::NoChar,
+            StreamFault::StringTooLong,
+            StreamFault::EmptyName,
+            StreamFault::EmptyTarget,
+            StreamFault::PadBit,
+            StreamFault::Tail,
+            StreamFault::Ended,
+        ];
+        all.extend(Loose::ALL.map(StreamFault::Loose));
+        all
+    }
+}
+
+/// Octets with a fault, and the number and index that the reader has to answer.
+pub struct FaultyStream {
+    pub fault: StreamFault,
+    pub octets: Vec<u8>,
+    pub number: u32,
+    pub index: u32,
+}
+
+/// Puts one fault into the strict form of a list inside the limits; none where the one drawn has no
+/// place in it.
+pub fn faulty_stream(rng: &mut Prng, strict: &Encoded, events: &[Event]) -> Option<FaultyStream> {
+    let (fault, octets, number, index) = match rng.below(6) {
+        0 => loose_stream(rng, strict, events)?,
+        1 => end_fault(rng, strict)?,
+        _ => field_fault(rng, strict)?,
+    };
+    Some(FaultyStream {
+        fault,
+        octets,
+        number,
+        index: index as u32,
+    })
+}
+
+type Drawn = (StreamFault, Vec<u8>, u32, usize);
+
+fn loose_stream(rng: &mut Prng, strict: &Encoded, events: &[Event]) -> Option<Drawn> {
+    if strict.loose.is_empty() {
+        return None;
+    }
+    let at = rng.below(strict.loose.len());
+    let (form, index) = strict.loose[at];
+    let loose = encode_loosely(strict.settings, events, Some(at));
+    Some((StreamFault::Loose(form), loose.octets(), LOOSE, index))
+}
+
+fn end_fault(rng: &mut Prng, strict: &Encoded) -> Option<Drawn> {
+    let (mut octets, bits) = strict.octets_and_bits();
+    match rng.below(3) {
+        0 => {
+            let pads = octets.len() * 8 - bits;
+            if pads == 0 {
+                return None;
+            }
+            *octets.last_mut()? |= 1 << rng.below(pads);
+            Some((StreamFault::PadBit, octets, TAIL, strict.events))
+        }
+        1 => {
+            for _ in 0..rng.between(1, 3) {
+                octets.push(if rng.one_in(2) { 0 } else { rng.octet() });
+            }
+            Some((StreamFault::Tail, octets, TAIL, strict.events))
+        }
+        _ => {
+            let length = rng.below(octets.len());
+            octets.truncate(length);
+            let index = strict.event_at(length);
+            Some((StreamFault::Ended, octets, ENDED, index))
+        }
+    }
+}
+
+/// A number from `among` on that a field of a choice among so many can still hold.
+fn beyond(rng: &mut Prng, among: usize, byte_aligned: bool) -> Option<usize> {
+    let mut bits = width(among);
+    if byte_aligned {
+        bits = bits.div_ceil(8) * 8;
+    }
+    let end = 1usize << bits;
+    if bits == 0 || among >= end {
+        return None;
+    }
+    Some(match rng.below(3) {
+        0 => among,
+        1 => end - 1,
+        _ => rng.between(among, end - 1),
+    })
+}
+
+fn field_fault(rng: &mut Prng, strict: &Encoded) -> Option<Drawn> {
+    let mut faulty = strict.clone();
+    let at = rng.below(faulty.fields.len());
+    let field = &mut faulty.fields[at];
+    let index = field.event;
+    let (fault, shape, number) = match field.shape.clone() {
+        Shape::Octets(octets) => {
+            let octet = octets[0] ^ (1 << rng.below(8));
+            (StreamFault::Header, Shape::Octets(vec![octet]), HEADER)
+        }
+        Shape::Choice { among, .. } => {
+            let value = beyond(rng, among, strict.settings.byte_aligned())?;
+            let (fault, number) = match field.role {
+                Role::Code => (StreamFault::Code, CODE),
+                Role::Uri => (StreamFault::UriNumber, REFERENCE),
+                Role::Name => (StreamFault::NameNumber, REFERENCE),
+                Role::LocalValue => (StreamFault::LocalNumber, REFERENCE),
+                _ => (StreamFault::GlobalNumber, REFERENCE),
+            };
+            (fault, Shape::Choice { value, among }, number)
+        }
+        Shape::Unsigned(value) => match rng.below(4) {
+            0 => not_a_number(rng, value),
+            1 if !field.empty_tables.is_empty() => {
+                let value = *rng.pick(&field.empty_tables);
+                (StreamFault::EmptyTable, Shape::Unsigned(value), REFERENCE)
+            }
+            _ => string_fault(rng, field.role)?,
+        },
+    };
+    field.shape = shape;
+    Some((fault, faulty.octets(), number, index))
+}
+
+fn not_a_number(rng: &mut Prng, value: u32) -> (StreamFault, Shape, u32) {
+    let (fault, octets) = match rng.below(3) {
+        0 => {
+            let mut octets = unsigned_octets(value);
+            let longer = rng.between(octets.len() + 1, 5);
+            if let Some(last) = octets.last_mut() {
+                *last |= 0x80;
+            }
+            octets.resize(longer - 1, 0x80);
+            octets.push(0);
+            (StreamFault::NotFewestOctets, octets)
+        }
+        1 => {
+            let mut octets: Vec<u8> = (0..4).map(|_| rng.octet() | 0x80).collect();
+            octets.push(rng.between(8, 127) as u8);
+            (StreamFault::NumberTooLarge, octets)
+        }
+        _ => {
+            let mut octets: Vec<u8> = (0..5).map(|_| rng.octet() | 0x80).collect();
+            octets.push(rng.octet() & 0x7F);
+            (StreamFault::SixOctets, octets)
+        }
+    };
+    (fault, Shape::Octets(octets), NUMBER)
+}
+
+fn string_fault(rng: &mut Prng, role: Role) -> Option<(StreamFault, Shape, u32)> {
+    let length = match rng.below(3) {
+        0 => 1_025,
+        1 => rng.between(1_025, 70_000) as u32,
+        _ => 2_147_483_645,
+    };
+    let (fault, value, number) = match role {
+        Role::CodePoint => (StreamFault::NoChar, *rng.pick(&NO_CHARS), CHARACTER),
+        Role::NameLength if rng.one_in(2) => (StreamFault::EmptyName, 1, NAME),
+        Role::TargetLength if rng.one_in(2) => (StreamFault::EmptyTarget, 0, NAME),
+        Role::NameLength => (StreamFault::StringTooLong, length + 1, LIMIT),
+        Role::ValueLength => (StreamFault::StringTooLong, length + 2, LIMIT),
+        Role::UriLength | Role::TargetLength | Role::TextLength => {
+            (StreamFault::StringTooLong, length, LIMIT)
+        }
+        _ => return None,
+    };
+    Some((fault, Shape::Unsigned(value), number))
+}
+
+/// A few changes at random; `other` is another stream to take parts from.
+pub fn damaged_stream(rng: &mut Prng, stream: &[u8], other: &[u8]) -> Vec<u8> {
+    let mut octets = stream.to_vec();
+    for _ in 0..rng.between(1, 3) {
+        let at = rng.below(octets.len() + 1);
+        match rng.below(11) {
+            0..=2 if at < octets.len() => octets[at] ^= 1 << rng.below(8),
+            3 if at < octets.len() => octets[at] = rng.octet(),
+            4 if at < octets.len() => {
+                octets[at] = octets[at].wrapping_add(if rng.one_in(2) { 1 } else { 255 })
+            }
+            5 => octets.insert(at, rng.octet() >> rng.below(8)),
+            6 if at < octets.len() => {
+                octets.remove(at);
+            }
+            7 => octets.truncate(at),
+            8 => {
+                octets.truncate(at);
+                octets.extend(&other[rng.below(other.len() + 1)..]);
+            }
+            9 if at < octets.len() => {
+                let end = rng.between(at, octets.len().min(at + 8));
+                let part = octets[at..end].to_vec();
+                octets.splice(at..at, part);
+            }
+            10 => {
+                for _ in 0..rng.between(1, 4) {
+                    octets.push(rng.octet() >> rng.below(8));
+                }
+            }
+            _ => {}
+        }
+    }
+    octets
+}
+
+/// A few fields at random changed, left out or doubled, so that what follows them is still read as
+/// it was meant.
+pub fn damaged_fields(rng: &mut Prng, strict: &Encoded) -> Vec<u8> {
+    let mut damaged = strict.clone();
+    for _ in 0..rng.between(1, 3) {
+        let at = rng.below(damaged.fields.len());
+        let event = damaged.fields[at].event;
+        match rng.below(5) {
+            0..=2 => {
+                let role = damaged.fields[at].role;
+                match &mut damaged.fields[at].shape {
+                    Shape::Choice { value, among } => *value = rng.below(*among + 1),
+                    Shape::Unsigned(value) if role == Role::CodePoint => {
+                        *value = 97 + rng.below(4) as u32;
+                    }
+                    Shape::Unsigned(value) => *value = rng.below(5) as u32,
+                    Shape::Octets(_) => {}
+                }
+            }
+            3 => {
+                damaged.fields.retain(|field| field.event != event);
+                if damaged.fields.is_empty() {
+                    return Vec::new();
+                }
+            }
+            _ => {
+                let all = damaged.fields.iter();
+                let of_event: Vec<Field> = all.filter(|f| f.event == event).cloned().collect();
+                damaged.fields.splice(at..at, of_event);
+            }
+        }
+    }
+    damaged.octets()
+}
+
+/// The header, and octets at random, small numbers the more frequent.
+pub fn random_stream(rng: &mut Prng, strict: &Encoded) -> Vec<u8> {
+    let mut octets = Vec::new();
+    if strict.settings.cookie == 1 {
+        octets.extend([0x24, 0x45, 0x58, 0x49]);
+    }
+    octets.push(0x80);
+    for _ in 0..rng.below(40) {
+        octets.push(rng.octet() >> rng.below(8));
+    }
+    octets
+}
+
+/// A fault in a well-formed list that is inside the limits.
+#[derive(Clone, Copy, Debug, PartialEq, Eq, Hash, PartialOrd, Ord)]
+pub enum ListFault {
+    NoKind,
+    UnusedCell,
+    PartOfAnEvent,
+    MissingEnd,
+    AfterTheEnd,
+    NoStart,
+    OpenElement,
+    OneEndMore,
+    LateAttribute,
+    SecondRoot,
+    DroppedKind,
+    OutsideTheStore,
+    NoChar,
+    StringTooLong,
+    EmptyName,
+    NilOrType,
+}
+
+impl ListFault {
+    pub const ALL: [ListFault; 16] = [
+        ListFault::NoKind,
+        ListFault::UnusedCell,
+        ListFault::PartOfAnEvent,
+        ListFault::MissingEnd,
+        ListFault::AfterTheEnd,
+        ListFault::NoStart,
+        ListFault::OpenElement,
+        ListFault::OneEndMore,
+        ListFault::LateAttribute,
+        ListFault::SecondRoot,
+        ListFault::DroppedKind,
+        ListFault::OutsideTheStore,
+        ListFault::NoChar,
+        ListFault::StringTooLong,
+        ListFault::EmptyName,
+        ListFault::NilOrType,
+    ];
+}
+
+/// A list with a fault, and the number and index that the writer has to answer.
+pub struct FaultyList {
+    pub fault: ListFault,
+    pub list: Stored,
+    pub number: u32,
+    pub index: u32,
+}
+
+/// Puts one fault into a well-formed list inside the limits; none where the one drawn has no place
+/// in it.
+pub fn faulty_list(rng: &mut Prng, list: &Stored) -> Option<FaultyList> {
+    let mut list = list.clone();
+    let fault = *rng.pick(&ListFault::ALL);
+    let count = list.cells.len() / CELLS;
+    let at = rng.below(count);
+    let (number, index) = match fault {
+        ListFault::NoKind => {
+            list.cells[at * CELLS] = *rng.pick(&[0, 9, 256, 0x103, 0x8000_0003, u32::MAX]);
+            (SHAPE, at)
+        }
+        ListFault::UnusedCell => {
+            let used = 1 + 2 * strings_of(list.cells[at * CELLS])?;
+            if used == CELLS {
+                return None;
+            }
+            let cell = rng.between(used, CELLS - 1);
+            list.cells[at * CELLS + cell] = *rng.pick(&[1, 2, 1 << 16, 1 << 31, u32::MAX]);
+            (SHAPE, at)
+        }
+        ListFault::PartOfAnEvent => {
+            if rng.one_in(2) {
+                let cells = rng.between(1, CELLS - 1);
+                let filling = *rng.pick(&[0, 5, 9]);
+                list.cells.resize(count * CELLS + cells, filling);
+                (SHAPE, count)
+            } else {
+                list.cells.truncate(at * CELLS + rng.between(1, CELLS - 1));
+                (SHAPE, at)
+            }
+        }
+        ListFault::MissingEnd => {
+            list.cells.truncate(at * CELLS);
+            (SHAPE, at)
+        }
+        ListFault::AfterTheEnd => {
+            let event = list.cells[at * CELLS..(at + 1) * CELLS].to_vec();
+            list.cells.extend(event);
+            (SHAPE, count)
+        }
+        ListFault::NoStart => {
+            list.cells.drain(..CELLS);
+            (SHAPE, 0)
+        }
+        ListFault::OpenElement => {
+            let root_ends = list.root_ends()?;
+            list.cells.drain(root_ends * CELLS..(root_ends + 1) * CELLS);
+            (SHAPE, count - 2)
+        }
+        ListFault::OneEndMore => {
+            let root_ends = list.root_ends()?;
+            list.insert(root_ends, END_ELEMENT, &[]);
+            (SHAPE, root_ends + 1)
+        }
+        ListFault::LateAttribute => {
+            let kind = list.cells[at * CELLS];
+            if kind == START_ELEMENT || kind == ATTRIBUTE {
+                return None;
+            }
+            list.insert(at + 1, ATTRIBUTE, &[&[], &[97], &[98]]);
+            (SHAPE, at + 1)
+        }
+        ListFault::SecondRoot => {
+            let root_ends = list.root_ends()?;
+            list.insert(root_ends + 1, START_ELEMENT, &[&[], &[97]]);
+            (SHAPE, root_ends + 1)
+        }
+        // The caller draws the settings: see `dropped_kind`.
+        ListFault::DroppedKind => return None,
+        ListFault::OutsideTheStore => {
+            let strings = strings_of(list.cells[at * CELLS])?;
+            if strings == 0 {
+                return None;
+            }
+            let first = at * CELLS + 1 + 2 * rng.below(strings);
+            let end = list.store.len() as u32;
+            let (place, length) = match rng.below(6) {
+                0 => (end + 1, 0),
+                1 => (end, 1),
+                2 => (u32::MAX, 1),
+                3 => (1, u32::MAX),
+                4 => (u32::MAX, u32::MAX),
+                _ => (list.cells[first], end - list.cells[first].min(end) + 1),
+            };
+            list.cells[first] = place;
+            list.cells[first + 1] = length;
+            (PLACE, at)
+        }
+        ListFault::NoChar => {
+            let mut string: Vec<u32> = vec![97; rng.below(4)];
+            let bad = if rng.one_in(8) {
+                u32::MAX - rng.below(3) as u32
+            } else {
+                *rng.pick(&NO_CHARS)
+            };
+            string.insert(rng.below(string.len() + 1), bad);
+            list.replace_string(rng, at, &string)?;
+            (CHARACTER, at)
+        }
+        ListFault::StringTooLong => {
+            let length = rng.between(1_025, 1_030);
+            let code_point = *rng.pick(&[97, 0]);
+            list.replace_string(rng, at, &vec![code_point; length])?;
+            (LIMIT, at)
+        }
+        ListFault::EmptyName => {
+            let string = match list.cells[at * CELLS] {
+                START_ELEMENT | ATTRIBUTE => 1,
+                INSTRUCTION => 0,
+                _ => return None,
+            };
+            list.cells[at * CELLS + 2 + 2 * string] = 0;
+            (NAME, at)
+        }
+        ListFault::NilOrType => {
+            if list.cells[at * CELLS] != ATTRIBUTE {
+                return None;
+            }
+            let name = if rng.one_in(2) { "nil" } else { "type" };
+            list.set_string(at, 0, &text(XSI_URI));
+            list.set_string(at, 1, &text(name));
+            (NAME, at)
+        }
+    };
+    Some(FaultyList {
+        fault,
+        list,
+        number,
+        index: index as u32,
+    })
+}
+
+/// The index of the first comment or instruction in a list, and whether it is a comment.
+pub fn dropped_kind(list: &Stored) -> Option<(usize, bool)> {
+    list.cells.chunks(CELLS).enumerate().find_map(|(k, event)| {
+        let kind = event[0];
+        (kind == COMMENT || kind == INSTRUCTION).then_some((k, kind == COMMENT))
+    })
+}
+
+impl Stored {
+    /// The index of the event that ends the root.
+    fn root_ends(&self) -> Option<usize> {
+        self.cells
+            .chunks(CELLS)
+            .rposition(|event| event[0] == END_ELEMENT)
+    }
+
+    fn insert(&mut self, at: usize, kind: u32, strings: &[&[u32]]) {
+        let mut event = vec![kind];
+        for string in strings {
+            event.extend([self.store.len() as u32, string.len() as u32]);
+            self.store.extend(*string);
+        }
+        event.resize(CELLS, 0);
+        self.cells.splice(at * CELLS..at * CELLS, event);
+    }
+
+    fn set_string(&mut self, event: usize, string: usize, text: &[u32]) {
+        let first = event * CELLS + 1 + 2 * string;
+        self.cells[first] = self.store.len() as u32;
+        self.cells[first + 1] = text.len() as u32;
+        self.store.extend(text);
+    }
+
+    fn replace_string(&mut self, rng: &mut Prng, event: usize, text: &[u32]) -> Option<()> {
+        let strings = strings_of(self.cells[event * CELLS])?;
+        if strings == 0 {
+            return None;
+        }
+        let string = rng.below(strings);
+        self.set_string(event, string, text);
+        Some(())
+    }
+}
+
+/// A few changes of a list at random.
+pub fn damaged_list(rng: &mut Prng, list: &Stored) -> Stored {
+    let mut list = list.clone();
+    for _ in 0..rng.between(1, 3) {
+        let count = list.cells.len() / CELLS;
+        let at = rng.below(count + 1);
+        match rng.below(10) {
+            0 if at < count => {
+                list.cells.drain(at * CELLS..(at + 1) * CELLS);
+            }
+            1 if at < count => {
+                let other = rng.below(count);
+                for k in 0..CELLS {
+                    list.cells.swap(at * CELLS + k, other * CELLS + k);
+                }
+            }
+            2 if at < count => {
+                let event = list.cells[at * CELLS..(at + 1) * CELLS].to_vec();
+                let to = rng.between(0, count) * CELLS;
+                list.cells.splice(to..to, event);
+            }
+            3 if at < count => list.cells[at * CELLS] = rng.between(0, 9) as u32,
+            4 if at < count => {
+                let cell = at * CELLS + rng.between(1, CELLS - 1);
+                list.cells[cell] = match rng.below(3) {
+                    0 => 0,
+                    1 => rng.below(list.store.len() + 2) as u32,
+                    _ => list.cells[cell].wrapping_add(1),
+                };
+            }
+            5 if !list.store.is_empty() => {
+                let place = rng.below(list.store.len());
+                list.store[place] = if rng.one_in(2) {
+                    97 + rng.below(4) as u32
+                } else {
+                    *rng.pick(&NO_CHARS)
+                };
+            }
+            6 if !list.store.is_empty() => list.store.truncate(rng.below(list.store.len())),
+            7 => list.insert(at, END_DOCUMENT, &[]),
+            8 => list.insert(at, rng.between(1, 8) as u32, &[&[], &[97], &[98, 99]]),
+            9 => {
+                let kind = rng.between(1, 8) as u32;
+                let strings = strings_of(kind).unwrap_or(0);
+                let texts: [&[u32]; 3] = [&[97], &[97], &[98, 99]];
+                list.insert(at, kind, &texts[..strings]);
+            }
+            _ => {}
+        }
+    }
+    list
+}

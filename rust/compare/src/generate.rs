@@ -1,0 +1,500 @@
+//! Random well-formed event lists.
+
+use crate::encode::encode;
+use crate::event::{text, Event, Text, XML_URI, XSI_URI};
+use crate::lent::{Settings, STREAM_OCTETS, TEXT_CELLS};
+use crate::prng::Prng;
+
+/// What a list is made for: small ones pass no size; each other profile comes near one size and
+/// passes it at times.
+#[derive(Clone, Copy, Debug, PartialEq, Eq, Hash, PartialOrd, Ord)]
+pub enum Profile {
+    Small,
+    Open,
+    StringLength,
+    Uris,
+    Names,
+    Values,
+    Grammars,
+    Productions,
+    Events,
+    Store,
+    Octets,
+}
+
+impl Profile {
+    pub const NEAR_A_SIZE: [Profile; 10] = [
+        Profile::Open,
+        Profile::StringLength,
+        Profile::Uris,
+        Profile::Names,
+        Profile::Values,
+        Profile::Grammars,
+        Profile::Productions,
+        Profile::Events,
+        Profile::Store,
+        Profile::Octets,
+    ];
+}
+
+/// Settings that have a meaning.
+pub fn settings(rng: &mut Prng) -> Settings {
+    let bits = rng.below(16) as u32;
+    Settings {
+        alignment: bits & 1,
+        cookie: bits >> 1 & 1,
+        comments: bits >> 2 & 1,
+        instructions: bits >> 3,
+    }
+}
+
+pub fn list(rng: &mut Prng, settings: Settings, profile: Profile) -> Vec<Event> {
+    match profile {
+        Profile::Small => small(rng, settings),
+        Profile::Open => open(rng),
+        Profile::StringLength => string_length(rng, settings),
+        Profile::Uris => uris(rng),
+        Profile::Names => names(rng),
+        Profile::Values => values(rng),
+        Profile::Grammars => grammars(rng),
+        Profile::Productions => productions(rng),
+        Profile::Events => events(rng),
+        Profile::Store => store(rng, settings),
+        Profile::Octets => octets(rng, settings),
+    }
+}
+
+/// XML Chars at the ends of their ranges, and where an Unsigned Integer gets longer.
+const EDGE_CHARS: [u32; 14] = [
+    9, 10, 13, 32, 127, 128, 16_383, 16_384, 55_295, 57_344, 65_533, 65_536, 131_071, 1_114_111,
+];
+
+/// Numbers that are no XML Char, up to the largest Unsigned Integer that is taken.
+pub const NO_CHARS: [u32; 14] = [
+    0,
+    1,
+    8,
+    11,
+    12,
+    14,
+    31,
+    55_296,
+    56_320,
+    57_343,
+    65_534,
+    65_535,
+    1_114_112,
+    2_147_483_647,
+];
+
+struct Pools {
+    uris: Vec<Text>,
+    names: Vec<Text>,
+    values: Vec<Text>,
+}
+
+fn random_text(rng: &mut Prng, from: usize, to: usize) -> Text {
+    let length = rng.between(from, to);
+    (0..length)
+        .map(|_| {
+            if rng.one_in(12) {
+                *rng.pick(&EDGE_CHARS)
+            } else {
+                b'a' as u32 + rng.below(4) as u32
+            }
+        })
+        .collect()
+}
+
+fn pools(rng: &mut Prng) -> Pools {
+    let mut uris = vec![text("")];
+    for _ in 0..rng.below(4) {
+        uris.push(match rng.below(6) {
+            0 => text(XML_URI),
+            1 => text(XSI_URI),
+            _ => random_text(rng, 1, 3),
+        });
+    }
+    let mut names = Vec::new();
+    for _ in 0..rng.between(1, 6) {
+        names.push(match rng.below(12) {
+            0 => text("nil"),
+            1 => text("type"),
+            2 => text("id"),
+            3 => text("lang"),
+            _ => random_text(rng, 1, 2),
+        });
+    }
+    let mut values = Vec::new();
+    for _ in 0..rng.between(1, 7) {
+        values.push(random_text(rng, 0, 3));
+    }
+    Pools {
+        uris,
+        names,
+        values,
+    }
+}
+
+/// At most some 80 events with few names and values, so that hits and learned productions are
+/// frequent.
+fn small(rng: &mut Prng, settings: Settings) -> Vec<Event> {
+    let pools = pools(rng);
+    let budget = match rng.below(4) {
+        0 => rng.between(2, 6),
+        1 => rng.between(6, 20),
+        _ => rng.between(10, 60),
+    };
+    let depth = rng.between(1, 8);
+    let mut all = vec![Event::StartDocument];
+    misc(rng, settings, &pools, &mut all);
+    element(rng, &pools, &mut all);
+    let mut open = vec![all.len() - 1];
+    let mut in_tag = true;
+    let mut closed: Option<(usize, usize)> = None;
+    while let Some(&start) = open.last() {
+        if all.len() >= budget {
+            all.push(Event::EndElement);
+            open.pop();
+            continue;
+        }
+        match rng.below(12) {
+            0..=2 if in_tag => attribute(rng, &pools, &mut all),
+            0..=3 if open.len() < depth => {
+                element(rng, &pools, &mut all);
+                open.push(all.len() - 1);
+                in_tag = true;
+            }
+            4..=5 => {
+                all.push(Event::Characters(rng.pick(&pools.values).clone()));
+                in_tag = false;
+            }
+            6 if settings.kept() > 0 => {
+                one_misc(rng, settings, &pools, &mut all);
+                in_tag = false;
+            }
+            7..=8 if closed.is_some() => {
+                let (from, to) = closed.unwrap_or_default();
+                let again: Vec<Event> = all[from..to].to_vec();
+                let fits = all.len() + again.len() <= budget + 20;
+                if fits && open.len() + opened(&again) <= 12 {
+                    all.extend(again);
+                    in_tag = false;
+                }
+            }
+            9..=10 if open.len() > 1 || rng.one_in(4) => {
+                all.push(Event::EndElement);
+                open.pop();
+                in_tag = false;
+                closed = Some((start, all.len()));
+            }
+            _ => {}
+        }
+    }
+    misc(rng, settings, &pools, &mut all);
+    all.push(Event::EndDocument);
+    all
+}
+
+fn opened(events: &[Event]) -> usize {
+    events
+        .iter()
+        .filter(|event| matches!(event, Event::StartElement { .. }))
+        .count()
+}
+
+fn element(rng: &mut Prng, pools: &Pools, all: &mut Vec<Event>) {
+    let uri = rng.pick(&pools.uris).clone();
+    let name = rng.pick(&pools.names).clone();
+    all.push(Event::StartElement { uri, name });
+}
+
+fn attribute(rng: &mut Prng, pools: &Pools, all: &mut Vec<Event>) {
+    let mut uri = rng.pick(&pools.uris).clone();
+    let name = rng.pick(&pools.names).clone();
+    let value = rng.pick(&pools.values).clone();
+    if uri == text(XSI_URI) && (name == text("nil") || name == text("type")) {
+        uri = text("");
+    }
+    all.push(Event::Attribute { uri, name, value });
+}
+
+fn misc(rng: &mut Prng, settings: Settings, pools: &Pools, all: &mut Vec<Event>) {
+    if settings.kept() > 0 && rng.one_in(3) {
+        for _ in 0..rng.between(1, 2) {
+            one_misc(rng, settings, pools, all);
+        }
+    }
+}
+
+fn one_misc(rng: &mut Prng, settings: Settings, pools: &Pools, all: &mut Vec<Event>) {
+    let data = rng.pick(&pools.values).clone();
+    let comment = settings.comments == 1 && (settings.instructions == 0 || rng.one_in(2));
+    all.push(if comment {
+        Event::Comment(data)
+    } else {
+        Event::Instruction {
+            target: rng.pick(&pools.names).clone(),
+            text: data,
+        }
+    });
+}
+
+fn start(name: &str) -> Event {
+    Event::StartElement {
+        uri: text(""),
+        name: text(name),
+    }
+}
+
+fn numbered(prefix: &str, number: usize) -> Text {
+    text(&format!("{prefix}{number}"))
+}
+
+fn whole(inner: Vec<Event>) -> Vec<Event> {
+    let mut all = vec![Event::StartDocument, start("r")];
+    all.extend(inner);
+    all.push(Event::EndElement);
+    all.push(Event::EndDocument);
+    all
+}
+
+/// Nested elements of a few names.
+fn open(rng: &mut Prng) -> Vec<Event> {
+    let depth = rng.between(94, 104);
+    let names = rng.between(1, 5);
+    let mut inner = Vec::new();
+    for _ in 1..depth {
+        inner.push(Event::StartElement {
+            uri: text(""),
+            name: numbered("e", rng.below(names)),
+        });
+        if rng.one_in(10) {
+            inner.push(Event::Characters(numbered("v", rng.below(3))));
+        }
+    }
+    for _ in 1..depth {
+        inner.push(Event::EndElement);
+    }
+    whole(inner)
+}
+
+fn string_length(rng: &mut Prng, settings: Settings) -> Vec<Event> {
+    let length = rng.between(1_020, 1_027);
+    let code_point = *rng.pick(&[97, 97, 233, 20_013, 131_071]);
+    let long: Text = vec![code_point; length];
+    let event = match rng.below(7) {
+        0 => Event::StartElement {
+            uri: long,
+            name: text("a"),
+        },
+        1 => Event::StartElement {
+            uri: text(""),
+            name: long,
+        },
+        2 => Event::Attribute {
+            uri: long,
+            name: text("k"),
+            value: text("x"),
+        },
+        3 => Event::Attribute {
+            uri: text(""),
+            name: long,
+            value: text("x"),
+        },
+        4 => Event::Attribute {
+            uri: text(""),
+            name: text("k"),
+            value: long,
+        },
+        5 if settings.comments == 1 => Event::Comment(long),
+        5 if settings.instructions == 1 => Event::Instruction {
+            target: long,
+            text: text("x"),
+        },
+        6 if settings.instructions == 1 => Event::Instruction {
+            target: text("t"),
+            text: long,
+        },
+        _ => Event::Characters(long),
+    };
+    let again = rng.one_in(2);
+    let mut inner = Vec::new();
+    for _ in 0..if again { 2 } else { 1 } {
+        inner.push(start("s"));
+        let is_element = matches!(event, Event::StartElement { .. });
+        inner.push(event.clone());
+        if is_element {
+            inner.push(Event::EndElement);
+        }
+        inner.push(Event::EndElement);
+    }
+    whole(inner)
+}
+
+fn uris(rng: &mut Prng) -> Vec<Event> {
+    let count = rng.between(9, 16);
+    let mut inner = Vec::new();
+    for k in 0..count {
+        for number in [k, rng.below(k + 1)] {
+            let uri = numbered("u", number);
+            let name = numbered("n", rng.below(3));
+            if inner.is_empty() || rng.one_in(3) {
+                inner.push(Event::StartElement { uri, name });
+            } else {
+                inner.push(start("s"));
+                inner.push(Event::Attribute {
+                    uri,
+                    name,
+                    value: text("x"),
+                });
+            }
+            inner.push(Event::EndElement);
+        }
+    }
+    whole(inner)
+}
+
+fn names(rng: &mut Prng) -> Vec<Event> {
+    let count = rng.between(112, 124);
+    let mut inner = Vec::new();
+    for k in 0..count {
+        for number in [k, rng.below(k + 1)] {
+            let uri = if number % 7 == 0 { text("u") } else { text("") };
+            inner.push(Event::Attribute {
+                uri,
+                name: numbered("n", number),
+                value: numbered("v", rng.below(4)),
+            });
+        }
+    }
+    whole(inner)
+}
+
+fn values(rng: &mut Prng) -> Vec<Event> {
+    let count = rng.between(500, 518);
+    let names = rng.between(1, 3);
+    let mut inner = Vec::new();
+    for k in 0..count {
+        let name = numbered("n", rng.below(names));
+        inner.push(Event::StartElement {
+            uri: text(""),
+            name,
+        });
+        for number in [k, rng.below(k + 1)] {
+            inner.push(Event::Characters(numbered("v", number)));
+        }
+        inner.push(Event::EndElement);
+    }
+    whole(inner)
+}
+
+fn grammars(rng: &mut Prng) -> Vec<Event> {
+    let count = rng.between(58, 67);
+    let mut inner = Vec::new();
+    for k in 0..count {
+        for number in [k, rng.below(k + 1)] {
+            inner.push(Event::StartElement {
+                uri: text(""),
+                name: numbered("n", number),
+            });
+            inner.push(Event::EndElement);
+        }
+    }
+    whole(inner)
+}
+
+fn productions(rng: &mut Prng) -> Vec<Event> {
+    let target = rng.between(495, 525);
+    let elements = rng.between(6, 12);
+    let names = rng.between(80, 105);
+    let mut learned = std::collections::HashSet::new();
+    let mut inner = Vec::new();
+    while learned.len() < target && inner.len() < 3_000 {
+        let element = rng.below(elements);
+        inner.push(Event::StartElement {
+            uri: text(""),
+            name: numbered("e", element),
+        });
+        learned.insert((element, usize::MAX));
+        for _ in 0..rng.between(0, 60) {
+            let number = rng.below(names);
+            if learned.len() < target && learned.insert((element, number)) {
+                inner.push(Event::Attribute {
+                    uri: text(""),
+                    name: numbered("n", number),
+                    value: numbered("v", rng.below(4)),
+                });
+            }
+        }
+        inner.push(Event::EndElement);
+    }
+    whole(inner)
+}
+
+fn events(rng: &mut Prng) -> Vec<Event> {
+    let count = rng.between(4_090, 4_101);
+    let mut inner = Vec::new();
+    while inner.len() + 4 < count {
+        if inner.len() + 6 < count && rng.one_in(3) {
+            inner.push(start("s"));
+            inner.push(Event::EndElement);
+        } else {
+            inner.push(Event::Characters(numbered("v", rng.below(5))));
+        }
+    }
+    whole(inner)
+}
+
+/// Literals that come near the end of the text store.
+fn store(rng: &mut Prng, settings: Settings) -> Vec<Event> {
+    let target = TEXT_CELLS + rng.between(0, 5) - 3;
+    let mut inner = Vec::new();
+    let mut count = 99 + 1;
+    let mut number = 0;
+    while count < target {
+        let length = (target - count).min(rng.between(700, 1_024));
+        let mut value = numbered("", number);
+        value.resize(length.max(value.len()), 97);
+        if length < value.len() {
+            value = text("#######")[..length.min(7)].to_vec();
+        }
+        count += value.len();
+        number += 1;
+        inner.push(if settings.comments == 1 && rng.one_in(3) {
+            Event::Comment(value)
+        } else {
+            Event::Characters(value)
+        });
+        if rng.one_in(3) {
+            inner.push(Event::Characters(Vec::new()));
+        }
+    }
+    whole(inner)
+}
+
+/// Code points of two or three octets, so that the stream comes near its largest size.
+fn octets(rng: &mut Prng, settings: Settings) -> Vec<Event> {
+    let target = STREAM_OCTETS + rng.between(0, 6) - 3;
+    let wide = rng.one_in(2);
+    let code_point = if wide { 20_013 } else { 233 };
+    let mut inner = Vec::new();
+    let mut number = 0;
+    let mut left = target - 200;
+    while left > 0 {
+        let per_code_point = if wide { 3 } else { 2 };
+        let length = (left / per_code_point).clamp(4, 1_024);
+        let mut value = numbered("", number);
+        value.resize(length, code_point);
+        left = left.saturating_sub(length * per_code_point);
+        number += 1;
+        inner.push(Event::Characters(value));
+    }
+    let length = encode(settings, &whole(inner.clone())).octets().len();
+    if length + 4 < target {
+        let mut value = text("~");
+        value.resize(target - length - 2, 98);
+        inner.push(Event::Characters(value));
+    }
+    whole(inner)
+}

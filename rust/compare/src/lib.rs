@@ -1,0 +1,22 @@
+//! Compares the proved library with an ordinary implementation of the same rules.
+//!
+//! Nothing here knows the answers of either: [`encode`] lays out strict forms by the scope's own
+//! words, [`generate`] makes event lists, and [`damage`] puts a fault into a stream or a list and
+//! says, where the scope determines it, the number and index to be answered.
+//!
+//! The tests are in `tests/`: `streams` (those that the scope lists, and more of the kind), `sizes`
+//! (both sides of each), `primer` (the EXI Primer's worked examples), `vectors` (requests and
+//! answers from files), `differential` (random and damaged lists and streams), `batch` (the program
+//! of that name). Run them in a release build. The programs are `batch`, which answers request
+//! lines, and `bench`, which times both implementations.
+
+#![forbid(unsafe_code)]
+
+pub mod check;
+pub mod damage;
+pub mod encode;
+pub mod event;
+pub mod generate;
+pub mod lent;
+pub mod prng;
+pub mod protocol;

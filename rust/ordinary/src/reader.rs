@@ -1,0 +1,205 @@
+use crate::bits::BitReader;
+use crate::event::{Event, CELLS_PER_EVENT};
+use crate::grammar::{Grammars, Production, Symbol, Terminal};
+use crate::refusal::Refusal;
+use crate::settings::Options;
+use crate::tables::{NameId, StringTable, UriId, INITIAL_TEXT};
+use crate::text::{is_char, Span, MAX_STRING};
+use crate::{Failure, MAX_EVENTS, MAX_OCTETS, MAX_TEXT};
+
+/// Reads a stream. Gives the number of events and of code points.
+pub fn read(
+    options: Options,
+    stream: &[u8],
+    events: &mut [u32],
+    text: &mut [u32],
+) -> Result<(usize, usize), Failure> {
+    if stream.len() > MAX_OCTETS {
+        return Err((Refusal::Long, 0));
+    }
+    text[..INITIAL_TEXT.len()].copy_from_slice(&INITIAL_TEXT);
+    let mut reader = Reader {
+        bits: BitReader::new(stream, options.alignment),
+        strings: StringTable::new(),
+        grammars: Grammars::new(&options),
+        events,
+        event_count: 0,
+        text,
+        text_length: INITIAL_TEXT.len(),
+    };
+    match reader.document(&options) {
+        Ok(()) => Ok((reader.event_count, reader.text_length)),
+        Err(refusal) => Err((refusal, reader.event_count)),
+    }
+}
+
+struct Reader<'a> {
+    bits: BitReader<'a>,
+    strings: StringTable,
+    grammars: Grammars,
+    events: &'a mut [u32],
+    event_count: usize,
+    text: &'a mut [u32],
+    text_length: usize,
+}
+
+impl Reader<'_> {
+    fn document(&mut self, options: &Options) -> Result<(), Refusal> {
+        for &expected in options.header() {
+            if self.bits.octet()? != expected {
+                return Err(Refusal::Header);
+            }
+        }
+        while !self.grammars.is_finished() {
+            if self.event_count == MAX_EVENTS {
+                return Err(Refusal::Limit);
+            }
+            let event = self.event()?;
+            let start = self.event_count * CELLS_PER_EVENT;
+            self.events[start..start + CELLS_PER_EVENT].copy_from_slice(&event.to_cells());
+            self.event_count += 1;
+        }
+        self.bits.finish()
+    }
+
+    fn event(&mut self) -> Result<Event, Refusal> {
+        let (mut symbol, production) = self.grammars.decode(|m| self.bits.choice(m))?;
+        let event = match symbol.terminal {
+            Terminal::StartDocument => Event::StartDocument,
+            Terminal::EndDocument => Event::EndDocument,
+            Terminal::EndElement => Event::EndElement,
+            Terminal::StartElement => {
+                let name = self.qname(&mut symbol)?;
+                let (uri, name) = self.strings.name_texts(name);
+                Event::StartElement { uri, name }
+            }
+            Terminal::Attribute => {
+                let owner = self.qname(&mut symbol)?;
+                let value = self.value(owner)?;
+                let (uri, name) = self.strings.name_texts(owner);
+                Event::Attribute { uri, name, value }
+            }
+            Terminal::Characters => {
+                let owner = self.grammars.open_element().ok_or(Refusal::Code)?;
+                Event::Characters(self.value(owner)?)
+            }
+            Terminal::Comment => Event::Comment(self.string()?),
+            Terminal::ProcessingInstruction => {
+                let target = self.string()?;
+                if target.is_empty() {
+                    return Err(Refusal::Name);
+                }
+                let text = self.string()?;
+                Event::ProcessingInstruction { target, text }
+            }
+        };
+        if production == Production::Initial && self.grammars.has_learned(symbol) {
+            return Err(Refusal::Loose);
+        }
+        self.grammars.advance(symbol, production)?;
+        Ok(event)
+    }
+
+    /// The name of an element or attribute, from the stream unless the production carries it.
+    fn qname(&mut self, symbol: &mut Symbol) -> Result<NameId, Refusal> {
+        if let Some(name) = symbol.name {
+            return Ok(name);
+        }
+        let uri = self.uri()?;
+        let name = self.local_name(uri, symbol.terminal)?;
+        symbol.name = Some(name);
+        Ok(name)
+    }
+
+    fn uri(&mut self) -> Result<UriId, Refusal> {
+        match self.bits.choice(self.strings.uri_count() + 1)? {
+            0 => {
+                let text = self.string()?;
+                let known = self.strings.find_uri(self.text, text.of(self.text));
+                if known.is_some() {
+                    return Err(Refusal::Loose);
+                }
+                self.strings.add_uri(text)
+            }
+            hit => self.strings.uri(hit - 1).ok_or(Refusal::Reference),
+        }
+    }
+
+    fn local_name(&mut self, uri: UriId, terminal: Terminal) -> Result<NameId, Refusal> {
+        match self.bits.unsigned()? {
+            0 => {
+                let names = self.strings.local_names(uri);
+                let hit = self.bits.choice(names.len())?;
+                let name = *names.get(hit).ok_or(Refusal::Reference)?;
+                if terminal == Terminal::Attribute && name.is_reserved_attribute() {
+                    return Err(Refusal::Name);
+                }
+                Ok(name)
+            }
+            length => {
+                let text = self.literal(length - 1)?;
+                let known = self.strings.find_name(self.text, uri, text.of(self.text));
+                if known.is_some() {
+                    return Err(Refusal::Loose);
+                }
+                if text.is_empty() {
+                    return Err(Refusal::Name);
+                }
+                self.strings.add_name(uri, text)
+            }
+        }
+    }
+
+    fn value(&mut self, owner: NameId) -> Result<Span, Refusal> {
+        match self.bits.unsigned()? {
+            0 => {
+                let local = self.strings.local_values(owner);
+                let hit = self.bits.choice(local.len())?;
+                let id = *local.get(hit).ok_or(Refusal::Reference)?;
+                Ok(self.strings.values()[usize::from(id)].text)
+            }
+            1 => {
+                let global = self.strings.values();
+                let hit = self.bits.choice(global.len())?;
+                let value = global.get(hit).ok_or(Refusal::Reference)?;
+                if value.owner == owner {
+                    return Err(Refusal::Loose);
+                }
+                Ok(value.text)
+            }
+            length => {
+                let text = self.literal(length - 2)?;
+                if !text.is_empty() {
+                    match self.strings.find_value(self.text, text.of(self.text)) {
+                        Ok(_) => return Err(Refusal::Loose),
+                        Err(bucket) => self.strings.add_value(owner, text, bucket)?,
+                    }
+                }
+                Ok(text)
+            }
+        }
+    }
+
+    fn string(&mut self) -> Result<Span, Refusal> {
+        let length = self.bits.unsigned()?;
+        self.literal(length)
+    }
+
+    /// Reads code points to the end of the text store.
+    fn literal(&mut self, length: u32) -> Result<Span, Refusal> {
+        let length = length as usize;
+        let place = self.text_length;
+        if length > MAX_STRING || place + length > MAX_TEXT {
+            return Err(Refusal::Limit);
+        }
+        for cell in &mut self.text[place..place + length] {
+            let code_point = self.bits.unsigned()?;
+            if !is_char(code_point) {
+                return Err(Refusal::Character);
+            }
+            *cell = code_point;
+        }
+        self.text_length += length;
+        Ok(Span::new(place, length))
+    }
+}

@@ -1,0 +1,67 @@
+use crate::refusal::Refusal;
+
+/// The settings as numbers, each 0 or 1.
+#[derive(Clone, Copy, Debug, PartialEq, Eq)]
+pub struct Settings {
+    /// 0 bit-packed, 1 byte-aligned.
+    pub alignment: u32,
+    /// 1 if the stream begins with the EXI cookie.
+    pub cookie: u32,
+    /// 1 if comments are kept.
+    pub comments: u32,
+    /// 1 if processing instructions are kept.
+    pub instructions: u32,
+}
+
+#[derive(Clone, Copy, PartialEq, Eq)]
+pub enum Alignment {
+    BitPacked,
+    ByteAligned,
+}
+
+/// Settings that have a meaning.
+#[derive(Clone, Copy)]
+pub struct Options {
+    pub alignment: Alignment,
+    pub cookie: bool,
+    pub comments: bool,
+    pub instructions: bool,
+}
+
+impl Options {
+    /// The header of a stream: the cookie if asked for, no options, version 1.
+    pub fn header(&self) -> &'static [u8] {
+        const HEADER: &[u8] = b"$EXI\x80";
+        if self.cookie {
+            HEADER
+        } else {
+            &HEADER[4..]
+        }
+    }
+}
+
+impl TryFrom<Settings> for Options {
+    type Error = Refusal;
+
+    fn try_from(s: Settings) -> Result<Self, Refusal> {
+        let alignment = if flag(s.alignment)? {
+            Alignment::ByteAligned
+        } else {
+            Alignment::BitPacked
+        };
+        Ok(Options {
+            alignment,
+            cookie: flag(s.cookie)?,
+            comments: flag(s.comments)?,
+            instructions: flag(s.instructions)?,
+        })
+    }
+}
+
+fn flag(number: u32) -> Result<bool, Refusal> {
+    match number {
+        0 => Ok(false),
+        1 => Ok(true),
+        _ => Err(Refusal::Settings),
+    }
+}

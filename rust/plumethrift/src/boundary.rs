@@ -1,0 +1,114 @@
+//! The boundary's functions, declared by hand as in `include/plumethrift.h`. All `unsafe` of the
+//! crate is here.
+//!
+//! The caller owes them that each pointer is good for its length, aligned, and null only where the
+//! length is 0; and that a part lent for writing overlaps no other part of the call. Slices give
+//! all of it: their pointers are aligned and never null, and while a `&mut` slice is borrowed no
+//! other slice overlaps it. Any contents, lengths and numbers are allowed.
+
+use crate::lent::{ReadReply, SettingNumbers, Sizes, WriteReply};
+
+/// A refusal's name: ASCII, padded with zeros.
+#[repr(C)]
+struct Name {
+    text: [u8; 16],
+}
+
+extern "C" {
+    fn plumethrift_read(
+        settings: SettingNumbers,
+        stream: *const u8,
+        stream_octets: usize,
+        events: *mut u32,
+        event_cells: usize,
+        text: *mut u32,
+        text_cells: usize,
+        work: *mut u32,
+        work_cells: usize,
+    ) -> ReadReply;
+
+    fn plumethrift_write(
+        settings: SettingNumbers,
+        stream: *mut u8,
+        stream_octets: usize,
+        events: *const u32,
+        event_cells: usize,
+        text: *const u32,
+        text_cells: usize,
+        work: *mut u32,
+        work_cells: usize,
+    ) -> WriteReply;
+
+    fn plumethrift_event_cells() -> usize;
+    fn plumethrift_text_cells() -> usize;
+    fn plumethrift_stream_octets() -> usize;
+    fn plumethrift_reader_work_cells() -> usize;
+    fn plumethrift_writer_work_cells() -> usize;
+
+    fn plumethrift_refusal_name(number: u32) -> Name;
+}
+
+pub(crate) fn read(
+    settings: SettingNumbers,
+    stream: &[u8],
+    events: &mut [u32],
+    text: &mut [u32],
+    work: &mut [u32],
+) -> ReadReply {
+    // SAFETY: each pointer and length is a slice's own, borrowed for the whole call, as `&mut`
+    // where the library writes; it keeps no pointer after the call.
+    unsafe {
+        plumethrift_read(
+            settings,
+            stream.as_ptr(),
+            stream.len(),
+            events.as_mut_ptr(),
+            events.len(),
+            text.as_mut_ptr(),
+            text.len(),
+            work.as_mut_ptr(),
+            work.len(),
+        )
+    }
+}
+
+pub(crate) fn write(
+    settings: SettingNumbers,
+    octets: &mut [u8],
+    events: &[u32],
+    text: &[u32],
+    work: &mut [u32],
+) -> WriteReply {
+    // SAFETY: as in `read`. `events` and `text`, which are only read, may overlap each other.
+    unsafe {
+        plumethrift_write(
+            settings,
+            octets.as_mut_ptr(),
+            octets.len(),
+            events.as_ptr(),
+            events.len(),
+            text.as_ptr(),
+            text.len(),
+            work.as_mut_ptr(),
+            work.len(),
+        )
+    }
+}
+
+pub(crate) fn sizes() -> Sizes {
+    // SAFETY: the functions take nothing and touch no memory.
+    unsafe {
+        Sizes {
+            event_cells: plumethrift_event_cells(),
+            text_cells: plumethrift_text_cells(),
+            stream_octets: plumethrift_stream_octets(),
+            reader_work_cells: plumethrift_reader_work_cells(),
+            writer_work_cells: plumethrift_writer_work_cells(),
+        }
+    }
+}
+
+pub(crate) fn refusal_name(number: u32) -> [u8; 16] {
+    // SAFETY: the function takes any number, and touches no memory.
+    unsafe { plumethrift_refusal_name(number) }.text
+}

@@ -1,0 +1,146 @@
+//! The two calls over memory that the caller lends.
+//!
+//! Settings and answers are the numbers that cross the boundary, and nothing is allocated. Slices
+//! of any length and any contents are safe: a slice that is too short is refused as ROOM, a
+//! settings number without a meaning as SETTINGS.
+//!
+//! After success, every cell or octet past the last one that was written is zero, and all of `work`
+//! is. After a refusal the counts are 0, and all that was lent for writing is zero. What it held
+//! before the call does not matter.
+//!
+//! ```
+//! use plumethrift::lent::{self, SettingNumbers};
+//! use plumethrift::Event;
+//!
+//! let mut events = vec![0; lent::EVENT_CELLS];
+//! let mut text = vec![0; lent::TEXT_CELLS];
+//! let mut work = vec![0; lent::READER_WORK_CELLS];
+//!
+//! let bit_packed = SettingNumbers::default();
+//! let stream = [0x80, 0x40, 0x98, 0x40]; // <a/>
+//! let reply = lent::read(bit_packed, &stream, &mut events, &mut text, &mut work);
+//! assert_eq!((reply.number, reply.index, reply.events, reply.code_points), (0, 0, 4, 100));
+//!
+//! let second = Event::from_cells(&events[7..14], &text);
+//! assert!(matches!(second, Some(Event::StartElement { name, .. }) if name == "a"));
+//! ```
+
+use crate::boundary;
+
+/// Cells of one event.
+pub const CELLS_PER_EVENT: usize = 7;
+
+/// Event cells to lend to the reader, at least: for 4,096 events.
+pub const EVENT_CELLS: usize = 28_672;
+
+/// Text store to lend to the reader, at least: one code point a cell.
+pub const TEXT_CELLS: usize = 16_384;
+
+/// Octets to lend to the writer, at least; also the longest stream that the reader takes.
+pub const STREAM_OCTETS: usize = 16_384;
+
+/// Work memory to lend to the reader, at least, in cells.
+pub const READER_WORK_CELLS: usize = 4_096;
+
+/// Work memory to lend to the writer, at least, in cells.
+pub const WRITER_WORK_CELLS: usize = 20_480;
+
+/// Settings of a stream, as numbers. A number other than those named is refused as SETTINGS.
+///
+/// The default, all zero, is bit-packed, no cookie, nothing kept. [`Settings`](crate::Settings) are
+/// the same in types.
+#[repr(C)]
+#[derive(Clone, Copy, Debug, PartialEq, Eq, Default)]
+pub struct SettingNumbers {
+    /// 0 bit-packed, 1 byte-aligned.
+    pub alignment: u32,
+    /// 1 where the stream begins with the cookie `$EXI`, 0 where it does not.
+    pub cookie: u32,
+    /// 1 where comments are kept, 0 where they are dropped.
+    pub comments: u32,
+    /// 1 where processing instructions are kept, 0 where they are dropped.
+    pub instructions: u32,
+}
+
+/// The reader's answer.
+#[repr(C)]
+#[derive(Clone, Copy, Debug, PartialEq, Eq, Default)]
+pub struct ReadReply {
+    /// 0, or the number of a [`Refusal`](crate::Refusal).
+    pub number: u32,
+    /// The event concerned by a refusal; 0 on success.
+    pub index: u32,
+    /// Events written.
+    pub events: u32,
+    /// Code points written to the text store.
+    pub code_points: u32,
+}
+
+/// The writer's answer.
+#[repr(C)]
+#[derive(Clone, Copy, Debug, PartialEq, Eq, Default)]
+pub struct WriteReply {
+    /// 0, or the number of a [`Refusal`](crate::Refusal).
+    pub number: u32,
+    /// The event concerned by a refusal; 0 on success.
+    pub index: u32,
+    /// Octets written.
+    pub octets: u32,
+}
+
+/// The sizes to lend, as the library answers them.
+#[derive(Clone, Copy, Debug, PartialEq, Eq)]
+pub struct Sizes {
+    /// [`EVENT_CELLS`].
+    pub event_cells: usize,
+    /// [`TEXT_CELLS`].
+    pub text_cells: usize,
+    /// [`STREAM_OCTETS`].
+    pub stream_octets: usize,
+    /// [`READER_WORK_CELLS`].
+    pub reader_work_cells: usize,
+    /// [`WRITER_WORK_CELLS`].
+    pub writer_work_cells: usize,
+}
+
+/// Reads a stream.
+///
+/// The list is the first `7 * reply.events` of `events`, its text store the first
+/// `reply.code_points` of `text`. [`Event::from_cells`](crate::Event::from_cells) takes an event
+/// out of its cells.
+pub fn read(
+    s: SettingNumbers,
+    stream: &[u8],
+    events: &mut [u32],
+    text: &mut [u32],
+    work: &mut [u32],
+) -> ReadReply {
+    boundary::read(s, stream, events, text, work)
+}
+
+/// Writes the list that is all of `events`, with its strings in all of `text`.
+///
+/// The stream is the first `reply.octets` of `octets`. Where `events` is no multiple of 7, the rest
+/// is one more event, which is SHAPE.
+pub fn write(
+    s: SettingNumbers,
+    octets: &mut [u8],
+    events: &[u32],
+    text: &[u32],
+    work: &mut [u32],
+) -> WriteReply {
+    boundary::write(s, octets, events, text, work)
+}
+
+/// Asks the library for the sizes. They are this module's constants.
+pub fn sizes() -> Sizes {
+    boundary::sizes()
+}
+
+/// Asks the library for a refusal's name, in ASCII padded with zeros; all zeros for a number that
+/// is not 1 to 15.
+///
+/// [`Refusal::name`](crate::Refusal::name) is the same as a string.
+pub fn refusal_name(number: u32) -> [u8; 16] {
+    boundary::refusal_name(number)
+}

@@ -1,0 +1,187 @@
+use std::error::Error;
+use std::fmt;
+
+/// Why a stream or a list was refused.
+#[derive(Clone, Copy, Debug, PartialEq, Eq, Hash)]
+#[repr(u32)]
+pub enum Refusal {
+    /// A lent part is too short. [`Reader`](crate::Reader) and [`Writer`](crate::Writer) lend
+    /// enough.
+    Room = 1,
+    /// A settings number has no meaning. [`Settings`](crate::Settings) have none such.
+    Settings = 2,
+    /// Reader: the input is over 16,384 octets. Writer: the result would be.
+    Long = 3,
+    /// An octet differs from the header that the settings ask for.
+    Header = 4,
+    /// The input ends inside the header or a field.
+    Ended = 5,
+    /// An event code part names no production.
+    Code = 6,
+    /// An Unsigned Integer is not in fewest octets, over 5 octets, or above 2,147,483,647.
+    Number = 7,
+    /// A code point is no XML 1.0 Char.
+    Character = 8,
+    /// A URI, name or value number names no entry.
+    Reference = 9,
+    /// A literal, hit or production stands where the strict form has another for the same text or
+    /// event.
+    Loose = 10,
+    /// An empty local name or target, or attribute `nil` or `type` in the XMLSchema-instance URI.
+    Name = 11,
+    /// A size would be passed: 4,096 events; 100 elements open at once; 16 URIs and 128 local
+    /// names, those included that every stream begins with; 512 distinct values that are not empty;
+    /// 64 element grammars; 512 learned productions; 1,024 code points in a string; 16,384 in the
+    /// reader's text store.
+    Limit = 12,
+    /// A pad bit is 1, or octets follow the end.
+    Tail = 13,
+    /// Writer: the kinds or the order of events break the rules of a [well-formed
+    /// list](crate::EventList).
+    Shape = 14,
+    /// Writer: a string's place plus length passes the text store's length. An
+    /// [`EventList`](crate::EventList) has no such string.
+    Place = 15,
+}
+
+impl Refusal {
+    /// All refusals, by number.
+    pub const ALL: [Refusal; 15] = [
+        Refusal::Room,
+        Refusal::Settings,
+        Refusal::Long,
+        Refusal::Header,
+        Refusal::Ended,
+        Refusal::Code,
+        Refusal::Number,
+        Refusal::Character,
+        Refusal::Reference,
+        Refusal::Loose,
+        Refusal::Name,
+        Refusal::Limit,
+        Refusal::Tail,
+        Refusal::Shape,
+        Refusal::Place,
+    ];
+
+    /// The refusal of a number; none for 0, which is success, and for any above 15.
+    ///
+    /// ```
+    /// use plumethrift::Refusal;
+    ///
+    /// assert_eq!(Refusal::from_number(13), Some(Refusal::Tail));
+    /// assert_eq!(Refusal::from_number(0), None);
+    /// ```
+    pub fn from_number(number: u32) -> Option<Refusal> {
+        Refusal::ALL
+            .into_iter()
+            .find(|refusal| refusal.number() == number)
+    }
+
+    /// Its number, 1 to 15.
+    pub const fn number(self) -> u32 {
+        self as u32
+    }
+
+    /// Its name in capitals, as the library has it.
+    pub const fn name(self) -> &'static str {
+        match self {
+            Refusal::Room => "ROOM",
+            Refusal::Settings => "SETTINGS",
+            Refusal::Long => "LONG",
+            Refusal::Header => "HEADER",
+            Refusal::Ended => "ENDED",
+            Refusal::Code => "CODE",
+            Refusal::Number => "NUMBER",
+            Refusal::Character => "CHARACTER",
+            Refusal::Reference => "REFERENCE",
+            Refusal::Loose => "LOOSE",
+            Refusal::Name => "NAME",
+            Refusal::Limit => "LIMIT",
+            Refusal::Tail => "TAIL",
+            Refusal::Shape => "SHAPE",
+            Refusal::Place => "PLACE",
+        }
+    }
+
+    /// What it means, in one sentence without a full stop.
+    pub const fn sentence(self) -> &'static str {
+        match self {
+            Refusal::Room => "a lent part is too short",
+            Refusal::Settings => "a settings number has no meaning",
+            Refusal::Long => "the stream is, or would be, over 16384 octets",
+            Refusal::Header => "an octet differs from the header that the settings ask for",
+            Refusal::Ended => "the input ends inside the header or a field",
+            Refusal::Code => "an event code part names no production",
+            Refusal::Number => {
+                "an Unsigned Integer is not in fewest octets, over 5 octets, or above 2147483647"
+            }
+            Refusal::Character => "a code point is no XML 1.0 Char",
+            Refusal::Reference => "a URI, name or value number names no entry",
+            Refusal::Loose => {
+                "a literal, hit or production stands where the strict form has another"
+            }
+            Refusal::Name => {
+                "a local name or target is empty, or an attribute is xsi:nil or xsi:type"
+            }
+            Refusal::Limit => "a size would be passed",
+            Refusal::Tail => "a pad bit is 1, or octets follow the end",
+            Refusal::Shape => {
+                "the kinds or the order of events break the rules of a well-formed list"
+            }
+            Refusal::Place => "a string lies outside the text store",
+        }
+    }
+}
+
+impl fmt::Display for Refusal {
+    fn fmt(&self, f: &mut fmt::Formatter<'_>) -> fmt::Result {
+        f.write_str(self.name())
+    }
+}
+
+/// A refusal, and the event that it concerns.
+///
+/// ```
+/// use plumethrift::{Reader, Refusal, Refused, Settings};
+///
+/// let refused = Reader::new().read(&Settings::default(), &[]).unwrap_err();
+/// assert_eq!(refused, Refused { refusal: Refusal::Ended, index: 0 });
+/// assert_eq!(
+///     refused.to_string(),
+///     "refused: 5 ENDED at event 0: the input ends inside the header or a field"
+/// );
+/// ```
+#[derive(Clone, Copy, Debug, PartialEq, Eq, Hash)]
+pub struct Refused {
+    /// Why.
+    pub refusal: Refusal,
+    /// The number of events before the one concerned. It is 0 for refusals 1 to 4, and counts all
+    /// events for [`Refusal::Tail`].
+    pub index: u32,
+}
+
+impl fmt::Display for Refused {
+    fn fmt(&self, f: &mut fmt::Formatter<'_>) -> fmt::Result {
+        let Refused { refusal, index } = self;
+        write!(
+            f,
+            "refused: {} {} at event {}: {}",
+            refusal.number(),
+            refusal.name(),
+            index,
+            refusal.sentence()
+        )
+    }
+}
+
+impl Error for Refused {}
+
+/// An answer's number and index as a result.
+pub(crate) fn judge(number: u32, index: u32) -> Result<(), Refused> {
+    if number == 0 {
+        return Ok(());
+    }
+    let refusal = Refusal::from_number(number).expect("the library's refusals are 1 to 15");
+    Err(Refused { refusal, index })
+}

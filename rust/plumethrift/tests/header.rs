@@ -1,0 +1,61 @@
+//! `include/plumethrift.h` says the same numbers as this crate, and so as the library.
+
+use std::collections::BTreeMap;
+use std::fs;
+use std::path::Path;
+
+use plumethrift::{lent, Refusal};
+
+/// The header's `#define PLUMETHRIFT_X number` and `PLUMETHRIFT_X = number` lines.
+fn numbers() -> BTreeMap<String, usize> {
+    let path = Path::new(env!("CARGO_MANIFEST_DIR")).join("../../include/plumethrift.h");
+    let header = fs::read_to_string(path).unwrap();
+    let mut numbers = BTreeMap::new();
+    for line in header.lines() {
+        let words: Vec<&str> = line
+            .split([' ', ','])
+            .filter(|word| !word.is_empty())
+            .collect();
+        let (name, number) = match words[..] {
+            ["#define", name, number, ..] => (name, number),
+            [name, "=", number, ..] => (name, number),
+            _ => continue,
+        };
+        if let Some(name) = name.strip_prefix("PLUMETHRIFT_") {
+            assert_eq!(
+                numbers.insert(name.to_string(), number.parse().unwrap()),
+                None
+            );
+        }
+    }
+    numbers
+}
+
+#[test]
+fn the_header_has_these_numbers_and_no_others() {
+    let mut expected: BTreeMap<String, usize> = [
+        ("CELLS_PER_EVENT", lent::CELLS_PER_EVENT),
+        ("EVENT_CELLS", lent::EVENT_CELLS),
+        ("TEXT_CELLS", lent::TEXT_CELLS),
+        ("STREAM_OCTETS", lent::STREAM_OCTETS),
+        ("READER_WORK_CELLS", lent::READER_WORK_CELLS),
+        ("WRITER_WORK_CELLS", lent::WRITER_WORK_CELLS),
+        ("BIT_PACKED", 0),
+        ("BYTE_ALIGNED", 1),
+        ("START_DOCUMENT", 1),
+        ("END_DOCUMENT", 2),
+        ("START_ELEMENT", 3),
+        ("ATTRIBUTE", 4),
+        ("END_ELEMENT", 5),
+        ("CHARACTERS", 6),
+        ("COMMENT", 7),
+        ("INSTRUCTION", 8),
+        ("OK", 0),
+    ]
+    .map(|(name, number)| (name.to_string(), number))
+    .into();
+    expected.extend(
+        Refusal::ALL.map(|refusal| (refusal.name().to_string(), refusal.number() as usize)),
+    );
+    assert_eq!(numbers(), expected);
+}

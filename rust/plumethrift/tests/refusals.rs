@@ -1,0 +1,238 @@
+//! Refusals of reader and writer, each with its index, and the refusals' numbers and names.
+
+use plumethrift::{
+    lent, Alignment, Event, EventList, Reader, Refusal, Refused, Settings, Text, Writer,
+};
+
+const BIT_PACKED: Settings = Settings {
+    alignment: Alignment::BitPacked,
+    cookie: false,
+    comments: false,
+    instructions: false,
+};
+const BYTE_ALIGNED: Settings = Settings {
+    alignment: Alignment::ByteAligned,
+    ..BIT_PACKED
+};
+
+#[track_caller]
+fn not_read(settings: Settings, stream: &[u8], refusal: Refusal, index: u32) {
+    assert_eq!(
+        Reader::new().read(&settings, stream).unwrap_err(),
+        Refused { refusal, index }
+    );
+}
+
+#[track_caller]
+fn not_written(settings: Settings, list: &EventList, refusal: Refusal, index: u32) {
+    assert_eq!(
+        Writer::new().write(&settings, list).unwrap_err(),
+        Refused { refusal, index }
+    );
+}
+
+/// A whole document around `<a>`, with what `inside` adds.
+fn inside_a(inside: impl Fn(&mut EventList)) -> EventList {
+    let mut list = EventList::new();
+    list.start_document().start_element("", "a");
+    inside(&mut list);
+    list.end_element().end_document();
+    list
+}
+
+#[test]
+fn the_scopes_refused_streams() {
+    use Refusal::*;
+    not_read(BYTE_ALIGNED, &[0x80, 0x01, 0x02, 0x61, 0x04], Code, 2); // K8
+    not_read(
+        BYTE_ALIGNED,
+        &[0x80, 0x01, 0x82, 0x00, 0x61, 0x00],
+        Number,
+        1,
+    ); // K9
+    not_read(BYTE_ALIGNED, &[0x80, 0x00, 0x00], Loose, 1); // K10
+    not_read(BYTE_ALIGNED, &[0x80, 0x01, 0x00], Reference, 1); // K11
+    not_read(BYTE_ALIGNED, &[0x80, 0x01, 0x02, 0x61, 0x00, 0x00], Tail, 4); // K12
+    not_read(BYTE_ALIGNED, &[], Ended, 0);
+    not_read(BYTE_ALIGNED, &[0x80], Ended, 1);
+    not_read(BYTE_ALIGNED, &[0xA0], Header, 0);
+    not_read(BYTE_ALIGNED, &[0x80, 0x01, 0x01], Name, 1);
+    not_read(BIT_PACKED, &[0x80, 0x40, 0x98, 0x41], Tail, 4);
+    not_read(
+        BYTE_ALIGNED,
+        &[0x80, 0x01, 0x02, 0x61, 0x01, 0x03, 0x00, 0x01],
+        Name,
+        2,
+    );
+}
+
+#[test]
+fn streams_that_are_too_long_or_have_a_bad_character() {
+    not_read(BYTE_ALIGNED, &[0x80; 16_385], Refusal::Long, 0);
+    not_read(
+        BYTE_ALIGNED,
+        &[0x80, 0x01, 0x03, 0x08],
+        Refusal::Character,
+        1,
+    );
+    not_read(
+        BYTE_ALIGNED,
+        &[0x80, 0x01, 0xFF, 0xFF, 0xFF, 0xFF, 0x07],
+        Refusal::Limit,
+        1,
+    );
+}
+
+#[test]
+fn lists_out_of_shape() {
+    let mut list = EventList::new();
+    not_written(BIT_PACKED, &list, Refusal::Shape, 0);
+    list.start_document().start_element("", "a").characters("b");
+    not_written(BIT_PACKED, &list, Refusal::Shape, 3);
+    list.attribute("", "k", "x").end_element().end_document();
+    not_written(BIT_PACKED, &list, Refusal::Shape, 3);
+
+    let mut after = inside_a(|_| {});
+    after.end_document();
+    not_written(BIT_PACKED, &after, Refusal::Shape, 4);
+}
+
+#[test]
+fn kinds_that_the_settings_drop() {
+    let comment = inside_a(|list| {
+        list.comment("c");
+    });
+    not_written(
+        Settings {
+            instructions: true,
+            ..BIT_PACKED
+        },
+        &comment,
+        Refusal::Shape,
+        2,
+    );
+    assert!(Writer::new()
+        .write(
+            &Settings {
+                comments: true,
+                ..BIT_PACKED
+            },
+            &comment
+        )
+        .is_ok());
+
+    let instruction = inside_a(|list| {
+        list.instruction("t", "d");
+    });
+    not_written(
+        Settings {
+            comments: true,
+            ..BIT_PACKED
+        },
+        &instruction,
+        Refusal::Shape,
+        2,
+    );
+    assert!(Writer::new()
+        .write(
+            &Settings {
+                instructions: true,
+                ..BIT_PACKED
+            },
+            &instruction
+        )
+        .is_ok());
+}
+
+#[test]
+fn names_that_are_refused() {
+    let empty = inside_a(|list| {
+        list.attribute("", "", "x");
+    });
+    not_written(BIT_PACKED, &empty, Refusal::Name, 2);
+
+    let nil = inside_a(|list| {
+        list.attribute("http://www.w3.org/2001/XMLSchema-instance", "nil", "true");
+    });
+    not_written(BIT_PACKED, &nil, Refusal::Name, 2);
+}
+
+/// Both sides of the sizes of strings, code points and open elements.
+#[test]
+fn both_sides_of_a_size() {
+    let string = |length: usize| {
+        inside_a(|list| {
+            list.characters(&"x".repeat(length));
+        })
+    };
+    assert!(Writer::new().write(&BIT_PACKED, &string(1_024)).is_ok());
+    not_written(BIT_PACKED, &string(1_025), Refusal::Limit, 2);
+
+    let point = |point: u32| {
+        inside_a(|list| {
+            list.push(Event::Characters {
+                text: Text::new(&[point]),
+            });
+        })
+    };
+    assert!(Writer::new().write(&BIT_PACKED, &point(0xD7FF)).is_ok());
+    not_written(BIT_PACKED, &point(0xD800), Refusal::Character, 2);
+
+    let open = |elements: usize| {
+        let mut list = EventList::new();
+        list.start_document();
+        for _ in 0..elements {
+            list.start_element("", "a");
+        }
+        for _ in 0..elements {
+            list.end_element();
+        }
+        list.end_document();
+        list
+    };
+    assert!(Writer::new().write(&BIT_PACKED, &open(100)).is_ok());
+    not_written(BIT_PACKED, &open(101), Refusal::Limit, 101);
+}
+
+/// A stream that would be over 16,384 octets: 16 strings of 1,010 code points that take 2 octets
+/// each.
+#[test]
+fn a_list_whose_stream_would_be_too_long() {
+    let list = inside_a(|list| {
+        for i in 0..16 {
+            let first = char::from(b'a' + i);
+            list.characters(&format!("{first}{}", "é".repeat(1_009)));
+        }
+    });
+    not_written(BYTE_ALIGNED, &list, Refusal::Long, 0);
+}
+
+#[test]
+fn numbers_and_names_are_the_librarys() {
+    for (refusal, number) in Refusal::ALL.into_iter().zip(1..) {
+        assert_eq!(refusal.number(), number);
+        assert_eq!(Refusal::from_number(number), Some(refusal));
+
+        let mut name = [0; 16];
+        name[..refusal.name().len()].copy_from_slice(refusal.name().as_bytes());
+        assert_eq!(lent::refusal_name(number), name);
+        assert_eq!(format!("{refusal:?}").to_uppercase(), refusal.name());
+    }
+    for number in [0, 16, 256, 65_537, u32::MAX] {
+        assert_eq!(Refusal::from_number(number), None);
+        assert_eq!(lent::refusal_name(number), [0; 16]);
+    }
+}
+
+#[test]
+fn a_refusal_says_what_it_is() {
+    let refused = Refused {
+        refusal: Refusal::Loose,
+        index: 3,
+    };
+    let says = "refused: 10 LOOSE at event 3: \
+                a literal, hit or production stands where the strict form has another";
+    assert_eq!(refused.to_string(), says);
+    let error: Box<dyn std::error::Error + Send + Sync> = Box::new(refused);
+    assert_eq!(error.to_string(), says);
+}
