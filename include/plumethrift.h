@@ -192,7 +192,7 @@ static inline plumethrift_string plumethrift_event_string(const uint32_t *event,
   plumethrift_string string = {text, 0};
   const size_t place = event[1 + 2 * which];
   const size_t length = event[2 + 2 * which];
-  if (place < text_cells && length <= text_cells - place) {
+  if (place <= text_cells && length <= text_cells - place) {
     string.code_points = text + place;
     string.length = length;
   }

@@ -1,11 +1,12 @@
 -- Laws of a code's parts: each is one of so many, they are few, and how they are written.
-use mathlib.Core.Path.{_≡_, refl, ap, subst}
+use mathlib.Core.Path.{_≡_, refl, sym, ap, subst}
 use Prim.Native.Nat.{ℕ, _+_, _*_, _≤_, _<_}
 use native.Mathlib.Omega.{arith}
-use mathlib.Core.Bool.{Bool, true, false, cond, _||_}
+use mathlib.Core.Bool.{Bool, true, false, cond, _||_, true≢false}
 use mathlib.Core.List.{List, [], _∷_, append-nil}
 use mathlib.Core.Logic.{inl, inr}
-use lib.Dec.{T, eqb}
+use lib.Dec.{T, eqb, leb}
+use borrow.Author.Tests.{eqb-true, ne-eqb, leb-true}
 use lib.ListN.{length, length-append}
 use Rattle.fields.specs.Bits.{each}
 use Rattle.fields.specs.Field.{Alignment, choiceBits}
@@ -19,7 +20,7 @@ use denote.Enum.Declared.{tagOf}
 use Rattle.event_code.proofs.Code.{the-type}
 use Rattle.event_code.specs.declared.Code.{Code}
 use Rattle.event_code.specs.declared.Code.the-variants.{None, One, Two, Three}
-use Rattle.event_code.specs.Parts.{partsOf, partsBits, under, one, keptParts, documentParts, tagParts, contentParts, fixedParts, learnedPart, PartsFit, CodeFits}
+use Rattle.event_code.specs.Parts.{partsOf, partsBits, under, one, keptParts, documentParts, tagParts, contentParts, fixedParts, learnedPart, teachesIn, PartsFit, CodeFits}
 
 -- ---- each part is one of so many
 
@@ -157,3 +158,23 @@ pub put-first : (a : Alignment) (m v : ℕ) (ps : List (ℕ × ℕ)) {stream mid
     → Put stream at (choiceBits a m v) mid r → Put mid r (partsBits a ps) after s → Put stream at (partsBits a ((m, v) ∷ ps)) after s
 unfolding partsBits each
 put-first a m v ps f g = put-then f g
+
+-- What is taught, and where.
+pub teaches-in : (mode kind : ℕ) → teachesIn mode kind ≡ true → (4 ≤ mode) × (2 ≤ kind) × (kind ≤ 5)
+unfolding teachesIn
+teaches-in mode kind e =
+    split (eqb mode 4)
+    (λ a.
+    let four : mode ≡ 4 = eqb-true mode 4 a in
+    let f = rw (a, ne-eqb mode 5 (λ z. omega arith)) at e in
+    split (leb 2 kind)
+    (λ p. split (leb kind 5) (λ q. (omega arith, leb-true 2 kind p, leb-true kind 5 q)) (λ q. absurd (true≢false (sym (rw (p, q) at f)))))
+    (λ p. absurd (true≢false (sym (rw p at f)))))
+    (λ a. split (eqb mode 5)
+    (λ b.
+    let five : mode ≡ 5 = eqb-true mode 5 b in
+    let f = rw (a, b) at e in
+    split (eqb kind 2)
+    (λ p. let two : kind ≡ 2 = eqb-true kind 2 p in omega arith)
+    (λ p. let last : kind ≡ 5 = eqb-true kind 5 (rw p at f) in omega arith))
+    (λ b. absurd (true≢false (sym (rw (a, b) at e)))))

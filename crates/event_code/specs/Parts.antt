@@ -1,5 +1,5 @@
 -- Event codes as parts, each a value among so many: what src/lib.rt computes, from the state's number, the count of productions that are
--- learned there, the kinds that are kept and the event's kind. proofs/Codes.antt shows that these are the definitions' codes.
+-- learned there, the kinds that are kept and the event's kind.
 --
 -- States: 0 document, 1 document content, 2 document end, 3 finished, 4 start tag, 5 element content. Kinds: `kindNumber` of the format.
 use Prim.Native.Nat.{ℕ, _+_, _≤_, _<_}

@@ -2,3 +2,4 @@ pub mod Tests
 pub mod Exact
 pub mod Number
 pub mod Pack
+pub mod Refusal

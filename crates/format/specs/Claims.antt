@@ -1,4 +1,4 @@
--- What is claimed, with only definitions above it. crates/format/proofs/Claims.antt proves each.
+-- What is claimed, with only definitions above it.
 --
 -- Throughout, o is settings' numbers, r and p are lengths of lent parts, and a stream is a list of octets.
 use Prim.Native.Nat.{ℕ}

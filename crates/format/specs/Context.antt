@@ -24,7 +24,7 @@ levelsIn s c = levels s (c .learned) (c .state)
 
 -- ---- the strings of an event
 
--- A content item (EXI 7): a string of an event, where it stands, and whether it is written. A name that a learned production carries is not.
+-- A string of an event's content (EXI 4; a qname has two), where it stands, and whether it is written. A name that a learned production carries is not.
 pub record Item : Type 0 where
   pub role : Role
   pub written : Bool

@@ -73,7 +73,7 @@ readString a t r = do
 
 -- ---- events
 
--- The first entry with this text. (A name that a learned production carries always has one: proofs/Places.antt.)
+-- The first entry with this text. (A name that a learned production carries always has one.)
 unfoldable pub entryOf : List Placed → Text → Placed
 entryOf [] x = record { place = 0; text = x }
 entryOf (e ∷ es) x = cond (eqText (e .text) x) e (entryOf es x)

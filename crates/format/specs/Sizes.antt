@@ -1,4 +1,4 @@
--- The sizes (scope, "Sizes"), each named here and nowhere else.
+-- The sizes (scope, "Sizes"). Code writes them as numbers, and contracts by these names.
 use Prim.Native.Nat.{ℕ, _*_}
 
 -- octets of a stream

@@ -9,7 +9,8 @@ use lib.ListN.{length, length-append}
 use lib.Dec.{T, leb}
 use borrow.Author.Tests.{leb-true}
 use Rattle.fields.specs.Field.{Alignment}
-use Rattle.fields.specs.Refusal.{Refusal, numberOf, room, settings, long, header, ended, code, number, character, reference, loose, name, limit, tail, shape, place}
+use Rattle.fields.specs.Refusal.{Refusal, numberOf, character, name, limit}
+use Rattle.fields.proofs.Refusal.{refusal-number}
 use Rattle.fields.proofs.Tests.{split, T-is, is-T, right}
 use Rattle.text.specs.Text.{Text, allChars}
 use Rattle.format.specs.Sizes.{maxUris, maxNames, maxValues, maxString, maxStore}
@@ -29,27 +30,6 @@ none-fault = refl
 pub some-fault : (k : Refusal) → faultNumber (some k) ≡ numberOf k
 unfolding faultNumber
 some-fault k = refl
-
-pub refusal-number : (k : Refusal) → 1 ≤ numberOf k
-unfolding numberOf
-refusal-number k =
-    elim k [
-      | room ↦ omega arith
-      | settings ↦ omega arith
-      | long ↦ omega arith
-      | header ↦ omega arith
-      | ended ↦ omega arith
-      | code ↦ omega arith
-      | number ↦ omega arith
-      | character ↦ omega arith
-      | reference ↦ omega arith
-      | loose ↦ omega arith
-      | name ↦ omega arith
-      | limit ↦ omega arith
-      | tail ↦ omega arith
-      | shape ↦ omega arith
-      | place ↦ omega arith
-    ]
 
 pub fault-none : (o : Option Refusal) → faultNumber o ≡ 0 → o ≡ none
 unfolding faultNumber

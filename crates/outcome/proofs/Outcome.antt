@@ -8,37 +8,16 @@ use native.Mathlib.Nat.{le-refl, le-trans, zero-add, suc-add}
 use native.Mathlib.Omega.{arith}
 use lib.ListN.{length, drop, getElem?}
 use Rattle.fields.specs.Bits.{Bits, unpack}
-use Rattle.fields.specs.Refusal.{Refusal, numberOf, room, settings, long, header, ended, code, number, character, reference, loose, name, limit, tail, shape, place}
+use Rattle.fields.specs.Refusal.{Refusal, numberOf}
 use Rattle.fields.specs.Parser.{Result, bad, got, Parser, return, fail, present, need, times, andThen, _>>=_, _>>_}
 use Rattle.fields.specs.Field.{Alignment, octet, numberField, width, choice, unsigned}
+use Rattle.fields.proofs.Refusal.{refusal-number}
 use Rattle.fields.proofs.Exact.{Reads, not-got, got-value, got-rest}
 use Rattle.fields.proofs.Number.{octet-reads, number-reads, unsigned-reads}
 use Rattle.read_field.specs.declared.Field.the-variants.{Value, Refused}
 use Rattle.read_field.specs.View.{fieldAt}
 use Rattle.read_field.proofs.View as view
 use Rattle.outcome.specs.Outcome.{Declined, Gotten, Outcome}
-
--- No refusal has the number 0.
-pub refusal-number : (k : Refusal) → 0 < numberOf k
-unfolding numberOf
-refusal-number k =
-    elim k [
-      | room ↦ omega arith
-      | settings ↦ omega arith
-      | long ↦ omega arith
-      | header ↦ omega arith
-      | ended ↦ omega arith
-      | code ↦ omega arith
-      | number ↦ omega arith
-      | character ↦ omega arith
-      | reference ↦ omega arith
-      | loose ↦ omega arith
-      | name ↦ omega arith
-      | limit ↦ omega arith
-      | tail ↦ omega arith
-      | shape ↦ omega arith
-      | place ↦ omega arith
-    ]
 
 -- ---- one parser
 

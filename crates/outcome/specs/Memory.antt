@@ -38,7 +38,7 @@ pub record Clear (work text : List ℕ) (st : State) : Type 0 where
   pub learned : ZeroRows work learnedAt (st .learned) maxLearned
   pub grammars : ZeroRows work grammarsAt (st .grammars) maxGrammars
 
--- What a string asks: a position in the stream, tidy tables, zeros behind the store.
+-- What a string asks: a position in the stream, tidy tables, room in the store and zeros behind it.
 pub record ReadReady (stream work text : List ℕ) (st : State) : Type 0 where
   pub size : length stream ≤ maxStream
   pub place : st .at ≤ 8 * length stream

@@ -1,5 +1,4 @@
-// The strings of an event (EXI 7: content items), each read by the string tables, which it then joins; a form that is not the strict one is refused. What
-// the functions ask and leave is in specs/Content.antt, of those that read a part of a string in specs/Parts.antt.
+// A string of an event's content (EXI 4), read by the string tables (EXI 7.3); a form that is not the strict one is refused. What the functions ask and leave is in specs/Content.antt, of those that read a part of a string in specs/Parts.antt.
 ghost use mathlib.Core.Path.{_≡_};
 ghost use mathlib.Core.Bool.{cond};
 ghost use mathlib.Core.List.{_++_};

@@ -1,4 +1,4 @@
-// The strings of an event (EXI 7: its content items), read by its production. A refusal leaves state and memory as they were. What the functions ask and
+// The strings of an event's content (EXI 4), read by its production. A refusal leaves state and memory as they were. What the functions ask and
 // leave is in specs/Content.antt.
 ghost use mathlib.Core.Path.{_≡_};
 ghost use Prim.Native.Nat.{_≤_};
@@ -26,7 +26,8 @@ struct Named {
     state: State,
 }
 
-// The number of a string's refusal or 0, the row of the event's name or 0, the event, and the state as in Named.
+// The number of a string's refusal or 0, the row of the event's name or 0, the event, and the state behind it. After a refusal the row is 0, the event a start
+// document and the state as it came in.
 pub struct Content {
     pub number: u32,
     pub row: u32,

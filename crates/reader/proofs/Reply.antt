@@ -5,8 +5,8 @@ use Prim.Native.Nat.{ℕ, _<_}
 use native.Mathlib.Omega.{arith}
 use lib.ListN.{length, replicate}
 use Rattle.fields.specs.Refusal.{Refusal, numberOf, Answer, refused, accepted}
+use Rattle.fields.proofs.Refusal.{refusal-number}
 use Rattle.format.specs.Reader.{Reading, readReply}
-use Rattle.outcome.proofs.Outcome.{refusal-number}
 use Rattle.reader.specs.Read.{replyOf, eventsFilled, textFilled, Attempted, refusalOf}
 use Rattle.reader.specs.declared.ReadReply as declared
 

@@ -37,6 +37,6 @@ nameAmong (r ∷ rs) n = cond (eqb (numberOf r) n) (nameOf r) (nameAmong rs n)
 unfoldable pub padded : Text → List ℕ
 padded x = x ++ replicate (16 - length x) 0
 
--- The name of the refusal with this number; zeros where there is none (proofs/Table.antt: each refusal is found by its number).
+-- The name of the refusal with this number; zeros where there is none.
 unfoldable pub nameAt : ℕ → List ℕ
 nameAt n = padded (nameAmong refusals n)

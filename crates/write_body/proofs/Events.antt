@@ -11,6 +11,7 @@ use mir.Val.{Fits}
 use lib.Dec.{ltb}
 use borrow.Author.Tests.{ltb-true, ltb-false}
 use Rattle.fields.proofs.Tests.{split}
+use Rattle.fields.proofs.Refusal.{refusal-number}
 use Rattle.fields.specs.Bits.{Bits}
 use Rattle.fields.specs.Refusal.{Refusal, numberOf, limit, shape, Answer, refused, accepted}
 use Rattle.text.specs.Text.{Text, Span, part}
@@ -30,7 +31,7 @@ use Rattle.standing.specs.Standing.{contextOf, reached, Standing}
 use Rattle.standing.proofs.Laws.{document-state, docContent-state, docEnd-state, finished-state, startTag-state, elementContent-state}
 use Rattle.standing.proofs.Laws.{reached-standing, reached-context}
 use Rattle.literal.specs.Fault.{faultNumber}
-use Rattle.literal.proofs.Laws.{none-fault, some-fault, fault-none, refusal-number}
+use Rattle.literal.proofs.Laws.{none-fault, some-fault, fault-none}
 use Rattle.write_field.specs.Written.{Put}
 use Rattle.write_field.proofs.Written.{put-then, put-blank, put-nothing}
 use Rattle.write_event.specs.Step.{StepReady, Step, Done}

@@ -6,8 +6,8 @@ use mathlib.Core.Bool.{Bool, true, false, and-false, true≢false}
 use mathlib.Core.List.{List, [], _∷_}
 use mathlib.Core.Option.{none, Option·none-ne-some}
 use lib.ListN.{length}
-use lib.Dec.{eqb, leb, ltb}
-use borrow.Author.Tests.{eqb-true, ne-eqb, leb-true, ltb-true, ltb-false}
+use lib.Dec.{eqb, ltb}
+use borrow.Author.Tests.{ne-eqb, ltb-true, ltb-false}
 use Rattle.fields.proofs.Tests.{split}
 use Rattle.format.specs.Grammar.{State, document, docContent, docEnd, finished, startTag, elementContent, Learned, learn, learnedAfter}
 use Rattle.format.specs.Context.{levelsIn}
@@ -21,7 +21,7 @@ use Rattle.read_field.specs.View.{alignmentOf}
 use Rattle.write_field.specs.Written.{Put}
 use Rattle.write_form.specs.Form.{moved}
 use Rattle.event_code.specs.Parts.{partsBits, under, keptParts, documentParts, tagParts, contentParts, fixedParts, learnedPart, teachesIn, PartsFit, CodeFits}
-use Rattle.event_code.proofs.Parts.{fixed-fits, learned-fits, parts-length}
+use Rattle.event_code.proofs.Parts.{fixed-fits, learned-fits, parts-length, teaches-in}
 use Rattle.event_code.proofs.Codes.{fixed-coded, fixed-none, learned-coded}
 use Rattle.fitting.specs.declared.Newer.{Newer}
 use Rattle.fitting.specs.Fitting.{rowOr, Newest}
@@ -66,26 +66,6 @@ inner-none mode count comments instructions kind l h =
       kept-none comments instructions kind (omega arith),
     )
     (split (eqb mode 4) (λ e. rw e) (λ e. rw e (split (eqb mode 5) (λ f. rw f) (λ f. rw f))))
-
--- What is taught, and where.
-teaches-in : (mode kind : ℕ) → teachesIn mode kind ≡ true → (4 ≤ mode) × (2 ≤ kind) × (kind ≤ 5)
-unfolding teachesIn
-teaches-in mode kind e =
-    split (eqb mode 4)
-    (λ a.
-    let four : mode ≡ 4 = eqb-true mode 4 a in
-    let f = rw (a, ne-eqb mode 5 (λ z. omega arith)) at e in
-    split (leb 2 kind)
-    (λ p. split (leb kind 5) (λ q. (omega arith, leb-true 2 kind p, leb-true kind 5 q)) (λ q. absurd (true≢false (sym (rw (p, q) at f)))))
-    (λ p. absurd (true≢false (sym (rw p at f)))))
-    (λ a. split (eqb mode 5)
-    (λ b.
-    let five : mode ≡ 5 = eqb-true mode 5 b in
-    let f = rw (a, b) at e in
-    split (eqb kind 2)
-    (λ p. let two : kind ≡ 2 = eqb-true kind 2 p in omega arith)
-    (λ p. let last : kind ≡ 5 = eqb-true kind 5 (rw p at f) in omega arith))
-    (λ b. absurd (true≢false (sym (rw (a, b) at e)))))
 
 learned-none : (st : State) (ls : List Learned) → learnedAfter st none ls ≡ ls
 unfolding learnedAfter learn

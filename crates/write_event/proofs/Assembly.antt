@@ -8,6 +8,7 @@ use mathlib.Core.Option.{Option, none, some}
 use lib.ListN.{length}
 use Rattle.fields.specs.Refusal.{Refusal, numberOf}
 use Rattle.fields.specs.Field.{Alignment}
+use Rattle.fields.proofs.Refusal.{refusal-number}
 use Rattle.text.specs.Text.{Text, Span, inside, part}
 use Rattle.format.specs.Event.{Event, startDocument, endDocument, endElement, startElement, attribute, characters, comment, instruction, mapEvent, stringsOf, kindOf}
 use Rattle.format.specs.Settings.{Settings}
@@ -25,7 +26,7 @@ use Rattle.standing.specs.Standing.{countsOf, contextOf, Standing}
 use Rattle.standing.proofs.Kept.{kept-standing, kept-context}
 use Rattle.standing.proofs.Laws.{reached-standing}
 use Rattle.literal.specs.Fault.{faultNumber}
-use Rattle.literal.proofs.Laws.{fault-none, some-fault, none-fault, refusal-number}
+use Rattle.literal.proofs.Laws.{fault-none, some-fault, none-fault}
 use Rattle.write_field.specs.Written.{Put}
 use Rattle.write_field.proofs.Written.{put-then, put-blank}
 use Rattle.write_form.specs.declared.Sent.{Sent}

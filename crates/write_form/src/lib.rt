@@ -26,7 +26,7 @@ fn put_hit(aligned: bool, stream: &mut [u8], at: usize, partition: u32, among: u
 }
 
 // The String, its length raised; and its text behind the store.
-pub fn put_literal(stream: &mut [u8], st: State, raised: u32, x: &[u32], work: &mut [u32]) -> State
+fn put_literal(stream: &mut [u8], st: State, raised: u32, x: &[u32], work: &mut [u32]) -> State
     requires { ⌜ LiteralFits (now stream) (now work) st raised (now x) ⌝ }
     ensures { λ r. ⌜ Laid raised (now (x .entry)) (now (stream .entry)) (now (work .entry)) st (now (stream .exit)) (now (work .exit)) r ⌝ }
 {

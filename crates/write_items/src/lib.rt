@@ -1,4 +1,4 @@
-// The strings of an event, its items (EXI 7), written behind its code. What the functions ask and leave is in specs/Items.antt.
+// The strings of an event's content (EXI 4), written behind its code. What the functions ask and leave is in specs/Items.antt.
 ghost use Prim.Native.Nat.{_+_, _≤_};
 ghost use Rattle.text.specs.Text.{part};
 ghost use Rattle.format.specs.Event.{mapEvent};

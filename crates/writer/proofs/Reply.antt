@@ -10,6 +10,7 @@ use borrow.Author.Tests.{le-leb, lt-leb, ltb-true, ltb-false}
 use Rattle.fields.specs.Bits.{Bits, unpack, octetsFor, pack}
 use Rattle.fields.specs.Refusal.{Refusal, numberOf, room, settings, long, Answer, refused, accepted}
 use Rattle.fields.proofs.Tests.{split}
+use Rattle.fields.proofs.Refusal.{refusal-number}
 use Rattle.text.specs.Text.{Text}
 use Rattle.format.specs.Settings.{meaningful, settingsOf, headerOf}
 use Rattle.format.specs.Settings as format
@@ -22,7 +23,6 @@ use Rattle.settings.specs.Meant.{numbersOf, settingsMeant, settingsFrom}
 use Rattle.settings.proofs.Laws.{settings-from}
 use Rattle.settings.specs.declared.SettingNumbers.{SettingNumbers}
 use Rattle.settings.specs.declared.Settings.{Settings}
-use Rattle.literal.proofs.Laws.{refusal-number}
 use Rattle.write_field.specs.Written.{Put}
 use Rattle.write_field.proofs.Written.{zeros-blank, put-then}
 use Rattle.write_header.specs.Header.{HeaderPut}
