@@ -1,0 +1,218 @@
+// Answers requests to the reader and the writer, a line of standard input each, words separated by one space:
+//
+//     r A K C P HEX            reads the octets HEX
+//     w A K C P EVENTS STORE   writes the events EVENTS over the text store STORE
+//     l PLACE LENGTH STORE     looks a string up
+//     # ..                     is written out as it is
+//
+// A, K, C and P are the settings' numbers: alignment, cookie, comments, instructions. HEX has two hexadecimal digits for each octet. STORE has code
+// points in hexadecimal, with commas between. EVENTS has events with commas between: SD, ED, EE, SE, AT, CH, CM, PI, each with `:place:length` for each
+// of its strings, in decimal; BAD is a stored event of no kind, BAD2 a stored end element with data. `-` stands for nothing. There is room for 65,535
+// octets of a line, 20,000 octets, 5,000 events and 20,000 code points.
+//
+// The answers are `NUMBER INDEX EVENTS STORE`, `NUMBER INDEX HEX` and STORE, or `?` to any other line. Before each call all memory that is lent for
+// writing is filled with the octet A5, and is 3 cells longer than it has to be. An answer ends with DIRTY where a cell that has to be zero is not, or
+// where the cells are not what a count says.
+mod parse;
+mod print;
+
+use parse::Laid;
+use parse::Numeral;
+use reader::ReadReply;
+use settings::SettingNumbers;
+use writer::WriteReply;
+
+struct Request {
+    numbers: SettingNumbers,
+    next: usize,
+}
+
+const CELL: u32 = 0xA5A5A5A5;
+
+fn unclear() {
+    io::write_all(1, b"?\n");
+}
+
+fn show_read(r: ReadReply, cells: &[u32], store: &[u32], work: &[u32]) {
+    print::head(r.number, r.index);
+    let are_events = print::events(cells, r.events);
+    let is_text = print::code_points(store, r.code_points as usize);
+    print::end(are_events & is_text & print::are_zero(work));
+}
+
+// Calls the reader, with 3 cells more than the sizes of each part.
+fn read(s: SettingNumbers, stream: &[u8]) {
+    let mut cells = [CELL; 28675];
+    let mut store = [CELL; 16387];
+    let mut work = [CELL; 4099];
+    let r = reader::read(s, stream, &mut cells, &mut store, &mut work);
+    show_read(r, &cells, &store, &work);
+}
+
+fn show_written(r: WriteReply, stream: &[u8], work: &[u32]) {
+    print::head(r.number, r.index);
+    let are_octets = print::octets(stream, r.octets as usize);
+    print::end(are_octets & print::are_zero(work));
+}
+
+// The same for the writer.
+fn write(s: SettingNumbers, cells: &[u32], text: &[u32]) {
+    let mut stream = [0xA5u8; 16387];
+    let mut work = [CELL; 20483];
+    let r = writer::write(s, &mut stream, cells, text, &mut work);
+    show_written(r, &stream, &work);
+}
+
+fn first_octets(x: &[u8], n: usize) -> &[u8] {
+    if n <= x.len() {
+        return &x[0..n];
+    }
+    x
+}
+
+fn first_cells(x: &[u32], n: usize) -> &[u32] {
+    if n <= x.len() {
+        return &x[0..n];
+    }
+    x
+}
+
+// A space, and a decimal number.
+fn setting(line: &[u8], at: usize) -> Numeral {
+    parse::number(line, parse::after(line, at, b' '), 10)
+}
+
+fn asked(line: &[u8]) -> Request {
+    let a = setting(line, 1);
+    let k = setting(line, a.next);
+    let c = setting(line, k.next);
+    let p = setting(line, c.next);
+    Request {
+        numbers: SettingNumbers {
+            alignment: a.value,
+            cookie: k.value,
+            comments: c.value,
+            instructions: p.value,
+        },
+        next: parse::after(line, p.next, b' '),
+    }
+}
+
+// Nothing, where a dash stands for it; else what was laid.
+fn laid_at(line: &[u8], at: usize, l: Laid) -> Laid {
+    let next = parse::after(line, at, b'-');
+    if next == 0 {
+        return l;
+    }
+    Laid { count: 0, next }
+}
+
+fn store_at(line: &[u8], at: usize, store: &mut [u32]) -> Laid {
+    laid_at(line, at, parse::numbers(line, at, b',', 16, 16, store, 0))
+}
+
+fn answer_read(line: &[u8]) {
+    let a = asked(line);
+    let mut octets = [0u8; 20000];
+    let o = laid_at(line, a.next, parse::octets(line, a.next, &mut octets));
+    if o.next != line.len() {
+        unclear();
+        return;
+    }
+    read(a.numbers, first_octets(&octets, o.count));
+}
+
+fn answer_write(line: &[u8]) {
+    let a = asked(line);
+    let mut cells = [0u32; 35000];
+    let mut store = [0u32; 20000];
+    let e = laid_at(line, a.next, parse::events(line, a.next, &mut cells));
+    let t = store_at(line, parse::after(line, e.next, b' '), &mut store);
+    if t.next != line.len() {
+        unclear();
+        return;
+    }
+    let events = first_cells(&cells, e.count);
+    write(a.numbers, events, first_cells(&store, t.count));
+}
+
+fn answer_look_up(line: &[u8]) {
+    let place = setting(line, 1);
+    let size = setting(line, place.next);
+    let mut store = [0u32; 20000];
+    let t = store_at(line, parse::after(line, size.next, b' '), &mut store);
+    if t.next != line.len() {
+        unclear();
+        return;
+    }
+    let x = text::look_up(first_cells(&store, t.count), place.value, size.value);
+    print::code_points(x, x.len());
+    print::end(true);
+}
+
+fn copy(line: &[u8]) {
+    io::write_all(1, line);
+    io::write_all(1, b"\n");
+}
+
+fn answer(line: &[u8]) {
+    if line.len() == 0 {
+        unclear();
+        return;
+    }
+    match line[0] {
+        b'#' => copy(line),
+        b'r' => answer_read(line),
+        b'w' => answer_write(line),
+        b'l' => answer_look_up(line),
+        _ => unclear(),
+    }
+}
+
+fn wide(o: u8) -> u32 {
+    o as u32
+}
+
+// An octet of standard input; 256 at its end.
+fn next_octet() -> u32 {
+    let mut one = [0u8; 1];
+    if io::read_full(0, &mut one) == 0 {
+        return 256;
+    }
+    wide(one[0])
+}
+
+// Reads a line, and tells its length; all of the room where standard input has no line left that fits it.
+fn read_line(line: &mut [u8]) -> usize {
+    let mut n = 0;
+    while n < line.len() {
+        let b = next_octet();
+        if b == 10 {
+            return n;
+        }
+        if b == 256 {
+            return line.len();
+        }
+        line[n] = (b % 256) as u8;
+        n += 1;
+    }
+    n
+}
+
+fn answer_line() -> bool {
+    let mut line = io::large_buffer();
+    let n = read_line(&mut line);
+    if n == 65536 {
+        return false;
+    }
+    answer(first_octets(&line, n));
+    true
+}
+
+// A proved loop ends: no input has as many lines.
+fn main() {
+    let mut turns = u64::MAX;
+    while turns > 0 && answer_line() {
+        turns -= 1;
+    }
+}
