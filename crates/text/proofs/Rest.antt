@@ -1,4 +1,4 @@
--- What is left of a text at a position: how `allChars` goes on there, stops and ends; texts that are the same from a position on.
+-- What is left of a text at a position: how `allChars` goes on there, stops and ends; texts that are the same at both ends.
 use mathlib.Core.Path.{_≡_, refl, sym, ap}
 use mathlib.Core.Bool.{Bool, true, false}
 use Prim.Native.Nat.{ℕ, _+_, _-_, _≤_, _<_}
@@ -28,34 +28,48 @@ module _ (x : Text) (i : ℕ) where
 pub lengths-differ : (a b : Text) → (length a ≡ length b → ⊥) → false ≡ eqText a b
 lengths-differ a b h = sym (eqText-no a b (λ e. h (ap length e)))
 
--- The texts are the same from i on.
-pub record SameFrom (a b : Text) (i : ℕ) : Type 0 where
-  pub inside : i ≤ length a
-  pub same : (k : ℕ) → i ≤ k → k < length a → getD a k 0 ≡ getD b k 0
+-- The first k and the last k code points are the same.
+pub record SameEnds (a b : Text) (k : ℕ) : Type 0 where
+  pub inside : k ≤ length a
+  pub front : (i : ℕ) → i < k → getD a i 0 ≡ getD b i 0
+  pub back : (i : ℕ) → length a ≤ i + k → i < length a → getD a i 0 ≡ getD b i 0
 
 true-is : (b : Bool) → T b → true ≡ b
 true-is true t = refl
 true-is false t = absurd t
 
 module _ (a b : Text) where
-  pub same-start : SameFrom a b (length a)
-  same-start = record { inside = omega arith; same = λ k l h. absurd (omega arith) }
+  pub same-start : SameEnds a b 0
+  same-start = record { inside = omega arith; front = λ i h. absurd (omega arith); back = λ i l h. absurd (omega arith) }
 
   pub same-stop : (i : ℕ) → (getD a i 0 ≡ getD b i 0 → ⊥) → false ≡ eqText a b
   same-stop i e = sym (eqText-no a b (λ z. e (ap (λ (x : Text). getD x i 0) z)))
 
-  pub same-on : (i : ℕ) → 0 < i → SameFrom a b i → getD a (i - 1) 0 ≡ getD b (i - 1) 0 → SameFrom a b (i - 1)
-  same-on i p s e =
+  pub same-on : (k : ℕ) → k < length a - k → SameEnds a b k → getD a k 0 ≡ getD b k 0
+      → getD a (length a - 1 - k) 0 ≡ getD b (length a - 1 - k) 0 → SameEnds a b (k + 1)
+  same-on k p s e f =
       record {
         inside = omega (arith, s .inside);
-        same = λ k l h.
-            elim (decLe i k) [
-              | yes y ↦ s .same k y h
-              | no n ↦ let z : k ≡ i - 1 = omega arith in rw z e
+        front = λ i h.
+            elim (decLe k i) [
+              | yes y ↦ let z : i ≡ k = omega arith in rw z e
+              | no n ↦ s .front i (omega arith)
+            ];
+        back = λ i l h.
+            elim (decLe (length a) (i + k)) [
+              | yes y ↦ s .back i y h
+              | no n ↦ let z : i ≡ length a - 1 - k = omega arith in rw z f
             ];
       }
 
-  pub same-end : (i : ℕ) → i ≤ 0 → length a ≡ length b → SameFrom a b i → true ≡ eqText a b
-  same-end i z len s =
-      let e : a ≡ b = ext-getD 0 a b len (λ k h. s .same k (omega arith) h) in
+  pub same-end : (k : ℕ) → length a - k ≤ k → length a ≡ length b → SameEnds a b k → true ≡ eqText a b
+  same-end k p len s =
+      let each : (i : ℕ) → i < length a → getD a i 0 ≡ getD b i 0 =
+      λ i h.
+      elim (decLe k i) [
+        | yes y ↦ s .back i (omega arith) h
+        | no n ↦ s .front i (omega arith)
+      ]
+      in
+      let e : a ≡ b = ext-getD 0 a b len each in
       rw e (true-is (eqText b b) (eqText-refl b))
