@@ -10,9 +10,9 @@
 // of its strings, in decimal; BAD is a stored event of no kind, BAD2 a stored end element with data. `-` stands for nothing. There is room for 65,535
 // octets of a line, 20,000 octets, 5,000 events and 20,000 code points.
 //
-// The answers are `NUMBER INDEX EVENTS STORE`, `NUMBER INDEX HEX` and STORE, or `?` to any other line. Before each call all memory that is lent for
-// writing is filled with the octet A5, and is 3 cells longer than it has to be. An answer ends with DIRTY where a cell that has to be zero is not, or
-// where the cells are not what a count says.
+// The answers are `NUMBER INDEX EVENTS STORE`, `NUMBER INDEX HEX`, and a string's length and code points; `?` to any other line. Before each call all
+// memory that is lent for writing is filled with the octet A5, and is 3 cells longer than it has to be. An answer ends with DIRTY where a cell that has to
+// be zero is not, or where the cells are not what a count says.
 mod parse;
 mod print;
 
@@ -29,15 +29,12 @@ struct Request {
 
 const CELL: u32 = 0xA5A5A5A5;
 
-fn unclear() {
-    io::write_all(1, b"?\n");
-}
-
 fn show_read(r: ReadReply, cells: &[u32], store: &[u32], work: &[u32]) {
-    print::head(r.number, r.index);
+    print::head(r.number, r.index, b" - -");
     let are_events = print::events(cells, r.events);
-    let is_text = print::code_points(store, r.code_points as usize);
-    print::end(are_events & is_text & print::are_zero(work));
+    let is_text = print::code_points(store, 0, r.code_points as usize);
+    let are_zero = print::code_points(cells, 7 * r.events as usize, 0);
+    print::end(are_events & is_text & are_zero & print::code_points(work, 0, 0));
 }
 
 // Calls the reader, with 3 cells more than the sizes of each part.
@@ -50,9 +47,9 @@ fn read(s: SettingNumbers, stream: &[u8]) {
 }
 
 fn show_written(r: WriteReply, stream: &[u8], work: &[u32]) {
-    print::head(r.number, r.index);
+    print::head(r.number, r.index, b" -");
     let are_octets = print::octets(stream, r.octets as usize);
-    print::end(are_octets & print::are_zero(work));
+    print::end(are_octets & print::code_points(work, 0, 0));
 }
 
 // The same for the writer.
@@ -111,61 +108,63 @@ fn store_at(line: &[u8], at: usize, store: &mut [u32]) -> Laid {
     laid_at(line, at, parse::numbers(line, at, b',', 16, 16, store, 0))
 }
 
-fn answer_read(line: &[u8]) {
+fn answer_read(line: &[u8]) -> bool {
     let a = asked(line);
     let mut octets = [0u8; 20000];
     let o = laid_at(line, a.next, parse::octets(line, a.next, &mut octets));
     if o.next != line.len() {
-        unclear();
-        return;
+        return false;
     }
     read(a.numbers, first_octets(&octets, o.count));
+    true
 }
 
-fn answer_write(line: &[u8]) {
+fn answer_write(line: &[u8]) -> bool {
     let a = asked(line);
     let mut cells = [0u32; 35000];
     let mut store = [0u32; 20000];
     let e = laid_at(line, a.next, parse::events(line, a.next, &mut cells));
     let t = store_at(line, parse::after(line, e.next, b' '), &mut store);
     if t.next != line.len() {
-        unclear();
-        return;
+        return false;
     }
     let events = first_cells(&cells, e.count);
     write(a.numbers, events, first_cells(&store, t.count));
+    true
 }
 
-fn answer_look_up(line: &[u8]) {
+fn answer_look_up(line: &[u8]) -> bool {
     let place = setting(line, 1);
     let size = setting(line, place.next);
     let mut store = [0u32; 20000];
     let t = store_at(line, parse::after(line, size.next, b' '), &mut store);
     if t.next != line.len() {
-        unclear();
-        return;
+        return false;
     }
     let x = text::look_up(first_cells(&store, t.count), place.value, size.value);
-    print::code_points(x, x.len());
+    io::print_decimal(1, x.len() as u64);
+    print::code_points(x, 0, x.len());
     print::end(true);
+    true
 }
 
-fn copy(line: &[u8]) {
+fn copy(line: &[u8]) -> bool {
     io::write_all(1, line);
-    io::write_all(1, b"\n");
+    print::end(true);
+    true
 }
 
-fn answer(line: &[u8]) {
+// Tells whether the line is a request or a comment.
+fn answer(line: &[u8]) -> bool {
     if line.len() == 0 {
-        unclear();
-        return;
+        return false;
     }
     match line[0] {
         b'#' => copy(line),
         b'r' => answer_read(line),
         b'w' => answer_write(line),
         b'l' => answer_look_up(line),
-        _ => unclear(),
+        _ => false,
     }
 }
 
@@ -199,13 +198,16 @@ fn read_line(line: &mut [u8]) -> usize {
     n
 }
 
+// Tells whether there was a line.
 fn answer_line() -> bool {
     let mut line = io::large_buffer();
     let n = read_line(&mut line);
     if n == 65536 {
         return false;
     }
-    answer(first_octets(&line, n));
+    if !answer(first_octets(&line, n)) {
+        io::write_all(1, b"?\n");
+    }
     true
 }
 

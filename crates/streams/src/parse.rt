@@ -1,5 +1,5 @@
-// A request, read from left to right. What is read tells the place behind it, or place 0 where the line goes on otherwise: the letter that a request
-// begins with stands there, so that nothing is read from place 0 and the place stays 0.
+// A request, read from left to right. What is read tells the place behind it, or place 0 where the line goes on otherwise. The letter that a request begins
+// with is no digit, no separator and no event, so that nothing is read at place 0 either: the place stays 0.
 ghost use mathlib.Core.Path.{_≡_};
 ghost use Prim.Native.Nat.{_+_, _≤_};
 ghost use lib.ListN.{length};
@@ -165,7 +165,7 @@ fn kind(word: u32) -> u32 {
         454 => 7, // CM
         918 => 8, // PI
         14629 => 9, // BAD
-        526646 => 5, // BAD2
+        BAD2 => 5,
         _ => 0,
     }
 }

@@ -1,8 +1,8 @@
--- `streams::print::event_list` is safe and ends: the events that are left grow fewer.
+-- `streams::print::events` is safe and ends: the events that are left grow fewer.
 use Prim.Native.Nat.{_-_}
 use borrow.Author.Needs.{needs}
-use Rattle.streams.proofs.print.event_list.Statement.{statement}
-use Rattle.streams.proofs.print.event_list.Tie as tie
+use Rattle.streams.proofs.print.events.Statement.{statement}
+use Rattle.streams.proofs.print.events.Tie as tie
 
 abbrev Inv-loop : tie.InvT-loop
 Inv-loop cells n is-clean₀ i₀ is-clean i = Unit {0}
@@ -10,8 +10,8 @@ Inv-loop cells n is-clean₀ i₀ is-clean i = Unit {0}
 abbrev μ-loop : tie.MeasureT-loop
 μ-loop cells n is-clean₀ i₀ is-clean i = n - i
 
-pub event-list-spec : {M : Type 1} → statement M
-event-list-spec =
+pub events-spec : {M : Type 1} → statement M
+events-spec =
     tie.close
     (tie.spec
     Inv-loop

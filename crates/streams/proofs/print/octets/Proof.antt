@@ -1,9 +1,9 @@
--- `streams::print::octet_list` is safe and ends: what is left of the octets grows shorter.
+-- `streams::print::octets` is safe and ends: what is left of the octets grows shorter.
 use Prim.Native.Nat.{_-_}
 use lib.ListN.{length}
 use borrow.Author.Needs.{needs}
-use Rattle.streams.proofs.print.octet_list.Statement.{statement}
-use Rattle.streams.proofs.print.octet_list.Tie as tie
+use Rattle.streams.proofs.print.octets.Statement.{statement}
+use Rattle.streams.proofs.print.octets.Tie as tie
 
 abbrev Inv-loop : tie.InvT-loop
 Inv-loop stream n is-clean₀ i₀ is-clean i = Unit {0}
@@ -11,8 +11,8 @@ Inv-loop stream n is-clean₀ i₀ is-clean i = Unit {0}
 abbrev μ-loop : tie.MeasureT-loop
 μ-loop stream n is-clean₀ i₀ is-clean i = length stream - i
 
-pub octet-list-spec : {M : Type 1} → statement M
-octet-list-spec =
+pub octets-spec : {M : Type 1} → statement M
+octets-spec =
     tie.close
     (tie.spec
     Inv-loop
