@@ -46,7 +46,7 @@
 extern "C" {
 #endif
 
-/* Sizes to lend, at least. The functions of the same names answer the same numbers. */
+/* Sizes to lend, at least. plumethrift_sizes answers the same numbers. */
 #define PLUMETHRIFT_EVENT_CELLS 28672       /* reader: events, 7 cells for each of 4,096 */
 #define PLUMETHRIFT_TEXT_CELLS 16384        /* reader: text store, one code point a cell */
 #define PLUMETHRIFT_STREAM_OCTETS 16384     /* writer: octets; the reader takes no longer stream */
@@ -170,11 +170,15 @@ plumethrift_write_reply plumethrift_write(plumethrift_settings settings,
 plumethrift_name plumethrift_refusal_name(uint32_t number);
 
 /* The sizes to lend, at least: what the macros of the same names say. */
-size_t plumethrift_event_cells(void);
-size_t plumethrift_text_cells(void);
-size_t plumethrift_stream_octets(void);
-size_t plumethrift_reader_work_cells(void);
-size_t plumethrift_writer_work_cells(void);
+typedef struct plumethrift_sizes_to_lend {
+  size_t event_cells;
+  size_t text_cells;
+  size_t stream_octets;
+  size_t reader_work_cells;
+  size_t writer_work_cells;
+} plumethrift_sizes_to_lend;
+
+plumethrift_sizes_to_lend plumethrift_sizes(void);
 
 /* A string that was looked up: a part of the caller's own text store. It is not ended by a zero. */
 typedef struct plumethrift_string {

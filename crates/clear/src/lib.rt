@@ -14,7 +14,7 @@ pub fn cells_from(x: &mut [u32], at: usize)
     }
 }
 
-pub fn octets_from(x: &mut [u8], at: usize)
+fn octets_from(x: &mut [u8], at: usize)
     ensures { λ _. ⌜ now (x .exit) ≡ take at (now (x .entry)) ++ replicate (length (now (x .entry)) - at) 0 ⌝ }
 {
     let mut k = at;

@@ -1,4 +1,4 @@
--- Laws of a code's parts: each is one of so many, they are few, and how they are written.
+-- Laws of a code's parts: each is one of so many, and they are few.
 use mathlib.Core.Path.{_≡_, refl, sym, ap, subst}
 use Prim.Native.Nat.{ℕ, _+_, _*_, _≤_, _<_}
 use native.Mathlib.Omega.{arith}
@@ -7,20 +7,15 @@ use mathlib.Core.List.{List, [], _∷_, append-nil}
 use mathlib.Core.Logic.{inl, inr}
 use lib.Dec.{T, eqb, leb}
 use borrow.Author.Tests.{eqb-true, ne-eqb, leb-true}
-use lib.ListN.{length, length-append}
-use Rattle.fields.specs.Bits.{each}
-use Rattle.fields.specs.Field.{Alignment, choiceBits}
+use lib.ListN.{length}
 use Rattle.fields.proofs.Tests.{split}
 use Rattle.format.specs.Sizes.{maxLearned}
-use Rattle.write_field.specs.Written.{Put, ChoiceFits, blankFrom, farthest}
-use Rattle.write_field.proofs.Written.{put-then, put-blank}
-use Rattle.write_field.proofs.Lengths.{choice-length}
 use types.Run.{OneOf}
 use denote.Enum.Declared.{tagOf}
 use Rattle.event_code.proofs.Code.{the-type}
 use Rattle.event_code.specs.declared.Code.{Code}
 use Rattle.event_code.specs.declared.Code.the-variants.{None, One, Two, Three}
-use Rattle.event_code.specs.Parts.{partsOf, partsBits, under, one, keptParts, documentParts, tagParts, contentParts, fixedParts, learnedPart, teachesIn, PartsFit, CodeFits}
+use Rattle.event_code.specs.Parts.{partsOf, under, one, keptParts, documentParts, tagParts, contentParts, fixedParts, learnedPart, teachesIn, PartsFit}
 
 -- ---- each part is one of so many
 
@@ -89,7 +84,7 @@ pub learned-fits : (mode count v : ℕ) → count ≤ maxLearned → v < count �
 unfolding learnedPart maxLearned
 learned-fits mode count v few l = split (eqb mode 4) (λ e. rw e (omega arith)) (λ e. rw e (omega arith))
 
--- ---- parts are few, and short
+-- ---- parts are few
 
 pub parts-of-few : (c : Code) → length (partsOf c) ≤ 3
 unfolding partsOf
@@ -97,13 +92,6 @@ parts-of-few None = omega arith
 parts-of-few (One p) = omega arith
 parts-of-few (Two p q) = omega arith
 parts-of-few (Three p q r) = omega arith
-
-pub parts-length : (a : Alignment) (ps : List (ℕ × ℕ)) → PartsFit ps → length (partsBits a ps) ≤ 16 * length ps
-unfolding partsBits each
-parts-length a [] h = omega arith
-parts-length a (p ∷ ps) h =
-    rw (length-append (choiceBits a (p .0) (p .1)) (partsBits a ps))
-    (omega (arith, choice-length a (p .0) (p .1) (h .1), parts-length a ps (h .2)))
 
 pub none-parts : (c : Code) → partsOf c ≡ [] → c ≡ None
 unfolding partsOf
@@ -124,40 +112,6 @@ not-first x (inr (inr h)) = omega arith
 -- In the other arms of a `match` that has one for None: the code has parts.
 pub some-parts : (c : Code) → OneOf (1 ∷ 2 ∷ 3 ∷ []) (tagOf the-type c) → partsOf c ≡ [] → ⊥
 some-parts c h e = let z : tagOf the-type c ≡ 0 = ap (tagOf the-type) (none-parts c e) in omega (arith, not-first (tagOf the-type c) h)
-
--- ---- the parts written one after the other
-
--- What is asked before the parts ps are written.
-pub record PartsAsk (stream : List ℕ) (at : ℕ) (ps : List (ℕ × ℕ)) : Type 0 where
-  pub blank : T (blankFrom stream at)
-  pub near : at + 16 * length ps ≤ farthest
-  pub fit : PartsFit ps
-
-pub code-asks : {stream : List ℕ} {at : ℕ} {c d : Code} → c ≡ d → CodeFits stream at (partsOf c) → PartsAsk stream at (partsOf d)
-code-asks {stream} {at} {c} e h =
-    subst (λ k. PartsAsk stream at (partsOf k)) e (record { blank = h .blank; near = omega (arith, h .near, parts-of-few c); fit = h .fit })
-
-module _ {stream : List ℕ} {at : ℕ} {p : ℕ × ℕ} {ps : List (ℕ × ℕ)} (h : PartsAsk stream at (p ∷ ps)) where
-  pub first-asks : ChoiceFits stream at (p .0) (p .1)
-  first-asks = record { blank = h .blank; near = omega (arith, h .near); few = h .fit .1; one = h .fit .0 }
-
-  pub rest-asks : (a : Alignment) {mid : List ℕ} {r : ℕ} → Put stream at (choiceBits a (p .0) (p .1)) mid r → PartsAsk mid r ps
-  rest-asks a f =
-      record {
-        blank = put-blank f;
-        near = omega (arith, h .near, f .next, choice-length a (p .0) (p .1) (h .fit .1));
-        fit = h .fit .2;
-      }
-
-pub put-last : (a : Alignment) (m v : ℕ) {stream after : List ℕ} {at r : ℕ} → Put stream at (choiceBits a m v) after r
-    → Put stream at (partsBits a ((m, v) ∷ [])) after r
-unfolding partsBits each
-put-last a m v f = rw (append-nil (choiceBits a m v)) f
-
-pub put-first : (a : Alignment) (m v : ℕ) (ps : List (ℕ × ℕ)) {stream mid after : List ℕ} {at r s : ℕ}
-    → Put stream at (choiceBits a m v) mid r → Put mid r (partsBits a ps) after s → Put stream at (partsBits a ((m, v) ∷ ps)) after s
-unfolding partsBits each
-put-first a m v ps f g = put-then f g
 
 -- What is taught, and where.
 pub teaches-in : (mode kind : ℕ) → teachesIn mode kind ≡ true → (4 ≤ mode) × (2 ≤ kind) × (kind ≤ 5)

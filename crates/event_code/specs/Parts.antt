@@ -5,11 +5,10 @@
 use Prim.Native.Nat.{ℕ, _+_, _≤_, _<_}
 use mathlib.Core.Bool.{Bool, true, false, cond, _&&_, _||_}
 use mathlib.Core.List.{List, [], _∷_}
-use lib.Dec.{T, eqb, leb}
+use lib.Dec.{eqb, leb}
 use Rattle.fields.specs.Bits.{Bits, each}
 use Rattle.fields.specs.Field.{Alignment, choiceBits}
 use Rattle.format.specs.Grammar.{Production, Learned, learnedIn, State, document, docContent, docEnd, finished, startTag, elementContent}
-use Rattle.write_field.specs.Written.{blankFrom, farthest}
 use Rattle.event_code.specs.declared.Code.{Code}
 use Rattle.event_code.specs.declared.Code.the-variants.{None, One, Two, Three}
 
@@ -101,13 +100,9 @@ learnedOf finished ls = []
 learnedOf (startTag q outer) ls = learnedIn q true ls
 learnedOf (elementContent q outer) ls = learnedIn q false ls
 
--- ---- what is asked before a code is written
+-- ---- parts that can be written
 
+-- Each value is one of its choice.
 abbrev pub PartsFit : List (ℕ × ℕ) → Type 0
 PartsFit [] = Unit {0}
 PartsFit (p ∷ ps) = (p .1 < p .0) × (p .0 ≤ 65536) × PartsFit ps
-
-pub record CodeFits (stream : List ℕ) (at : ℕ) (parts : List (ℕ × ℕ)) : Type 0 where
-  pub blank : T (blankFrom stream at)
-  pub near : at + 64 ≤ farthest
-  pub fit : PartsFit parts

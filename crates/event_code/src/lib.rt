@@ -1,14 +1,11 @@
 // Event codes (EXI 6.2, 8.2): the code of a production that is not learned, by the grammar's state, the count of productions learned there and the
-// kinds that are kept; the code of a learned one; and how a code is written. Grammar states and kinds are numbers: specs/Parts.antt.
+// kinds that are kept; and the code of a learned one. Grammar states and kinds are numbers: specs/Parts.antt.
 ghost use mathlib.Core.Path.{_≡_};
 ghost use mathlib.Core.Bool.{cond};
 ghost use mathlib.Core.List.{[], _∷_};
 ghost use Prim.Native.Nat.{_≤_};
-ghost use Rattle.fields.specs.Field.{choiceBits};
 ghost use Rattle.format.specs.Sizes.{maxLearned};
-ghost use Rattle.read_field.specs.View.{alignmentOf};
-ghost use Rattle.write_field.specs.Written.{Put, ChoiceFits};
-ghost use Rattle.event_code.specs.Parts.{partsOf, partsBits, keptParts, under, documentParts, tagParts, contentParts, fixedParts, learnedPart, teachesIn, CodeFits};
+ghost use Rattle.event_code.specs.Parts.{partsOf, keptParts, under, documentParts, tagParts, contentParts, fixedParts, learnedPart, teachesIn};
 
 // A part of a code: a value among so many.
 pub struct Part {
@@ -191,32 +188,5 @@ pub fn teaches(mode: u32, kind: u32) -> bool
         4 => (SE <= kind) & (kind <= CH),
         5 => (kind == SE) | (kind == CH),
         _ => false,
-    }
-}
-
-fn put_part(aligned: bool, stream: &mut [u8], at: usize, p: Part) -> usize
-    requires { ⌜ ChoiceFits (now stream) at (p .among) (p .value) ⌝ }
-    ensures { λ r. ⌜ Put (now (stream .entry)) at (choiceBits (alignmentOf aligned) (p .among) (p .value)) (now (stream .exit)) r ⌝ }
-{
-    write_field::put_choice(aligned, stream, at, p.among, p.value)
-}
-
-// Writes the code's parts.
-pub fn put_code(aligned: bool, stream: &mut [u8], at: usize, code: Code) -> usize
-    requires { ⌜ CodeFits (now stream) at (partsOf code) ⌝ }
-    ensures { λ r. ⌜ Put (now (stream .entry)) at (partsBits (alignmentOf aligned) (partsOf code)) (now (stream .exit)) r ⌝ }
-{
-    match code {
-        Code::None => at,
-        Code::One(p) => put_part(aligned, stream, at, p),
-        Code::Two(p, q) => {
-            let next = put_part(aligned, stream, at, p);
-            put_part(aligned, stream, next, q)
-        }
-        Code::Three(p, q, r) => {
-            let next = put_part(aligned, stream, at, p);
-            let last = put_part(aligned, stream, next, q);
-            put_part(aligned, stream, last, r)
-        }
     }
 }

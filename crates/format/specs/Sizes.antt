@@ -1,5 +1,5 @@
 -- The sizes (scope, "Sizes"). Code writes them as numbers, and contracts by these names.
-use Prim.Native.Nat.{ℕ, _*_}
+use Prim.Native.Nat.{ℕ, _+_, _*_}
 
 -- octets of a stream
 unfoldable pub maxStream : ℕ
@@ -47,9 +47,9 @@ cellsPerEvent = 7
 unfoldable pub eventCells : ℕ
 eventCells = cellsPerEvent * maxEvents
 
--- work memory of the reader, and of the writer, which has a text store in it
+-- work memory of the reader, and of the writer, which has a text store behind it
 unfoldable pub readerWork : ℕ
 readerWork = 4096
 
 unfoldable pub writerWork : ℕ
-writerWork = 20480
+writerWork = readerWork + maxStore

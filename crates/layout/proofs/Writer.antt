@@ -2,18 +2,18 @@
 use Prim.Native.Nat.{_+_, _≤_}
 use native.Mathlib.Omega.{arith}
 use mathlib.Core.Path.{_≡_, refl}
-use Rattle.format.specs.Sizes.{maxUris, maxNames, maxValues, maxLearned, maxGrammars, maxStore, writerWork}
+use Rattle.format.specs.Sizes.{maxUris, maxNames, maxValues, maxLearned, maxGrammars, maxStore, writerWork, readerWork}
 use Rattle.layout.specs.Layout.{urisAt, namesAt, valuesAt, learnedAt, grammarsAt, tableCells}
 use Rattle.layout.specs.Writer.{storeAt}
 
 pub storeAt-is : storeAt ≡ 4096
-unfolding storeAt
+unfolding storeAt readerWork
 storeAt-is = refl
 
 pub store-behind : tableCells ≤ storeAt
-unfolding storeAt tableCells grammarsAt learnedAt valuesAt namesAt urisAt maxUris maxNames maxValues maxLearned maxGrammars
+unfolding storeAt tableCells grammarsAt learnedAt valuesAt namesAt urisAt maxUris maxNames maxValues maxLearned maxGrammars readerWork
 store-behind = omega arith
 
 pub store-ends : storeAt + maxStore ≡ writerWork
-unfolding storeAt maxStore writerWork
+unfolding storeAt maxStore writerWork readerWork
 store-ends = refl

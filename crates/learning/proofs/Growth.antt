@@ -42,11 +42,12 @@ use Rattle.state.specs.declared.Stack.{Stack}
 use Rattle.state.specs.declared.State.{State}
 use Rattle.state.specs.Stack.{pushed, topOf}
 use Rattle.state.proofs.Laws.{same-open}
-use Rattle.standing.specs.Standing.{countsOf, contextOf, restated, Standing}
+use Rattle.standing.specs.Standing.{countsOf, contextOf, Standing}
+use Rattle.state.specs.Changed.{restated, regrown}
 use Rattle.standing.proofs.Laws.{Moved, outer-moves, content-begins, content-outside, entered-moves, left-moves, inner-state, open-depth, top-below, within-start}
 use Rattle.event_code.specs.Parts.{learnedOf}
 use Rattle.learning.specs.declared.Grown.{Grown}
-use Rattle.learning.specs.Learning.{regrown, grammarRowOf, entered, withGrammarRow, left, contentBegun, stays, turned, withTurn, learnedRowOf, alsoLearnt, grown, withLearnt, withGrowth, GrowFits, Teaching}
+use Rattle.learning.specs.Learning.{grammarRowOf, entered, withGrammarRow, left, contentBegun, stays, turned, withTurn, learnedRowOf, alsoLearnt, grown, withLearnt, withGrowth, GrowFits, Teaching}
 use Rattle.learning.specs.Growth.{grownContext, Grows, SameStore, Growth}
 
 learned-is : (m : Memory) (st : State) → learnedFrom m (st .learned) ≡ contextOf m st .learned

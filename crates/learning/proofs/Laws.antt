@@ -19,8 +19,8 @@ use Rattle.state.specs.declared.Pushed.{Pushed}
 use Rattle.state.specs.declared.State.{State}
 use Rattle.state.specs.Stack.{pushed, popped}
 use Rattle.learning.specs.declared.Grown.{Grown}
+use Rattle.state.specs.Changed.{regrown}
 use Rattle.learning.specs.Learning.{
-  regrown,
   grammarRowOf,
   entered,
   withGrammarRow,

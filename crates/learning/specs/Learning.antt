@@ -13,25 +13,8 @@ use Rattle.layout.specs.Meaning.{learnedKey}
 use Rattle.state.specs.declared.Stack.{Stack}
 use Rattle.state.specs.declared.State.{State}
 use Rattle.state.specs.Stack.{pushed, popped, topOf}
+use Rattle.state.specs.Changed.{regrown, restated}
 use Rattle.learning.specs.declared.Grown.{Grown}
-
--- ---- the state, with some parts replaced
-
--- Other counts of learned rows and element grammars, another state of the grammar, other open elements.
-abbrev pub regrown : State → ℕ → ℕ → ℕ → Stack → State
-regrown st learned grammars mode stack =
-    record {
-      at = st .at;
-      events = st .events;
-      stored = st .stored;
-      uris = st .uris;
-      names = st .names;
-      values = st .values;
-      learned = learned;
-      grammars = grammars;
-      mode = mode;
-      stack = stack;
-    }
 
 -- ---- entering and leaving an element
 
@@ -53,11 +36,11 @@ withGrammarRow w st name =
 
 -- The element around it goes on; after the root the document ends.
 unfoldable pub left : State → State
-left st = regrown st (st .learned) (st .grammars) (cond (eqb (st .stack .depth) 1) 2 5) (popped (st .stack))
+left st = restated st (cond (eqb (st .stack .depth) 1) 2 5) (popped (st .stack))
 
 -- A start tag's content begins; in other states nothing changes.
 unfoldable pub contentBegun : State → State
-contentBegun st = regrown st (st .learned) (st .grammars) (cond (eqb (st .mode) 4) 5 (st .mode)) (st .stack)
+contentBegun st = restated st (cond (eqb (st .mode) 4) 5 (st .mode)) (st .stack)
 
 -- ---- an event of any kind (`kindNumber` of the format)
 
@@ -67,8 +50,8 @@ stays st = record { ok = true; state = st }
 -- The open elements, the element grammars and the grammar's state after it; known says whether the name has a grammar.
 unfoldable pub turned : State → ℕ → ℕ → Bool → Grown
 turned st kind name known =
-    cond (eqb kind 0) (stays (regrown st (st .learned) (st .grammars) 1 (st .stack)))
-    (cond (eqb kind 1) (stays (regrown st (st .learned) (st .grammars) 3 (st .stack)))
+    cond (eqb kind 0) (stays (restated st 1 (st .stack)))
+    (cond (eqb kind 1) (stays (restated st 3 (st .stack)))
     (cond (eqb kind 2) (entered st name known)
     (cond (eqb kind 3) (stays st)
     (cond (eqb kind 4) (stays (left st))

@@ -5,6 +5,7 @@ use mathlib.Core.Logic.{_⊎_, inl, inr, ⊎-elim}
 use mathlib.Core.List.{List, _++_, append-assoc}
 use native.Mathlib.Nat.{le-refl, le-trans}
 use native.Mathlib.Omega.{arith}
+use native.Mathlib.Decide.{decLe}
 use lib.ListN.{length, getD, take, drop, replicate, length-append, length-take, length-drop, length-replicate, getD-replicate, take-append-drop, List·getD-eq-default}
 use lib.Seq.{ext-getD, getD-append-add, getD-drop, take-take, take-at, length-take-le}
 use lib.Dec.{ltb}
@@ -106,22 +107,25 @@ longer-laid text st st′ x h e z =
 pub rows-later : {work : List ℕ} {base n m most : ℕ} → n ≤ m → ZeroRows work base n most → ZeroRows work base m most
 rows-later l z = record { zero = λ k a b. z .zero k (omega arith) b }
 
--- A row that another table has, or that is below those asked for, leaves the zeros.
-pub row-zeros : {work work′ : List ℕ} (base n : ℕ) {base′ m most m′ : ℕ} → OneRow base n work work′ → ZeroRows work base′ m most → m ≤ m′
-    → (base + 3 * (n + 1) ≤ base′ + 3 * m′) ⊎ (base′ + 3 * most ≤ base + 3 * n) → ZeroRows work′ base′ m′ most
+-- Row n of the table at base leaves zero rows that have no cell of it.
+row-zeros : {work work′ : List ℕ} (base n : ℕ) {base′ m most m′ : ℕ} → OneRow base n work work′ → ZeroRows work base′ m most → m ≤ m′
+    → ((k : ℕ) → base′ + 3 * m′ ≤ k → k < base′ + 3 * most → base + 3 * n ≤ k → k < base + 3 * (n + 1) → ⊥) → ZeroRows work′ base′ m′ most
 row-zeros {work} {work′} base n {base′} {m} {most} {m′} one z l apart = record { zero = λ k a b. same k a b ∙ z .zero k (omega arith) b }
   where
+    beside : (k : ℕ) → base′ + 3 * m′ ≤ k → k < base′ + 3 * most → (base + 3 * (n + 1) ≤ k) ⊎ (k < base + 3 * n)
+    beside k a b = elim (decLe (base + 3 * n) k) [
+      | yes y ↦ elim (decLe (base + 3 * (n + 1)) k) [
+        | yes x ↦ inl x
+        | no x ↦ absurd (apart k a b y (omega arith))
+      ]
+      | no y ↦ inr (omega arith)
+    ]
+
     same : (k : ℕ) → base′ + 3 * m′ ≤ k → k < base′ + 3 * most → getD work′ k 0 ≡ getD work k 0
     same k a b =
         ⊎-elim
         (λ (e : work′ ≡ work). ap (λ w. getD w k 0) e)
-        (λ (w : (r : Row) × (work′ ≡ withRow work base n r)).
-        ap (λ v. getD v k 0) (w .1)
-        ∙ withRow-other work base n (w .0) k
-        (⊎-elim
-        (λ (h : base + 3 * (n + 1) ≤ base′ + 3 * m′). inl (omega arith))
-        (λ (h : base′ + 3 * most ≤ base + 3 * n). inr (omega arith))
-        apart))
+        (λ (w : (r : Row) × (work′ ≡ withRow work base n r)). ap (λ v. getD v k 0) (w .1) ∙ withRow-other work base n (w .0) k (beside k a b))
         one
 
 -- No table is shorter.
@@ -132,66 +136,25 @@ pub record Grown (st st′ : State) : Type 0 where
   pub learned : st .learned ≤ st′ .learned
   pub grammars : st .grammars ≤ st′ .grammars
 
+-- Row n of the table at base has no cell behind the counts.
+pub record Inside (base n : ℕ) (st : State) : Type 0 where
+  pub uris : (k : ℕ) → urisAt + 3 * st .uris ≤ k → k < urisAt + 3 * maxUris → base + 3 * n ≤ k → k < base + 3 * (n + 1) → ⊥
+  pub names : (k : ℕ) → namesAt + 3 * st .names ≤ k → k < namesAt + 3 * maxNames → base + 3 * n ≤ k → k < base + 3 * (n + 1) → ⊥
+  pub values : (k : ℕ) → valuesAt + 3 * st .values ≤ k → k < valuesAt + 3 * maxValues → base + 3 * n ≤ k → k < base + 3 * (n + 1) → ⊥
+  pub learned : (k : ℕ) → learnedAt + 3 * st .learned ≤ k → k < learnedAt + 3 * maxLearned → base + 3 * n ≤ k → k < base + 3 * (n + 1) → ⊥
+  pub grammars : (k : ℕ) → grammarsAt + 3 * st .grammars ≤ k → k < grammarsAt + 3 * maxGrammars → base + 3 * n ≤ k → k < base + 3 * (n + 1) → ⊥
+
 -- A row behind a table's rows, counted: all is zero behind the counts again.
 module _ {work work′ text text′ : List ℕ} {st st′ : State} (c : Clear work text st) (z : ZeroFrom text′ (st′ .stored)) (g : Grown st st′) where
-  pub clear-uri : OneRow urisAt (st .uris) work work′ → st .uris < st′ .uris → st .uris < maxUris → Clear work′ text′ st′
-  unfolding grammarsAt learnedAt valuesAt namesAt urisAt
-  clear-uri o l h =
+  pub clear-row : (base n : ℕ) → OneRow base n work work′ → Inside base n st′ → Clear work′ text′ st′
+  clear-row base n o i =
       record {
         store = z;
-        uris = row-zeros urisAt (st .uris) o (c .uris) (g .uris) (inl (omega arith));
-        names = row-zeros urisAt (st .uris) o (c .names) (g .names) (inl (omega arith));
-        values = row-zeros urisAt (st .uris) o (c .values) (g .values) (inl (omega arith));
-        learned = row-zeros urisAt (st .uris) o (c .learned) (g .learned) (inl (omega arith));
-        grammars = row-zeros urisAt (st .uris) o (c .grammars) (g .grammars) (inl (omega arith));
-      }
-
-  pub clear-name : OneRow namesAt (st .names) work work′ → st .names < st′ .names → st .names < maxNames → Clear work′ text′ st′
-  unfolding grammarsAt learnedAt valuesAt namesAt urisAt
-  clear-name o l h =
-      record {
-        store = z;
-        uris = row-zeros namesAt (st .names) o (c .uris) (g .uris) (inr (omega arith));
-        names = row-zeros namesAt (st .names) o (c .names) (g .names) (inl (omega arith));
-        values = row-zeros namesAt (st .names) o (c .values) (g .values) (inl (omega arith));
-        learned = row-zeros namesAt (st .names) o (c .learned) (g .learned) (inl (omega arith));
-        grammars = row-zeros namesAt (st .names) o (c .grammars) (g .grammars) (inl (omega arith));
-      }
-
-  pub clear-value : OneRow valuesAt (st .values) work work′ → st .values < st′ .values → st .values < maxValues → Clear work′ text′ st′
-  unfolding grammarsAt learnedAt valuesAt namesAt urisAt
-  clear-value o l h =
-      record {
-        store = z;
-        uris = row-zeros valuesAt (st .values) o (c .uris) (g .uris) (inr (omega arith));
-        names = row-zeros valuesAt (st .values) o (c .names) (g .names) (inr (omega arith));
-        values = row-zeros valuesAt (st .values) o (c .values) (g .values) (inl (omega arith));
-        learned = row-zeros valuesAt (st .values) o (c .learned) (g .learned) (inl (omega arith));
-        grammars = row-zeros valuesAt (st .values) o (c .grammars) (g .grammars) (inl (omega arith));
-      }
-
-  pub clear-learned : OneRow learnedAt (st .learned) work work′ → st .learned < st′ .learned → st .learned < maxLearned → Clear work′ text′ st′
-  unfolding grammarsAt learnedAt valuesAt namesAt urisAt
-  clear-learned o l h =
-      record {
-        store = z;
-        uris = row-zeros learnedAt (st .learned) o (c .uris) (g .uris) (inr (omega arith));
-        names = row-zeros learnedAt (st .learned) o (c .names) (g .names) (inr (omega arith));
-        values = row-zeros learnedAt (st .learned) o (c .values) (g .values) (inr (omega arith));
-        learned = row-zeros learnedAt (st .learned) o (c .learned) (g .learned) (inl (omega arith));
-        grammars = row-zeros learnedAt (st .learned) o (c .grammars) (g .grammars) (inl (omega arith));
-      }
-
-  pub clear-grammar : OneRow grammarsAt (st .grammars) work work′ → st .grammars < st′ .grammars → st .grammars < maxGrammars → Clear work′ text′ st′
-  unfolding grammarsAt learnedAt valuesAt namesAt urisAt
-  clear-grammar o l h =
-      record {
-        store = z;
-        uris = row-zeros grammarsAt (st .grammars) o (c .uris) (g .uris) (inr (omega arith));
-        names = row-zeros grammarsAt (st .grammars) o (c .names) (g .names) (inr (omega arith));
-        values = row-zeros grammarsAt (st .grammars) o (c .values) (g .values) (inr (omega arith));
-        learned = row-zeros grammarsAt (st .grammars) o (c .learned) (g .learned) (inr (omega arith));
-        grammars = row-zeros grammarsAt (st .grammars) o (c .grammars) (g .grammars) (inl (omega arith));
+        uris = row-zeros base n o (c .uris) (g .uris) (i .uris);
+        names = row-zeros base n o (c .names) (g .names) (i .names);
+        values = row-zeros base n o (c .values) (g .values) (i .values);
+        learned = row-zeros base n o (c .learned) (g .learned) (i .learned);
+        grammars = row-zeros base n o (c .grammars) (g .grammars) (i .grammars);
       }
 
   pub clear-same : work′ ≡ work → Clear work′ text′ st′

@@ -8,6 +8,7 @@ use mathlib.Core.List.{List}
 use lib.ListN.{take}
 use lib.Dec.{eqb}
 use borrow.Author.Tests.{eqb-true, eq-eqb, ne-eqb}
+use Rattle.fields.specs.Refusal.{numberOf}
 use Rattle.fields.specs.Field.{Alignment, numberField, width, unsigned}
 use Rattle.text.specs.Text.{Text, part}
 use Rattle.format.specs.Sizes.{maxStream, maxUris, maxNames, maxValues}
@@ -23,7 +24,8 @@ use Rattle.layout.proofs.Sizes.{room-names, room-values}
 use Rattle.layout.specs.Listed.{Listed}
 use Rattle.layout.proofs.Strings.{uris-listed, names-listed, values-listed, any-listed, strict-uri, strict-local, strict-value, strict-any}
 use Rattle.state.specs.declared.State.{State}
-use Rattle.standing.specs.Standing.{countsOf, reached}
+use Rattle.standing.specs.Standing.{countsOf}
+use Rattle.state.specs.Changed.{reached}
 use Rattle.read_field.specs.declared.Field.{Field}
 use Rattle.read_field.specs.declared.Field.the-variants.{Value, Refused}
 use Rattle.read_field.specs.View.{fieldAt, NumberIn}
@@ -81,6 +83,7 @@ module _ (a : Alignment) {s work text : List ℕ} {st : State} (h : ReadReady s 
       )
 
   pub uri-taken : StringRead a uri urisAt (st .uris) s work text st work text g × UriRow st work text g
+  unfolding numberOf
   uri-taken = elim (ℕ-discrete (g .number) 0) [
     | yes e ↦ row-taken e
     | no e ↦

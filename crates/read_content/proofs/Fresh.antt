@@ -19,7 +19,9 @@ use Rattle.layout.specs.Layout.{urisAt, namesAt, valuesAt}
 use Rattle.layout.proofs.Sizes.{length-text, room-uris, room-names, room-values}
 use Rattle.layout.proofs.Adding.{After, countsAfter}
 use Rattle.state.specs.declared.State.{State}
-use Rattle.standing.specs.Standing.{countsOf, Kept}
+use Rattle.state.specs.Changed.{recounted}
+use Rattle.standing.specs.Standing.{countsOf}
+use Rattle.standing.proofs.Kept.{kept-after}
 use Rattle.read_field.specs.View.{InStream}
 use Rattle.outcome.specs.Outcome.{Declined, Gotten}
 use Rattle.outcome.specs.Memory.{readerMemory, tablesOf, ReadReady, OneRow}
@@ -146,22 +148,6 @@ module _ {s work text : List ℕ} {st : State} {at : ℕ} (h : ReadFrom s work t
 
 -- ---- what becomes of it
 
--- The state at another position, with other counts.
-abbrev pub recounted : State → (at stored uris names values : ℕ) → State
-recounted st at stored uris names values =
-    record {
-      at = at;
-      events = st .events;
-      stored = stored;
-      uris = uris;
-      names = names;
-      values = values;
-      learned = st .learned;
-      grammars = st .grammars;
-      mode = st .mode;
-      stack = st .stack;
-    }
-
 module _ {s work text : List ℕ} {st : State} {at : ℕ} (h : ReadFrom s work text st at) {r : Role} {n : ℕ} {text′ : List ℕ} {next : ℕ}
     (f : Fresh r n s at work text st text′ next) where
   fresh-room : st .stored + length (f .x) ≤ length text
@@ -197,24 +183,6 @@ module _ {s work text : List ℕ} {st : State} {at : ℕ} (h : ReadFrom s work t
     abbrev joined : ℕ → Got
     joined row = readGot row (st .stored) n (recounted st next (st .stored + n) u k v)
 
-    fresh-kept : Kept (readerMemory work text) st (readerMemory work′ text′) (recounted st next (st .stored + length (f .x)) u k v)
-    fresh-kept =
-        record {
-          tidy = j .tidy;
-          size = j .size;
-          uris = j .uris;
-          names = j .names;
-          learned = j .learned;
-          grammars = j .grammars;
-          moreUris = more-uris;
-          moreNames = more-names;
-          sameEvents = refl;
-          sameLearned = refl;
-          sameGrammars = refl;
-          sameMode = refl;
-          sameStack = refl;
-        }
-
     fresh-read : (row : ℕ) → Read work text st work′ text′ (joined row) (record { place = st .stored; text = f .x }, added (tablesOf work text st) r (f .x))
     unfolding laidAt
     fresh-read row =
@@ -223,7 +191,7 @@ module _ {s work text : List ℕ} {st : State} {at : ℕ} (h : ReadFrom s work t
           size = sym (f .size);
           text-is = fresh-text;
           tables = rw (← (f .size)) (j .tables);
-          kept = rw (← (f .size)) fresh-kept;
+          kept = rw (← (f .size)) (kept-after j more-uris more-names);
           longer = rw (f .text-is)
               (longer-laid text st (recounted st next (st .stored + n) u k v) (f .x) fresh-room (ap (λ l. st .stored + l) (sym (f .size))) (h .ready .zeros));
         }

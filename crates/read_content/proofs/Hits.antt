@@ -32,7 +32,9 @@ use Rattle.layout.specs.Tidy.{Lies, Tidy}
 use Rattle.layout.proofs.Sizes.{within-tables}
 use Rattle.layout.specs.Listed.{Listed}
 use Rattle.state.specs.declared.State.{State}
-use Rattle.standing.specs.Standing.{countsOf, reached, Kept}
+use Rattle.standing.specs.Standing.{countsOf, Kept}
+use Rattle.standing.proofs.Kept.{kept-moved}
+use Rattle.state.specs.Changed.{reached}
 use Rattle.read_field.specs.declared.Field.{Field}
 use Rattle.read_field.specs.declared.Field.the-variants.{Value, Refused}
 use Rattle.read_field.specs.View.{fieldAt, NumberIn}
@@ -43,26 +45,6 @@ use Rattle.read_content.specs.declared.Got.{Got}
 use Rattle.read_content.specs.Content.{Read, rowsOf, refusedGot, PartRead}
 use Rattle.read_content.specs.Parts.{judge, readAsHit, HitFit, Taken, EntryTaken, HitRead}
 use Rattle.read_content.proofs.Steps.{then-assoc, part-as, part-then, part-declined, judge-loose, admit-name, admit-gotten, strict-judge}
-
--- A hit moves the position only.
-kept-moved : {work text : List ℕ} {st : State} (at : ℕ) → Tidy (readerMemory work text) (countsOf st)
-    → Kept (readerMemory work text) st (readerMemory work text) (reached st at (st .events))
-kept-moved at t =
-    record {
-      tidy = t;
-      size = refl;
-      uris = λ u b. refl;
-      names = λ n b. refl;
-      learned = refl;
-      grammars = refl;
-      moreUris = omega arith;
-      moreNames = omega arith;
-      sameEvents = refl;
-      sameLearned = refl;
-      sameGrammars = refl;
-      sameMode = refl;
-      sameStack = refl;
-    }
 
 -- ---- the row that a number names
 
@@ -84,6 +66,7 @@ module _ {work : List ℕ} {base n : ℕ} {all : Bool} {key i at : ℕ} {st : St
       }
 
   pub entry-missing : f ≡ Nothing → EntryTaken work base n all key i at st (refusedGot 9 st)
+  unfolding numberOf
   entry-missing e =
       record {
         taken = λ z. absurd (omega arith);
@@ -120,8 +103,7 @@ module _ (a : Alignment) {s : List ℕ} {at : ℕ} {work : List ℕ} {base n : �
     miss z = choice-declined a reference es (refused-declined _ s at (sym wide ∙ z))
 
     module _ {v q : ℕ} (z : f ≡ Value v q) where
-      past : countOf all key (rows work base n) ≤ v → Declined (choice a reference es) s at 9
-      unfolding numberOf
+      past : countOf all key (rows work base n) ≤ v → Declined (choice a reference es) s at (numberOf reference)
       past b = choice-none a reference es (number-gotten s at (fit .place) a _ (sym wide ∙ z)) (rw (l .count) b)
 
       taken : {st : State} {g : Got} → g .number ≡ 0 → g .state .at ≡ q → Taken work base n all key v st g

@@ -35,7 +35,8 @@ use Rattle.read_content.specs.declared.Got.{Got}
 use Rattle.read_content.specs.Content.{UriRow, NameRow, ValueRow, refusedGot, PartRead}
 use Rattle.read_content.specs.Parts.{readAsNew, ReadFrom, LocalFrom, ValueFrom, readGot, missing, Tells, NewRead}
 use Rattle.read_content.proofs.Steps.{no-uri, no-name}
-use Rattle.read_content.proofs.Fresh.{Fresh, recounted, new-fresh, new-declined, fresh-text, fresh-named, fresh-limit, fresh-passed}
+use Rattle.read_content.proofs.Fresh.{Fresh, new-fresh, new-declined, fresh-text, fresh-named, fresh-limit, fresh-passed}
+use Rattle.state.specs.Changed.{recounted}
 
 -- ---- the text behind the store
 

@@ -31,7 +31,8 @@ use Rattle.read_content.specs.declared.Got.{Got}
 use Rattle.read_content.specs.Content.{ReadyLocal, ReadyValue, StringRead, NameRow, ValueRow, refusedGot, PartRead}
 use Rattle.read_content.specs.Parts.{readAsNew, readAsHit, ReadFrom, LocalFrom, ValueFrom, readGot}
 use Rattle.read_content.proofs.Steps.{no-name, field-positive, literals-refused, literals-new, literals-hit}
-use Rattle.read_content.proofs.Fresh.{Fresh, recounted, stored-is, literal-fresh, literal-declined, fresh-text, fresh-named, fresh-passed}
+use Rattle.read_content.proofs.Fresh.{Fresh, stored-is, literal-fresh, literal-declined, fresh-text, fresh-named, fresh-passed}
+use Rattle.state.specs.Changed.{recounted}
 use Rattle.read_content.proofs.Joins.{laid-grows, fresh-few, store-few}
 
 -- Behind the number all is ready for the rest.
@@ -39,7 +40,7 @@ pub number-from : {s work text : List ℕ} {st : State} {f : Field} {v q : ℕ} 
     → ReadFrom s work text st q
 number-from {s} {st = st} h answer z = record { ready = h; from = unsigned-gotten s (st .at) (h .place) (sym answer ∙ z) .inside }
 
-pub local-from : {s work text : List ℕ} {st : State} {key : ℕ} {u : Text} {f : Field} {v q : ℕ} → ReadyLocal s work text st key u
+pub local-from : {s work text : List ℕ} {st : State} {key : ℕ} {f : Field} {v q : ℕ} → ReadyLocal s work text st key
     → f ≡ fieldAt unsigned s (st .at) → f ≡ Value v q → LocalFrom s work text st q key
 local-from h answer z = record { from = number-from (h .ready) answer z; row = h .row }
 
@@ -126,23 +127,23 @@ module _ (a : Alignment) {s work text : List ℕ} {st : State} (h : ReadReady s 
           literals-new a (value n) refl h answer z
           (beyond (valuesOf (tablesOf work text st) n ∷ allValues (tablesOf work text st) ∷ []) v (omega arith))
 
-  -- ---- a String by no table
+-- ---- a String by no table
 
+module _ {s work text : List ℕ} {st : State} (h : ReadReady s work text st) {f : Field} (answer : f ≡ fieldAt unsigned s (st .at)) where
   module _ (named : Bool) where
     abbrev role : Role
     role = cond named target plain
 
-    pub text-refused : {k : ℕ} → f ≡ Refused k
-        → StringRead a role tableCells 0 s work text st work text (refusedGot k st) × ValueRow st (refusedGot k st)
-    text-refused z = (literals-refused a role (text-partitions named _) h answer z, record { row = refl; uris = refl; names = refl })
+    abbrev TextRead : List ℕ → Got → Type 0
+    TextRead text″ g = ((a : Alignment) → StringRead a role tableCells 0 s work text st work text″ g) × ValueRow st g
+
+    pub text-refused : {k : ℕ} → f ≡ Refused k → TextRead text (refusedGot k st)
+    text-refused z = (λ a. literals-refused a role (text-partitions named _) h answer z, record { row = refl; uris = refl; names = refl })
 
     module _ {v q : ℕ} (z : f ≡ Value v q) {text′ : List ℕ} {read : declared.Literal} (p : LiteralRead s q text (st .stored) v text′ read) where
-      abbrev TextRead : List ℕ → Got → Type 0
-      TextRead text″ g = StringRead a role tableCells 0 s work text st work text″ g × ValueRow st g
-
       text-string : {text″ : List ℕ} {g : Got} → PartRead (readAsNew (tablesOf work text st) role v) tableCells 0 s q work text st work text″ g
-          → StringRead a role tableCells 0 s work text st work text″ g
-      text-string y = let e : v - 0 ≡ v = omega arith in literals-new a role (text-partitions named _) h answer z refl (rw e y)
+          → (a : Alignment) → StringRead a role tableCells 0 s work text st work text″ g
+      text-string y a = let e : v - 0 ≡ v = omega arith in literals-new a role (text-partitions named _) h answer z refl (rw e y)
 
       pub text-declined : (read .number ≡ 0 → ⊥) → TextRead text′ (refusedGot (read .number) st)
       text-declined e = (text-string (literal-declined (number-from h answer z) role p e), record { row = refl; uris = refl; names = refl })

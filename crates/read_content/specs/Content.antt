@@ -19,10 +19,9 @@ use Rattle.read_content.specs.declared.Got.{Got}
 -- ---- what is asked
 
 -- The URI has this row.
-pub record ReadyLocal (stream work text : List ℕ) (st : State) (key : ℕ) (u : Text) : Type 0 where
+pub record ReadyLocal (stream work text : List ℕ) (st : State) (key : ℕ) : Type 0 where
   pub ready : ReadReady stream work text st
   pub row : key < st .uris
-  pub is : uriText (readerMemory work text) key ≡ u
 
 -- The name has this row.
 pub record ReadyValue (stream work text : List ℕ) (st : State) (key : ℕ) : Type 0 where

@@ -4,7 +4,7 @@ use mathlib.Core.Path.{_≡_}
 use mathlib.Core.Bool.{Bool, true, false}
 use mathlib.Core.List.{List}
 use lib.ListN.{length}
-use Rattle.fields.specs.Refusal.{loose, name, limit, reference}
+use Rattle.fields.specs.Refusal.{numberOf, loose, name, limit, reference}
 use Rattle.fields.specs.Parser.{Parser, return, need, _>>=_, _>>_}
 use Rattle.fields.specs.Field.{Alignment, choice}
 use Rattle.text.specs.Text.{Text}
@@ -19,7 +19,7 @@ use Rattle.rows.specs.Hit.{Hit}
 use Rattle.layout.specs.Meaning.{placedAt}
 use Rattle.layout.specs.Listed.{Listed}
 use Rattle.state.specs.declared.State.{State}
-use Rattle.standing.specs.Standing.{reached}
+use Rattle.state.specs.Changed.{reached}
 use Rattle.outcome.specs.Outcome.{Outcome}
 use Rattle.outcome.specs.Memory.{readerMemory, ReadReady}
 use Rattle.read_string.specs.Literal.{laidAt, LiteralFit, Laid}
@@ -89,22 +89,6 @@ pub record NewFit (stream : List ℕ) (at : ℕ) (text : List ℕ) (stored : ℕ
 abbrev pub readGot : ℕ → ℕ → ℕ → State → Got
 readGot row place size state = record { number = 0; row = row; place = place; size = size; state = state }
 
--- Behind a literal of n code points.
-abbrev pub laidState : State → ℕ → ℕ → State
-laidState st at n =
-    record {
-      at = at;
-      events = st .events;
-      stored = st .stored + n;
-      uris = st .uris;
-      names = st .names;
-      values = st .values;
-      learned = st .learned;
-      grammars = st .grammars;
-      mode = st .mode;
-      stack = st .stack;
-    }
-
 -- The i-th selected row is taken: only the position moves.
 pub record Taken (work : List ℕ) (base n : ℕ) (all : Bool) (key i : ℕ) (st : State) (g : Got) : Type 0 where
   pub hit : Hit all key work base n i (g .row)
@@ -116,7 +100,7 @@ pub record Taken (work : List ℕ) (base n : ℕ) (all : Bool) (key i : ℕ) (st
 pub record EntryTaken (work : List ℕ) (base n : ℕ) (all : Bool) (key i at : ℕ) (st : State) (g : Got) : Type 0 where
   pub taken : g .number ≡ 0 → Taken work base n all key i st g
   pub place : g .number ≡ 0 → g .state .at ≡ at
-  pub none : 0 < g .number → (g ≡ refusedGot 9 st) × (countOf all key (rows work base n) ≤ i)
+  pub none : 0 < g .number → (g ≡ refusedGot (numberOf reference) st) × (countOf all key (rows work base n) ≤ i)
 
 -- A hit by a list of the definitions that is the selected rows.
 pub record HitRead (a : Alignment) (stream : List ℕ) (at : ℕ) (work : List ℕ) (base n : ℕ) (all : Bool) (key : ℕ) (st : State) (g : Got) : Type 0 where

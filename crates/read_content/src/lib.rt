@@ -4,16 +4,18 @@ ghost use mathlib.Core.Bool.{cond};
 ghost use mathlib.Core.List.{_++_};
 ghost use Prim.Native.Nat.{_+_, _-_, _≤_};
 ghost use lib.ListN.{length, take, replicate};
+ghost use Rattle.fields.specs.Field.{Alignment};
 ghost use Rattle.text.specs.Text.{part};
 ghost use Rattle.format.specs.Sizes.{maxStore};
 ghost use Rattle.format.specs.Tables.{uri, local, value, target, plain, namesOf, allValues, nameAllowed};
 ghost use Rattle.rows.specs.Rows.{Room};
 ghost use Rattle.layout.specs.Layout.{urisAt, namesAt, valuesAt, tableCells};
 ghost use Rattle.layout.specs.Meaning.{nameAt, uriText};
+ghost use Rattle.state.specs.Changed.{moved};
 ghost use Rattle.read_field.specs.View.{alignmentOf};
 ghost use Rattle.outcome.specs.Memory.{readerMemory, tablesOf, ReadReady};
 ghost use Rattle.read_content.specs.Content.{ReadyLocal, ReadyValue, StringRead, UriRow, NameRow, ValueRow, refusedGot, PartRead};
-ghost use Rattle.read_content.specs.Parts.{readAsNew, readAsHit, ReadFrom, HitFit, NewFit, LocalFrom, ValueFrom, readGot, laidState, EntryTaken, HitRead, NewRead};
+ghost use Rattle.read_content.specs.Parts.{readAsNew, readAsHit, ReadFrom, HitFit, NewFit, LocalFrom, ValueFrom, readGot, EntryTaken, HitRead, NewRead};
 use layout::NAMES;
 use layout::URIS;
 use layout::VALUES;
@@ -73,7 +75,7 @@ fn undone(number: u32, st: State, text: &mut [u32]) -> Got
 // The state behind a literal of n code points.
 fn laid(st: State, at: usize, n: u32) -> State
     requires { ⌜ st .stored + n ≤ maxStore ⌝ }
-    ensures { λ r. ⌜ r ≡ laidState st at n ⌝ }
+    ensures { λ r. ⌜ r ≡ moved st at (st .stored + n) ⌝ }
 {
     let mut t = st;
     t.at = at;
@@ -292,7 +294,7 @@ pub fn read_local(
     text: &mut [u32],
     work: &mut [u32],
 ) -> Got
-    requires { ⌜ ReadyLocal (now stream) (now work) (now text) st key (uriText (readerMemory (now work) (now text)) key) ⌝ }
+    requires { ⌜ ReadyLocal (now stream) (now work) (now text) st key ⌝ }
     ensures { λ r. ⌜ StringRead (alignmentOf aligned) (local attr (uriText (readerMemory (now (work .entry)) (now (text .entry))) key)) namesAt (st .names) (now (stream .entry)) (now (work .entry)) (now (text .entry)) st (now (work .exit)) (now (text .exit)) r ⌝ }
     ensures { λ r. ⌜ NameRow (uriText (readerMemory (now (work .entry)) (now (text .entry))) key) st (now (work .exit)) (now (text .exit)) r ⌝ }
 {
@@ -402,16 +404,9 @@ pub fn read_value(
 }
 
 // An instruction's target (named), or a comment or an instruction's text: Strings by no table.
-pub fn read_text(
-    aligned: bool,
-    stream: &[u8],
-    st: State,
-    named: bool,
-    text: &mut [u32],
-    work: &[u32],
-) -> Got
+pub fn read_text(stream: &[u8], st: State, named: bool, text: &mut [u32], work: &[u32]) -> Got
     requires { ⌜ ReadReady (now stream) (now work) (now text) st ⌝ }
-    ensures { λ r. ⌜ StringRead (alignmentOf aligned) (cond named target plain) tableCells 0 (now (stream .entry)) (now (work .entry)) (now (text .entry)) st (now (work .entry)) (now (text .exit)) r ⌝ }
+    ensures { λ r. ⌜ ((a : Alignment) → StringRead a (cond named target plain) tableCells 0 (now (stream .entry)) (now (work .entry)) (now (text .entry)) st (now (work .entry)) (now (text .exit)) r) ⌝ }
     ensures { λ r. ⌜ ValueRow st r ⌝ }
 {
     match read_field::unsigned(stream, st.at) {

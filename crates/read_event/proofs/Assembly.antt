@@ -30,10 +30,12 @@ use Rattle.layout.proofs.Sizes.{urisAt-is, namesAt-is, valuesAt-is, tableCells-
 use Rattle.productions.specs.Numbered.{Numbered}
 use Rattle.state.specs.declared.Stack.{Stack}
 use Rattle.state.specs.declared.State.{State}
-use Rattle.standing.specs.Standing.{countsOf, contextOf, reached, Standing}
+use Rattle.standing.specs.Standing.{countsOf, contextOf, Standing}
+use Rattle.state.specs.Changed.{reached}
 use Rattle.standing.proofs.Laws.{reached-standing, reached-context}
 use Rattle.standing.proofs.Kept.{kept-standing, kept-context}
 use Rattle.event_code.specs.Parts.{teachesIn}
+use Rattle.event_code.proofs.Parts.{teaches-in}
 use Rattle.learning.specs.declared.Grown.{Grown}
 use Rattle.learning.specs.Learning.{grown, withGrowth}
 use Rattle.learning.specs.Growth.{grownContext, Grows, Growth}
@@ -65,26 +67,6 @@ kind-number (suc (suc (suc (suc (suc zero))))) h = refl
 kind-number (suc (suc (suc (suc (suc (suc zero)))))) h = refl
 kind-number (suc (suc (suc (suc (suc (suc (suc zero))))))) h = refl
 kind-number (suc (suc (suc (suc (suc (suc (suc (suc n)))))))) h = absurd (omega arith)
-
--- What is taught, and where.
-teaches-in : (mode kind : ℕ) → teachesIn mode kind ≡ true → (4 ≤ mode) × (2 ≤ kind) × (kind ≤ 5)
-unfolding teachesIn
-teaches-in mode kind e =
-    split (eqb mode 4)
-    (λ a.
-    let four : mode ≡ 4 = eqb-true mode 4 a in
-    let f = rw (a, ne-eqb mode 5 (λ z. omega arith)) at e in
-    split (leb 2 kind)
-    (λ p. split (leb kind 5) (λ q. (omega arith, leb-true 2 kind p, leb-true kind 5 q)) (λ q. absurd (true≢false (sym (rw (p, q) at f)))))
-    (λ p. absurd (true≢false (sym (rw p at f)))))
-    (λ a. split (eqb mode 5)
-    (λ b.
-    let five : mode ≡ 5 = eqb-true mode 5 b in
-    let f = rw (a, b) at e in
-    split (eqb kind 2)
-    (λ p. let two : kind ≡ 2 = eqb-true kind 2 p in omega arith)
-    (λ p. let last : kind ≡ 5 = eqb-true kind 5 (rw p at f) in omega arith))
-    (λ b. absurd (true≢false (sym (rw (a, b) at e)))))
 
 -- ---- the learned production that fits
 

@@ -11,20 +11,21 @@ use lib.Seq.{getD-set-other}
 use lib.Dec.{eqb, ltb}
 use borrow.Author.Tests.{eqb-true, ltb-true}
 use Rattle.fields.proofs.Tests.{split}
-use Rattle.format.specs.Sizes.{maxOpen, maxLearned, maxGrammars}
+use Rattle.format.specs.Sizes.{maxUris, maxNames, maxValues, maxLearned, maxGrammars, maxOpen}
 use Rattle.rows.specs.Rows.{rows, withRow, withRowBelow}
 use Rattle.rows.proofs.Laws.{withRow-other}
 use Rattle.productions.specs.Locate.{hasKey}
-use Rattle.layout.specs.Layout.{learnedAt, grammarsAt, tableCells}
+use Rattle.layout.specs.Layout.{urisAt, namesAt, valuesAt, learnedAt, grammarsAt, tableCells}
 use Rattle.layout.proofs.Sizes.{learnedAt-is, grammarsAt-is, tableCells-is}
 use Rattle.state.specs.declared.Stack.{Stack}
 use Rattle.state.specs.declared.State.{State}
 use Rattle.state.specs.Stack.{pushed, popped}
 use Rattle.state.proofs.Laws.{push-stack}
 use Rattle.outcome.specs.Memory.{Clear}
-use Rattle.outcome.proofs.Memory.{Grown, clear-learned, clear-grammar, clear-same}
+use Rattle.outcome.proofs.Memory.{Grown, clear-row, clear-same}
 use Rattle.learning.specs.declared.Grown as learning
-use Rattle.learning.specs.Learning.{regrown, grammarRowOf, entered, withGrammarRow, left, contentBegun, turned, withTurn, learnedRowOf, alsoLearnt, grown, withLearnt, withGrowth}
+use Rattle.learning.specs.Learning.{grammarRowOf, entered, withGrammarRow, left, contentBegun, turned, withTurn, learnedRowOf, alsoLearnt, grown, withLearnt, withGrowth}
+use Rattle.state.specs.Changed.{regrown}
 
 -- From the depth on the array is as it was.
 abbrev pub Above : Stack → Stack → Type 0
@@ -78,7 +79,7 @@ module _ (w : List ℕ) (st : State) where
     grammar-behind few k h = withRow-other w grammarsAt (st .grammars) (grammarRowOf name) k (inl (omega (arith, grammarsAt-is, tableCells-is)))
 
     enter-cells : Turns w (withGrammarRow w st name) st (entered st name (hasKey name (rows w grammarsAt (st .grammars))))
-    unfolding entered withGrammarRow withRowBelow
+    unfolding entered withGrammarRow withRowBelow grammarsAt learnedAt valuesAt namesAt urisAt
     enter-cells =
         split (ltb (st .stack .depth) maxOpen)
         (λ d. split (hasKey name (rows w grammarsAt (st .grammars)))
@@ -88,9 +89,9 @@ module _ (w : List ℕ) (st : State) where
           cells = record {
             refused = λ e. absurd (true≢false e);
             clear = λ _ c.
-                clear-grammar c (c .store)
+                clear-row c (c .store)
                 (record { uris = omega arith; names = omega arith; values = omega arith; learned = omega arith; grammars = omega arith })
-                (inr (grammarRowOf name, refl)) (omega arith) (ltb-true (st .grammars) maxGrammars f);
+                grammarsAt (st .grammars) (inr (grammarRowOf name, refl)) (omega (arith, ltb-true (st .grammars) maxGrammars f));
             behind = grammar-behind (ltb-true (st .grammars) maxGrammars f);
             above = pushed-above (st .stack) name (ltb-true (st .stack .depth) maxOpen d);
           };
@@ -118,16 +119,16 @@ module _ (w : List ℕ) (st : State) where
 
 learnt-cells : {w v : List ℕ} {st : State} (kind name : ℕ) (t : learning.Grown) → st .learned < maxLearned → Turns w v st t
     → Cells w (withLearnt v st kind name (t .ok)) st (alsoLearnt st t)
-unfolding alsoLearnt withLearnt maxLearned
+unfolding alsoLearnt withLearnt grammarsAt learnedAt valuesAt namesAt urisAt maxUris maxNames maxValues maxLearned
 learnt-cells {w} {v} {st} kind name t few x =
     split (t .ok)
     (λ e. rw e (record {
       refused = λ z. absurd (true≢false z);
       clear = λ _ c.
           let d = x .cells .clear e c in
-          clear-learned d (d .store)
+          clear-row d (d .store)
           (record { uris = omega arith; names = omega arith; values = omega arith; learned = omega (arith, x .learned); grammars = omega arith })
-          (rw (x .learned) (inr (learnedRowOf st kind name, refl))) (omega (arith, x .learned)) (omega (arith, x .learned));
+          learnedAt (st .learned) (inr (learnedRowOf st kind name, refl)) (omega (arith, x .learned, few));
       behind = λ k h.
           withRow-other v learnedAt (st .learned) (learnedRowOf st kind name) k (inl (omega (arith, few, learnedAt-is, tableCells-is)))
           ∙ x .cells .behind k h;

@@ -19,13 +19,13 @@ use Rattle.format.specs.Grammar.{Production}
 use Rattle.rows.specs.declared.Row.{Row}
 use Rattle.rows.specs.Rows.{rowAt, withRow, withRowBelow}
 use Rattle.rows.proofs.Laws.{withRow-length, withRow-other, withRow-row}
-use Rattle.layout.specs.Layout.{urisAt, namesAt, valuesAt, tableCells}
+use Rattle.layout.specs.Layout.{urisAt, namesAt, valuesAt, learnedAt, grammarsAt, tableCells}
 use Rattle.layout.proofs.Sizes.{urisAt-is, namesAt-is, valuesAt-is, tableCells-is}
 use Rattle.state.specs.declared.State.{State}
 use Rattle.standing.specs.Standing.{Kept}
 use Rattle.outcome.specs.Memory.{readerMemory, ZeroFrom, ZeroRows, Clear, OneRow}
 use Rattle.outcome.proofs.Outcome.{refused-outcome}
-use Rattle.outcome.proofs.Memory.{longer-refl, longer-then, cleared-back, Grown, clear-uri, clear-name, clear-value, clear-same}
+use Rattle.outcome.proofs.Memory.{longer-refl, longer-then, cleared-back, Grown, Inside, clear-row, clear-same}
 use Rattle.read_content.specs.declared.Got.{Got}
 use Rattle.read_content.specs.Content.{rowsOf, Counted, UriRow, NameRow, ValueRow, PartRead}
 use Rattle.read_items.specs.declared.Content.{Content}
@@ -49,7 +49,7 @@ module _ {p : Parser (Placed × Tables)} {base n at : ℕ} (n′ most : ℕ) {st
     (beside : (k : ℕ) → Off st₀ k → Beside base n most k)
     (few : Kept (readerMemory work text) st (readerMemory work′ text′) (g .state) → n′ ≤ most)
     (grown : Kept (readerMemory work text) st (readerMemory work′ text′) (g .state) → Grown st (g .state))
-    (clear : ZeroFrom text′ (g .state .stored) → Grown st (g .state) → n < n′ → n < most → Clear work′ text′ (g .state)) where
+    (inside : n < n′ → n < most → Inside base n (g .state)) where
   read-left : g .number ≡ 0 → Left work₀ text₀ st₀ work′ text′ (g .state)
   read-left z =
       let v = s .outcome .is z in
@@ -65,7 +65,7 @@ module _ {p : Parser (Placed × Tables)} {base n at : ℕ} (n′ most : ℕ) {st
       cleared (inr more) =
           let v = s .outcome .is z in
           let f = few (v .kept) in
-          clear (v .longer .zeros) (grown (v .kept)) (omega arith) (omega arith)
+          clear-row (l .clear) (v .longer .zeros) (grown (v .kept)) base n (s .one-row) (inside (omega arith) (omega arith))
 
   string-left : Left work₀ text₀ st₀ work′ text′ (g .state)
   string-left =
@@ -104,32 +104,35 @@ module _ {p : Parser (Placed × Tables)} {at : ℕ} {stream work₀ text₀ work
     (l : Left work₀ text₀ st₀ work text st) where
   pub uri-left : {work′ : List ℕ} → st .uris ≡ st₀ .uris → PartRead p urisAt (st .uris) stream at work text st work′ text′ g → UriRow st work′ text′ g
       → Left work₀ text₀ st₀ work′ text′ (g .state)
+  unfolding grammarsAt learnedAt valuesAt namesAt urisAt
   uri-left e s u =
       string-left (g .state .uris) maxUris l s
       (counted-one (st .uris) (g .state .uris) (rowsOf st) (rowsOf (g .state)) (s .counted) (λ k. omega (arith, u .names, u .values)) (λ k. omega (arith, u .names, u .values)))
       (λ k o. rw e (o .uris)) (λ k. k .tidy .sized .uris) (grown-by (omega (arith, u .values)))
-      (λ z w b m. clear-uri (l .clear) z w (s .one-row) b m)
+      (λ b m. omega arith)
 
   pub local-left : {work′ : List ℕ} {u : Text} → st .names ≡ st₀ .names → PartRead p namesAt (st .names) stream at work text st work′ text′ g
       → NameRow u st work′ text′ g → Left work₀ text₀ st₀ work′ text′ (g .state)
+  unfolding grammarsAt learnedAt valuesAt namesAt urisAt
   local-left e s u =
       string-left (g .state .names) maxNames l s
       (counted-one (st .names) (g .state .names) (rowsOf st) (rowsOf (g .state)) (s .counted) (λ k. omega (arith, u .uris, u .values)) (λ k. omega (arith, u .uris, u .values)))
       (λ k o. rw e (o .names)) (λ k. k .tidy .sized .names) (grown-by (omega (arith, u .values)))
-      (λ z w b m. clear-name (l .clear) z w (s .one-row) b m)
+      (λ b m. omega arith)
 
   pub value-left : {work′ : List ℕ} → st .values ≡ st₀ .values → PartRead p valuesAt (st .values) stream at work text st work′ text′ g → ValueRow st g
       → Left work₀ text₀ st₀ work′ text′ (g .state)
+  unfolding grammarsAt learnedAt valuesAt namesAt urisAt
   value-left e s u =
       string-left (g .state .values) maxValues l s (counted-value u s) (λ k o. rw e (o .values)) (λ k. k .tidy .sized .values)
       (grown-by (counted-more (st .values) (g .state .values) (counted-value u s)))
-      (λ z w b m. clear-value (l .clear) z w (s .one-row) b m)
+      (λ b m. omega arith)
 
   -- A String by no table adds no row.
   pub text-left : PartRead p tableCells 0 stream at work text st work text′ g → ValueRow st g → Left work₀ text₀ st₀ work text′ (g .state)
   text-left s u =
       string-left 0 0 l s (inl (refl, refl)) (λ k o b. absurd (omega arith)) (λ k. omega arith)
-      (grown-by (counted-more (st .values) (g .state .values) (counted-value u s))) (λ z w b m. absurd (omega arith))
+      (grown-by (counted-more (st .values) (g .state .values) (counted-value u s))) (λ b m. absurd (omega arith))
 
 -- ---- taking back
 

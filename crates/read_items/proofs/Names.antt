@@ -179,7 +179,7 @@ module _ {a : Alignment} {stream work text work₁ text₁ : List ℕ} {st : Sta
     uri-text : uriText (readerMemory work₁ text₁) (g .row) ≡ s .by .outcome .read z .value .0 .text
     uri-text = u .is z ∙ s .by .outcome .is z .text-is
 
-    pub local-asks : ReadyLocal stream work₁ text₁ (g .state) (g .row) (uriText (readerMemory work₁ text₁) (g .row))
+    pub local-asks : ReadyLocal stream work₁ text₁ (g .state) (g .row)
     local-asks =
         let v = s .by .outcome .is z in
         record {
@@ -191,7 +191,6 @@ module _ {a : Alignment} {stream work text work₁ text₁ : List ℕ} {st : Sta
             zeros = v .longer .zeros;
           };
           row = u .below z;
-          is = refl;
         }
 
     module _ {attr : Bool} {work₂ text₂ : List ℕ} {h : Got}

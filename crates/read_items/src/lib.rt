@@ -3,6 +3,7 @@
 ghost use mathlib.Core.Path.{_≡_};
 ghost use Prim.Native.Nat.{_≤_};
 ghost use lib.ListN.{length};
+ghost use Rattle.fields.specs.Field.{Alignment};
 ghost use Rattle.layout.specs.Layout.{tableCells};
 ghost use Rattle.read_field.specs.View.{alignmentOf};
 ghost use Rattle.outcome.specs.Memory.{readerMemory};
@@ -170,7 +171,6 @@ fn read_attribute(
 }
 
 fn read_instruction(
-    aligned: bool,
     stream: &[u8],
     st: State,
     code: Decoded,
@@ -179,15 +179,15 @@ fn read_instruction(
 ) -> Content
     requires { ⌜ ContentFits (now stream) (now work) (now text) st code ⌝ }
     requires { ⌜ code .kind ≡ 7 ⌝ }
-    ensures { λ r. ⌜ ContentRead (alignmentOf aligned) (productionIn (readerMemory (now (work .entry)) (now (text .entry))) code) (now (stream .entry)) (now (work .entry)) (now (text .entry)) st (now (work .entry)) (now (text .exit)) r ⌝ }
+    ensures { λ r. ⌜ ((a : Alignment) → ContentRead a (productionIn (readerMemory (now (work .entry)) (now (text .entry))) code) (now (stream .entry)) (now (work .entry)) (now (text .entry)) st (now (work .entry)) (now (text .exit)) r) ⌝ }
 {
-    let target = read_content::read_text(aligned, stream, st, true, text, work);
+    let target = read_content::read_text(stream, st, true, text, work);
     let x = part_of(target);
     if target.number != 0 {
         return nameless(Event::Instruction(x, x), target);
     }
     let between = target.state;
-    let last = read_content::read_text(aligned, stream, between, false, text, work);
+    let last = read_content::read_text(stream, between, false, text, work);
     let y = part_of(last);
     nameless(Event::Instruction(x, y), last)
 }
@@ -229,11 +229,11 @@ fn read_strings(
             nameless(Event::Characters(v), value)
         }
         6 => {
-            let comment = read_content::read_text(aligned, stream, st, false, text, work);
+            let comment = read_content::read_text(stream, st, false, text, work);
             let x = part_of(comment);
             nameless(Event::Comment(x), comment)
         }
-        _ => read_instruction(aligned, stream, st, code, text, work),
+        _ => read_instruction(stream, st, code, text, work),
     }
 }
 

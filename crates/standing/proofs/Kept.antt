@@ -1,17 +1,23 @@
 -- What a string leaves as it was.
+use Prim.Native.Nat.{ℕ, _+_, _≤_}
 use native.Mathlib.Omega.{arith}
 use mathlib.Core.Path.{_≡_, refl, _∙_}
 use mathlib.Core.List.{map}
-use lib.ListN.{getD}
+use lib.ListN.{length, getD}
+use Rattle.text.specs.Text.{Text}
+use Rattle.format.specs.Tables.{Role}
 use Rattle.layout.specs.Meaning.{Memory, nameAt, tablesIn, contextIn}
 use Rattle.layout.specs.Tidy.{Tidy}
+use Rattle.layout.proofs.Adding.{countsAfter, After}
 use Rattle.state.specs.declared.State.{State}
 use Rattle.state.specs.Stack.{openNumbers}
+use Rattle.state.specs.Changed.{recounted, moved}
 use Rattle.state.proofs.Laws.{same-open}
 use Rattle.standing.specs.Standing.{countsOf, contextOf, Standing, Kept}
 
-pub kept-refl : {m : Memory} {st : State} → Tidy m (countsOf st) → Kept m st m st
-kept-refl {m} {st} t =
+-- The position alone moves.
+pub kept-moved : {m : Memory} {st : State} (at : ℕ) → Tidy m (countsOf st) → Kept m st m (moved st at (st .stored))
+kept-moved at t =
     record {
       tidy = t;
       size = refl;
@@ -21,6 +27,30 @@ kept-refl {m} {st} t =
       grammars = refl;
       moreUris = omega arith;
       moreNames = omega arith;
+      sameEvents = refl;
+      sameLearned = refl;
+      sameGrammars = refl;
+      sameMode = refl;
+      sameStack = refl;
+    }
+
+pub kept-refl : {m : Memory} {st : State} → Tidy m (countsOf st) → Kept m st m st
+kept-refl {st = st} t = kept-moved (st .at) t
+
+-- A literal is added.
+pub kept-after : {m m′ : Memory} {st : State} {r : Role} {x : Text} {at u n v : ℕ}
+    → After m m′ (countsOf st) (countsAfter (countsOf st) (length x) u n v) r x → st .uris ≤ u → st .names ≤ n
+    → Kept m st m′ (recounted st at (st .stored + length x) u n v)
+kept-after a more-uris more-names =
+    record {
+      tidy = a .tidy;
+      size = a .size;
+      uris = a .uris;
+      names = a .names;
+      learned = a .learned;
+      grammars = a .grammars;
+      moreUris = more-uris;
+      moreNames = more-names;
       sameEvents = refl;
       sameLearned = refl;
       sameGrammars = refl;

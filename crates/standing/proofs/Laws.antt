@@ -23,7 +23,8 @@ use Rattle.state.specs.declared.Stack.{Stack}
 use Rattle.state.specs.declared.State.{State}
 use Rattle.state.specs.Stack.{noElements, pushed, popped, topOf, openNumbers, started}
 use Rattle.state.proofs.Laws.{push-open, push-stack, some-open, zero-open, none-open, open-length}
-use Rattle.standing.specs.Standing.{contextOf, reached, restated, Moded, Standing}
+use Rattle.standing.specs.Standing.{contextOf, Moded, Standing}
+use Rattle.state.specs.Changed.{reached, restated}
 
 -- ---- the state by its number
 

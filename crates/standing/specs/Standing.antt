@@ -18,40 +18,6 @@ countsOf st =
 unfoldable pub contextOf : Memory → State → Context
 contextOf m st = contextIn m (countsOf st) (st .mode) (openNumbers (st .stack))
 
--- ---- the state, with some parts replaced
-
--- Another position in the stream and another number of events.
-abbrev pub reached : State → ℕ → ℕ → State
-reached st at events =
-    record {
-      at = at;
-      events = events;
-      stored = st .stored;
-      uris = st .uris;
-      names = st .names;
-      values = st .values;
-      learned = st .learned;
-      grammars = st .grammars;
-      mode = st .mode;
-      stack = st .stack;
-    }
-
--- Another state of the grammar and other open elements.
-abbrev pub restated : State → ℕ → Stack → State
-restated st mode stack =
-    record {
-      at = st .at;
-      events = st .events;
-      stored = st .stored;
-      uris = st .uris;
-      names = st .names;
-      values = st .values;
-      learned = st .learned;
-      grammars = st .grammars;
-      mode = mode;
-      stack = stack;
-    }
-
 -- ---- between events
 
 -- The grammar's state is one of an element's grammar just where an element is open.

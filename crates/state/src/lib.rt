@@ -30,7 +30,7 @@ pub struct State {
     pub stack: Stack,
 }
 
-pub fn empty() -> Stack
+fn empty() -> Stack
     ensures { λ r. ⌜ r ≡ noElements ⌝ }
 {
     Stack {

@@ -27,7 +27,8 @@ use Rattle.event.proofs.Laws.{events-at, events-cut, events-end}
 use Rattle.layout.specs.Meaning.{Memory}
 use Rattle.layout.specs.Writer.{writerMemory}
 use Rattle.state.specs.declared.State.{State}
-use Rattle.standing.specs.Standing.{contextOf, reached, Standing}
+use Rattle.standing.specs.Standing.{contextOf, Standing}
+use Rattle.state.specs.Changed.{reached}
 use Rattle.standing.proofs.Laws.{document-state, docContent-state, docEnd-state, finished-state, startTag-state, elementContent-state}
 use Rattle.standing.proofs.Laws.{reached-standing, reached-context}
 use Rattle.literal.specs.Fault.{faultNumber}

@@ -20,8 +20,10 @@ use Rattle.standing.specs.Standing.{contextOf, Standing}
 use Rattle.read_field.specs.View.{alignmentOf}
 use Rattle.write_field.specs.Written.{Put}
 use Rattle.write_form.specs.Form.{moved}
-use Rattle.event_code.specs.Parts.{partsBits, under, keptParts, documentParts, tagParts, contentParts, fixedParts, learnedPart, teachesIn, PartsFit, CodeFits}
-use Rattle.event_code.proofs.Parts.{fixed-fits, learned-fits, parts-length, teaches-in}
+use Rattle.event_code.specs.Parts.{partsBits, under, keptParts, documentParts, tagParts, contentParts, fixedParts, learnedPart, teachesIn, PartsFit}
+use Rattle.write_parts.specs.Ask.{CodeFits}
+use Rattle.write_parts.proofs.Parts.{parts-length}
+use Rattle.event_code.proofs.Parts.{fixed-fits, learned-fits, teaches-in}
 use Rattle.event_code.proofs.Codes.{fixed-coded, fixed-none, learned-coded}
 use Rattle.fitting.specs.declared.Newer.{Newer}
 use Rattle.fitting.specs.Fitting.{rowOr, Newest}

@@ -74,7 +74,7 @@ pub fn put_code(
     let n = fitting::newest(st, kind, name, work);
     let row = row_of(name);
     if n.hit {
-        let at = event_code::put_code(
+        let at = write_parts::put_parts(
             o.aligned,
             stream,
             st.at,
@@ -86,7 +86,7 @@ pub fn put_code(
     match code {
         Code::None => answer(false, false, false, row, st, st.at),
         _ => {
-            let at = event_code::put_code(o.aligned, stream, st.at, code);
+            let at = write_parts::put_parts(o.aligned, stream, st.at, code);
             answer(true, false, event_code::teaches(st.mode, kind), row, st, at)
         }
     }

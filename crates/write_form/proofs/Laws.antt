@@ -10,7 +10,7 @@ use borrow.Author.Tests.{ltb-true}
 use Rattle.fields.specs.Bits.{each}
 use Rattle.fields.specs.Field.{maxUnsigned, unsignedBits}
 use Rattle.text.specs.Text.{Text}
-use Rattle.format.specs.Sizes.{maxString}
+use Rattle.format.specs.Sizes.{maxString, readerWork}
 use Rattle.format.specs.Tables.{stringBits}
 use Rattle.rows.specs.Rows.{Room}
 use Rattle.rows.proofs.Laws.{withRow-length}
@@ -68,7 +68,7 @@ module _ {stream w : List ℕ} {st : State} {raised : ℕ} {x : Text} (h : Liter
 -- The text in the store leaves room for the row.
 pub row-asks : {stream w w′ : List ℕ} {st : State} {raised : ℕ} {x : Text} {base n : ℕ} → EntryFits stream w st raised x base n → w′ ≡ laid w st x
     → Room w′ base (n + 1)
-unfolding storeAt
+unfolding storeAt readerWork
 row-asks {w = w} {st = st} {x = x} h e =
     record {
       inside = omega (arith, h .row, h .literal .room, ap length e, laid-length w st x (store-fits (h .literal)));

@@ -14,7 +14,7 @@ use Rattle.fields.proofs.Refusal.{refusal-number}
 use Rattle.text.specs.Text.{Text}
 use Rattle.format.specs.Settings.{meaningful, settingsOf, headerOf}
 use Rattle.format.specs.Settings as format
-use Rattle.format.specs.Sizes.{maxStream, maxEvents, writerWork}
+use Rattle.format.specs.Sizes.{maxStream, maxEvents, writerWork, readerWork, maxStore}
 use Rattle.format.specs.Context.{start}
 use Rattle.format.specs.Writer.{Stored, writeEvents, asOctets, writeList, enoughToWrite, writeReply}
 use Rattle.format.specs.Writer as format-writer
@@ -150,12 +150,12 @@ fits a b m n e =
 module _ (s : SettingNumbers) (stream : List ℕ) (xs : List Stored) (store : Text) (work : List ℕ) where
   pub no-room : (after : List ℕ) → (ltb (length stream) 16384 || ltb (length work) 20480) ≡ true
       → Attempted (answerOf s stream xs store work) stream after (record { number = 1; index = 0; octets = 0 })
-  unfolding answerOf format-writer.write enoughToWrite maxStream writerWork numberOf
+  unfolding answerOf format-writer.write enoughToWrite maxStream writerWork numberOf readerWork maxStore
   no-room after e = attempted-refused room 0 1 0 (rw (enough (length stream) (length work) 16384 20480, e)) refl refl
 
   module _ (few : (ltb (length stream) 16384 || ltb (length work) 20480) ≡ false) where
     pub list-asks : {zeros : List ℕ} → zeros ≡ replicate (length stream) 0 → ListFits zeros work
-    unfolding maxStream writerWork
+    unfolding maxStream writerWork readerWork maxStore
     list-asks e =
         let (a, b) = fits (length stream) (length work) 16384 20480 few in
         rw e (record { blank = zeros-blank (length stream); octets = rw (length-replicate {A = ℕ} (length stream) 0) a; room = b })
@@ -163,12 +163,12 @@ module _ (s : SettingNumbers) (stream : List ℕ) (xs : List Stored) (store : Te
     module _ {asked : Bool} (meant : asked ≡ meaningful (numbersOf s)) where
       pub no-meaning : (after : List ℕ) → not asked ≡ true
           → Attempted (answerOf s stream xs store work) stream after (record { number = 2; index = 0; octets = 0 })
-      unfolding answerOf format-writer.write enoughToWrite maxStream writerWork numberOf
+      unfolding answerOf format-writer.write enoughToWrite maxStream writerWork numberOf readerWork maxStore
       no-meaning after e =
           attempted-refused settings 0 2 0 (rw (enough (length stream) (length work) 16384 20480, few, ← meant, e)) refl refl
 
       answer-list : not asked ≡ false → answerOf s stream xs store work ≡ writeList (settingsOf (numbersOf s)) xs store
-      unfolding answerOf format-writer.write enoughToWrite maxStream writerWork
+      unfolding answerOf format-writer.write enoughToWrite maxStream writerWork readerWork maxStore
       answer-list e = rw (enough (length stream) (length work) 16384 20480, few, ← meant, e)
 
       pub list-answered : {o : Settings} {zeros after : List ℕ} {r : declared.WriteReply} → not asked ≡ false → o ≡ settingsMeant s → zeros ≡ replicate (length stream) 0

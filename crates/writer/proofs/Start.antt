@@ -7,7 +7,7 @@ use lib.ListN.{length}
 use Rattle.fields.proofs.Tests.{split}
 use Rattle.fields.proofs.Pack.{length-unpack}
 use Rattle.format.specs.Settings.{Settings, headerOf}
-use Rattle.format.specs.Sizes.{maxUris, maxNames, maxValues, maxLearned, maxGrammars, writerWork}
+use Rattle.format.specs.Sizes.{maxUris, maxNames, maxValues, maxLearned, maxGrammars, writerWork, readerWork, maxStore}
 use Rattle.format.specs.Context.{start}
 use Rattle.layout.specs.Layout.{urisAt, namesAt, valuesAt, learnedAt, grammarsAt, tableCells}
 use Rattle.layout.specs.Writer.{storeAt, writerMemory}
@@ -36,15 +36,15 @@ pub record Begins (at : ℕ) (w : List ℕ) (st : State) : Type 0 where
 
 module _ (w : List ℕ) (room : writerWork ≤ length w) where
   pub tables-fit : tableCells ≤ length w
-  unfolding writerWork
+  unfolding writerWork readerWork maxStore
   tables-fit = omega (arith, tables-before)
 
   pub text-fits : 4096 + 99 ≤ length (withTables w 4096)
-  unfolding writerWork
+  unfolding writerWork readerWork maxStore
   text-fits = rw (withTables-length w 4096) (omega arith)
 
   begun : Begun (writerMemory (withText (withTables w 4096) 4096))
-  unfolding storeAt writerWork
+  unfolding storeAt writerWork readerWork maxStore
   begun = begun-inside w 4096 tables-before (omega arith)
 
   -- The rows are laid, then the text.

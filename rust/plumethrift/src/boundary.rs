@@ -39,11 +39,7 @@ extern "C" {
         work_cells: usize,
     ) -> WriteReply;
 
-    fn plumethrift_event_cells() -> usize;
-    fn plumethrift_text_cells() -> usize;
-    fn plumethrift_stream_octets() -> usize;
-    fn plumethrift_reader_work_cells() -> usize;
-    fn plumethrift_writer_work_cells() -> usize;
+    fn plumethrift_sizes() -> Sizes;
 
     fn plumethrift_refusal_name(number: u32) -> Name;
 }
@@ -96,16 +92,8 @@ pub(crate) fn write(
 }
 
 pub(crate) fn sizes() -> Sizes {
-    // SAFETY: the functions take nothing and touch no memory.
-    unsafe {
-        Sizes {
-            event_cells: plumethrift_event_cells(),
-            text_cells: plumethrift_text_cells(),
-            stream_octets: plumethrift_stream_octets(),
-            reader_work_cells: plumethrift_reader_work_cells(),
-            writer_work_cells: plumethrift_writer_work_cells(),
-        }
-    }
+    // SAFETY: the function takes nothing, and touches no memory.
+    unsafe { plumethrift_sizes() }
 }
 
 pub(crate) fn refusal_name(number: u32) -> [u8; 16] {

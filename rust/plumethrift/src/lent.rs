@@ -89,6 +89,7 @@ pub struct WriteReply {
 }
 
 /// The sizes to lend, as the library answers them.
+#[repr(C)]
 #[derive(Clone, Copy, Debug, PartialEq, Eq)]
 pub struct Sizes {
     /// [`EVENT_CELLS`].

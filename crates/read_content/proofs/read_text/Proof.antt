@@ -2,7 +2,6 @@
 use native.Mathlib.Omega.{arith}
 use borrow.Author.Needs.{needs}
 use Rattle.format.specs.Sizes.{maxStore}
-use Rattle.read_field.specs.View.{alignmentOf}
 use Rattle.read_content.proofs.Fresh.{ready-from, field-asks, literal-asks}
 use Rattle.read_content.proofs.Steps.{test-failed, test-passed}
 use Rattle.read_content.proofs.Whole.{number-from, text-refused, text-declined, text-ends, text-unnamed, text-passed, allowed-target}
@@ -34,7 +33,7 @@ same-length : tie.Need-same-length
 same-length c = search needs
 
 returns : tie.Need-returns
-returns c = rw (c .refused2 .ensures) (text-declined (alignmentOf ((c .before .before .before .before .before .before .before .before .before .before .before .before .before .before .args) .aligned)) (c .before .before .before .before .before .before .before .before .before .before .before .before .before .before .pre) (c .before .before .before .before .before .before .before .before .before .before .unsigned .ensures) ((c .before .before .before .before .before .before .before .before .before .before .before .before .before .before .args) .named) (c .before .before .before .before .before .before .before .before .n .given .1) (c .before .before .before .before .before .read-literal .ensures) (c .before .if1 .taken))
+returns c = rw (c .refused2 .ensures) (text-declined (c .before .before .before .before .before .before .before .before .before .before .before .before .before .before .pre) (c .before .before .before .before .before .before .before .before .before .before .unsigned .ensures) ((c .before .before .before .before .before .before .before .before .before .before .before .before .before .before .args) .named) (c .before .before .before .before .before .before .before .before .n .given .1) (c .before .before .before .before .before .read-literal .ensures) (c .before .if1 .taken))
 
 cast-place : tie.Need-cast-place
 unfolding maxStore
@@ -53,22 +52,22 @@ same-length-2 : tie.Need-same-length-2
 same-length-2 c = search needs
 
 returns-2 : tie.Need-returns-2
-returns-2 c = rw (c .before .before .undone .ensures .0) (text-unnamed (alignmentOf ((c .before .before .before .before .before .before .before .before .before .before .before .before .before .before .before .before .before .before .before .before .before .before .args) .aligned)) (c .before .before .before .before .before .before .before .before .before .before .before .before .before .before .before .before .before .before .before .before .before .before .pre) (c .before .before .before .before .before .before .before .before .before .before .before .before .before .before .before .before .before .before .unsigned .ensures) ((c .before .before .before .before .before .before .before .before .before .before .before .before .before .before .before .before .before .before .before .before .before .before .args) .named) (c .before .before .before .before .before .before .before .before .before .before .before .before .before .before .before .before .n .given .1) (c .before .before .before .before .before .before .before .before .before .before .before .before .before .read-literal .ensures) (c .before .before .before .before .before .before .before .before .before .if1 .left) (allowed-target ((c .before .before .before .before .before .before .before .before .before .before .before .before .before .before .before .before .before .before .before .before .before .before .args) .named) (c .before .before .before .before .before .target-allowed .ensures) (c .before .before .before .before .before .before .look-up .ensures .0)) (test-failed _ (c .before .before .before .before .if2 .taken)) (c .before .before .undone .ensures .1))
+returns-2 c = rw (c .before .before .undone .ensures .0) (text-unnamed (c .before .before .before .before .before .before .before .before .before .before .before .before .before .before .before .before .before .before .before .before .before .before .pre) (c .before .before .before .before .before .before .before .before .before .before .before .before .before .before .before .before .before .before .unsigned .ensures) ((c .before .before .before .before .before .before .before .before .before .before .before .before .before .before .before .before .before .before .before .before .before .before .args) .named) (c .before .before .before .before .before .before .before .before .before .before .before .before .before .before .before .before .n .given .1) (c .before .before .before .before .before .before .before .before .before .before .before .before .before .read-literal .ensures) (c .before .before .before .before .before .before .before .before .before .if1 .left) (allowed-target ((c .before .before .before .before .before .before .before .before .before .before .before .before .before .before .before .before .before .before .before .before .before .before .args) .named) (c .before .before .before .before .before .target-allowed .ensures) (c .before .before .before .before .before .before .look-up .ensures .0)) (test-failed _ (c .before .before .before .before .if2 .taken)) (c .before .before .undone .ensures .1))
 
 laid-requires : tie.Need-laid-requires
-laid-requires c κs = text-ends (alignmentOf ((c .before .before .before .before .before .before .before .before .before .before .before .before .before .before .before .before .before .before .args) .aligned)) (c .before .before .before .before .before .before .before .before .before .before .before .before .before .before .before .before .before .before .pre) (c .before .before .before .before .before .before .before .before .before .before .before .before .before .before .unsigned .ensures) ((c .before .before .before .before .before .before .before .before .before .before .before .before .before .before .before .before .before .before .args) .named) (c .before .before .before .before .before .before .before .before .before .before .before .before .n .given .1) (c .before .before .before .before .before .before .before .before .before .read-literal .ensures) (c .before .before .before .before .before .if1 .left)
+laid-requires c κs = text-ends (c .before .before .before .before .before .before .before .before .before .before .before .before .before .before .before .before .before .before .pre) (c .before .before .before .before .before .before .before .before .before .before .before .before .before .before .unsigned .ensures) ((c .before .before .before .before .before .before .before .before .before .before .before .before .before .before .before .before .before .before .args) .named) (c .before .before .before .before .before .before .before .before .before .before .before .before .n .given .1) (c .before .before .before .before .before .before .before .before .before .read-literal .ensures) (c .before .before .before .before .before .if1 .left)
 
 read-as-requires : tie.Need-read-as-requires
 read-as-requires c κs = search needs
 
 returns-3 : tie.Need-returns-3
-returns-3 c = rw (c .refused .ensures) (text-refused (alignmentOf ((c .before .before .before .before .before .before .before .before .args) .aligned)) (c .before .before .before .before .before .before .before .before .pre) (c .before .before .before .before .unsigned .ensures) ((c .before .before .before .before .before .before .before .before .args) .named) (c .before .before .k .given .1))
+returns-3 c = rw (c .refused .ensures) (text-refused (c .before .before .before .before .before .before .before .before .pre) (c .before .before .before .before .unsigned .ensures) ((c .before .before .before .before .before .before .before .before .args) .named) (c .before .before .k .given .1))
 
 same-length-3 : tie.Need-same-length-3
 same-length-3 c = search needs
 
 returns-4 : tie.Need-returns-4
-returns-4 c = rw (c .read-as .ensures, c .before .laid .ensures) (text-passed (alignmentOf ((c .before .before .before .before .before .before .before .before .before .before .before .before .before .before .before .before .before .before .before .before .args) .aligned)) (c .before .before .before .before .before .before .before .before .before .before .before .before .before .before .before .before .before .before .before .before .pre) (c .before .before .before .before .before .before .before .before .before .before .before .before .before .before .before .before .unsigned .ensures) ((c .before .before .before .before .before .before .before .before .before .before .before .before .before .before .before .before .before .before .before .before .args) .named) (c .before .before .before .before .before .before .before .before .before .before .before .before .before .before .n .given .1) (c .before .before .before .before .before .before .before .before .before .before .before .read-literal .ensures) (c .before .before .before .before .before .before .before .if1 .left) (allowed-target ((c .before .before .before .before .before .before .before .before .before .before .before .before .before .before .before .before .before .before .before .before .args) .named) (c .before .before .before .target-allowed .ensures) (c .before .before .before .before .look-up .ensures .0)) (test-passed _ (c .before .before .if2 .left)))
+returns-4 c = rw (c .read-as .ensures, c .before .laid .ensures) (text-passed (c .before .before .before .before .before .before .before .before .before .before .before .before .before .before .before .before .before .before .before .before .pre) (c .before .before .before .before .before .before .before .before .before .before .before .before .before .before .before .before .unsigned .ensures) ((c .before .before .before .before .before .before .before .before .before .before .before .before .before .before .before .before .before .before .before .before .args) .named) (c .before .before .before .before .before .before .before .before .before .before .before .before .before .before .n .given .1) (c .before .before .before .before .before .before .before .before .before .before .before .read-literal .ensures) (c .before .before .before .before .before .before .before .if1 .left) (allowed-target ((c .before .before .before .before .before .before .before .before .before .before .before .before .before .before .before .before .before .before .before .before .args) .named) (c .before .before .before .target-allowed .ensures) (c .before .before .before .before .look-up .ensures .0)) (test-passed _ (c .before .before .if2 .left)))
 
 pub read-text-spec : {M : Type 1} → statement M
 read-text-spec =

@@ -96,7 +96,7 @@ same-length-8 c = search needs
 
 returns-7 : tie.Need-returns-7
 returns-7 c = rw (c .nameless2 .ensures, c .before .part-of2 .ensures)
-    (comment-read (c .before .before .before .before .before .before .before .before .before .before .before .pre) (c .before .before .before .before .read-text .ensures .0) (c .before .before .before .before .read-text .ensures .1) (c .before .before .before .before .before .before .before .match .keys7))
+    (comment-read (c .before .before .before .before .before .before .before .before .before .before .before .pre) (c .before .before .before .before .read-text .ensures .0 _) (c .before .before .before .before .read-text .ensures .1) (c .before .before .before .before .before .before .before .match .keys7))
 
 same-length-9 : tie.Need-same-length-9
 same-length-9 c = search needs
@@ -105,7 +105,7 @@ same-length-10 : tie.Need-same-length-10
 same-length-10 c = search needs
 
 returns-8 : tie.Need-returns-8
-returns-8 c = c .before .before .read-instruction .ensures
+returns-8 c = c .before .before .read-instruction .ensures _
 
 pub read-strings-spec : {M : Type 1} → statement M
 read-strings-spec =

@@ -2,7 +2,7 @@
 use native.Mathlib.Omega.{arith}
 use mathlib.Core.Path.{_∙_}
 use borrow.Author.Needs.{needs}
-use Rattle.format.specs.Sizes.{maxString, maxStore}
+use Rattle.format.specs.Sizes.{maxString, maxStore, readerWork}
 use Rattle.layout.specs.Writer.{storeAt}
 use Rattle.write_form.specs.Form.{entered}
 use Rattle.write_form.proofs.Laws.{row-asks}
@@ -33,7 +33,7 @@ same-length-2 : tie.Need-same-length-2
 same-length-2 c = search needs
 
 returns : tie.Need-returns
-unfolding entered storeAt
+unfolding entered storeAt readerWork
 returns c =
     record {
       put = c .before .before .before .before .before .before .before .before .put-literal .ensures .put;

@@ -1,6 +1,7 @@
 -- `put_literal` meets its contract.
 use mathlib.Core.Path.{refl}
 use borrow.Author.Needs.{needs}
+use Rattle.format.specs.Sizes.{readerWork}
 use Rattle.layout.specs.Writer.{storeAt}
 use Rattle.write_form.specs.Form.{laid}
 use Rattle.write_form.proofs.Laws.{string-asks, store-fits}
@@ -14,7 +15,7 @@ add-lay : tie.Need-add-lay
 add-lay c = search needs
 
 lay-requires : tie.Need-lay-requires
-unfolding storeAt
+unfolding storeAt readerWork
 lay-requires c κs = store-fits (c .before .before .before .before .before .before .before .before .before .pre)
 
 add-t : tie.Need-add-t
@@ -27,7 +28,7 @@ same-length-2 : tie.Need-same-length-2
 same-length-2 c = search needs
 
 returns : tie.Need-returns
-unfolding laid storeAt
+unfolding laid storeAt readerWork
 returns c =
     record {
       put = c .before .before .before .before .before .before .before .before .put-string .ensures;

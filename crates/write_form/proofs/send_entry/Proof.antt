@@ -2,6 +2,7 @@
 use native.Mathlib.Omega.{arith}
 use mathlib.Core.Path.{refl, sym, _∙_}
 use borrow.Author.Needs.{needs}
+use Rattle.format.specs.Sizes.{readerWork}
 use Rattle.layout.specs.Writer.{storeAt}
 use Rattle.write_form.proofs.Laws.{sound, row-left, entry-asks}
 use Rattle.write_form.proofs.send_entry.Statement.{statement}
@@ -23,7 +24,7 @@ put-entry-requires : tie.Need-put-entry-requires
 put-entry-requires c κs = entry-asks (c .before .before .before .before .before .before .before .pre) (sound (c .before .before .before .fault .ensures) (c .before .before .if1 .left))
 
 cast-t18 : tie.Need-cast-t18
-unfolding storeAt
+unfolding storeAt readerWork
 cast-t18 c = omega (arith, row-left (c .before .before .before .before .before .before .before .before .before .before .before .before .pre) (sound (c .before .before .before .before .before .before .before .before .fault .ensures) (c .before .before .before .before .before .before .before .if1 .left)), c .before .before .before .before .before .before .before .before .before .before .before .before .pre .row)
 
 same-length : tie.Need-same-length

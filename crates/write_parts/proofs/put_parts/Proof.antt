@@ -1,12 +1,12 @@
--- `put_code` meets its contract: each arm is told which code it has, and writes its parts one after the other.
+-- `put_parts` meets its contract: each arm is told which code it has, and writes its parts one after the other.
 use mathlib.Core.Path.{_∙_}
 use borrow.Author.Needs.{needs}
 use Rattle.fields.specs.Bits.{each}
 use Rattle.write_field.proofs.Written.{put-nothing, put-length}
 use Rattle.event_code.specs.Parts.{partsOf, partsBits}
-use Rattle.event_code.proofs.Parts.{code-asks, first-asks, rest-asks, put-first, put-last}
-use Rattle.event_code.proofs.put_code.Statement.{statement}
-use Rattle.event_code.proofs.put_code.Tie as tie
+use Rattle.write_parts.proofs.Parts.{code-asks, first-asks, rest-asks, put-first, put-last}
+use Rattle.write_parts.proofs.put_parts.Statement.{statement}
+use Rattle.write_parts.proofs.put_parts.Tie as tie
 
 enum-told : tie.Need-enum-told
 enum-told c = search needs
@@ -84,8 +84,8 @@ returns-4 c =
     let last-two = put-first _ _ _ _ (c .before .before .before .before .before .before .put-part5 .ensures) (put-last _ _ _ (c .before .before .put-part6 .ensures)) in
     rw (b .before .before .before .code3 .given .1) (put-first _ _ _ _ (b .put-part4 .ensures) last-two)
 
-pub put-code-spec : {M : Type 1} → statement M
-put-code-spec =
+pub put-parts-spec : {M : Type 1} → statement M
+put-parts-spec =
     tie.close
     (tie.spec
     enum-told
