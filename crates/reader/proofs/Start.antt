@@ -19,8 +19,9 @@ use Rattle.standing.specs.Standing.{contextOf}
 use Rattle.standing.proofs.Laws.{start-standing, start-context}
 use Rattle.outcome.specs.Memory.{readerMemory, ZeroFrom, Clear}
 use Rattle.outcome.proofs.Memory.{zero-laid}
-use Rattle.reader.specs.Read.{RunReady, StreamReady}
-use Rattle.reader.proofs.Cells.{zeros-at}
+use Rattle.read_body.specs.Body.{RunReady}
+use Rattle.reader.specs.Read.{StreamReady}
+use Rattle.read_body.proofs.Cells.{zeros-at}
 
 tables-before : tableCells ≤ readerWork
 unfolding tableCells grammarsAt learnedAt valuesAt namesAt urisAt maxUris maxNames maxValues maxLearned maxGrammars readerWork

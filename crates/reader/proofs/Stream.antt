@@ -23,10 +23,13 @@ use Rattle.settings.proofs.Laws.{settings-from}
 use Rattle.settings.specs.declared.SettingNumbers.{SettingNumbers}
 use Rattle.settings.specs.declared.Settings.{Settings}
 use Rattle.outcome.specs.Memory.{readerMemory}
-use Rattle.reader.specs.Read.{answerOf, Attempted, refusalOf, StreamReady, Passes, answerFrom}
-use Rattle.reader.specs.declared.Passed.{Passed}
-use Rattle.reader.specs.declared.ReadReply as declared
-use Rattle.reader.proofs.Reply.{attempted-refused, attempted-as}
+use Rattle.read_header.specs.Header.{Passes}
+use Rattle.read_body.specs.Reply.{Attempted, refusalOf}
+use Rattle.read_body.specs.Body.{answerFrom}
+use Rattle.reader.specs.Read.{answerOf, StreamReady}
+use Rattle.read_header.specs.declared.Passed.{Passed}
+use Rattle.read_body.specs.declared.ReadReply as declared
+use Rattle.read_body.proofs.Reply.{attempted-refused, attempted-as}
 
 -- ---- the header, then the events
 

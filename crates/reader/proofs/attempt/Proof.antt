@@ -5,34 +5,34 @@ use Rattle.reader.proofs.Stream.{no-room, no-meaning, too-long, stream-
 use Rattle.reader.proofs.attempt.Statement.{statement}
 use Rattle.reader.proofs.attempt.Tie as tie
 
-refusal-requires : tie.Need-refusal-requires
-refusal-requires c κs = search needs
+refused-requires : tie.Need-refused-requires
+refused-requires c κs = search needs
 
 returns : tie.Need-returns
 returns c = let a = c .before .before .before .before .before .before .args in
     no-room (a .s) (now (a .stream)) (now (a .events)) (now (a .text)) (now (a .work))
-    (c .before .if1 .taken) (c .refusal .ensures)
+    (c .before .if1 .taken) (c .refused .ensures)
 
 are-meaningful-requires : tie.Need-are-meaningful-requires
 are-meaningful-requires c κs = search needs
 
-refusal-requires-2 : tie.Need-refusal-requires-2
-refusal-requires-2 c κs = search needs
+refused-requires-2 : tie.Need-refused-requires-2
+refused-requires-2 c κs = search needs
 
 returns-2 : tie.Need-returns-2
 returns-2 c = let a = c .before .before .before .before .before .before .before .before .args in
     no-meaning (a .s) (now (a .stream)) (now (a .events)) (now (a .text)) (now (a .work))
     (c .before .before .before .if1 .left) (c .before .before .are-meaningful .ensures)
-    (c .before .if2 .taken) (c .refusal2 .ensures)
+    (c .before .if2 .taken) (c .refused2 .ensures)
 
-refusal-requires-3 : tie.Need-refusal-requires-3
-refusal-requires-3 c κs = search needs
+refused-requires-3 : tie.Need-refused-requires-3
+refused-requires-3 c κs = search needs
 
 returns-3 : tie.Need-returns-3
 returns-3 c = let a = c .before .before .before .before .before .before .before .before .before .args in
     too-long (a .s) (now (a .stream)) (now (a .events)) (now (a .text)) (now (a .work))
     (c .before .before .before .before .if1 .left) (c .before .before .before .are-meaningful .ensures)
-    (c .before .before .if2 .left) (c .before .if3 .taken) (c .refusal3 .ensures)
+    (c .before .before .if2 .left) (c .before .if3 .taken) (c .refused3 .ensures)
 
 cells-requires : tie.Need-cells-requires
 cells-requires c κs = search needs
@@ -73,12 +73,12 @@ pub attempt-spec : {M : Type 1} → statement M
 attempt-spec =
     tie.close
     (tie.spec
-    refusal-requires
+    refused-requires
     returns
     are-meaningful-requires
-    refusal-requires-2
+    refused-requires-2
     returns-2
-    refusal-requires-3
+    refused-requires-3
     returns-3
     cells-requires
     cells-requires-2

@@ -10,12 +10,12 @@ use Rattle.reader.proofs.read_stream.Tie as tie
 read-header-requires : tie.Need-read-header-requires
 read-header-requires c κs = search needs
 
-refusal-requires : tie.Need-refusal-requires
-refusal-requires c κs = search needs
+refused-requires : tie.Need-refused-requires
+refused-requires c κs = search needs
 
 returns : tie.Need-returns
 returns c = let h = c .before .before .before in
-    header-refused (settingsFrom (h .before .before .before .before .before .args .o)) (h .read-header .ensures) (c .before .if1 .taken) (c .refusal .ensures)
+    header-refused (settingsFrom (h .before .before .before .before .before .args .o)) (h .read-header .ensures) (c .before .if1 .taken) (c .refused .ensures)
 
 lay-rows-requires : tie.Need-lay-rows-requires
 lay-rows-requires c κs = (rows-fit (c .before .before .before .before .before .before .before .before .pre), omega arith)
@@ -60,7 +60,7 @@ read-stream-spec =
     tie.close
     (tie.spec
     read-header-requires
-    refusal-requires
+    refused-requires
     returns
     lay-rows-requires
     lay-text-requires

@@ -23,10 +23,11 @@ use Rattle.standing.proofs.Laws.{document-state, docContent-state, docEnd-state
 use Rattle.outcome.specs.Memory.{readerMemory, Clear}
 use Rattle.read_event.specs.Step.{StepReady, Step, Done}
 use Rattle.read_event.specs.declared.Stepped.{Stepped}
-use Rattle.reader.specs.Read.{replyOf, cellsOfAll, eventsFilled, textFilled, Attempted, refusalOf, PlaceIn, RunReady, answerFrom}
-use Rattle.reader.specs.declared.ReadReply as declared
-use Rattle.reader.proofs.Cells.{zeros-behind, cells-size, event-added}
-use Rattle.reader.proofs.Reply.{attempted-refused}
+use Rattle.read_body.specs.Reply.{replyOf, cellsOfAll, eventsFilled, textFilled, Attempted, refusalOf}
+use Rattle.read_body.specs.Body.{PlaceIn, RunReady, answerFrom}
+use Rattle.read_body.specs.declared.ReadReply as declared
+use Rattle.read_body.proofs.Cells.{zeros-behind, cells-size, event-added}
+use Rattle.read_body.proofs.Reply.{attempted-refused}
 
 -- These events stand before what this answer is about.
 pub shifted : List (Event Placed) → Answer Reading → Answer Reading

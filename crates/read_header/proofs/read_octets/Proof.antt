@@ -4,9 +4,9 @@ use Prim.Native.Nat.{_-_}
 use native.Mathlib.Omega.{arith}
 use borrow.Author.Needs.{needs}
 use Rattle.format.specs.Sizes.{maxStream}
-use Rattle.reader.proofs.Header.{Passing, passing-start, all-passed, octet-missing, octet-other, octet-same}
-use Rattle.reader.proofs.read_octets.Statement.{statement}
-use Rattle.reader.proofs.read_octets.Tie as tie
+use Rattle.read_header.proofs.Header.{Passing, passing-start, all-passed, octet-missing, octet-other, octet-same}
+use Rattle.read_header.proofs.read_octets.Statement.{statement}
+use Rattle.read_header.proofs.read_octets.Tie as tie
 
 abbrev Inv-loop : tie.InvT-loop
 Inv-loop stream first at₀ i₀ at i = Passing stream first at i

@@ -19,7 +19,7 @@ use Rattle.read_field.specs.declared.Field.the-variants.{Value, Refused}
 use Rattle.read_field.specs.View.{fieldAt}
 use Rattle.outcome.specs.Outcome.{Declined, Gotten}
 use Rattle.outcome.proofs.Outcome.{refused-outcome, gotten-outcome, declined-then, gotten-declined, then-got, need-true, need-declined, refused-declined, octet-gotten, return-got}
-use Rattle.reader.specs.Read.{headerOctets, Passes}
+use Rattle.read_header.specs.Header.{headerOctets, Passes}
 
 -- The octets before this one stand there.
 pub record Passing (stream : List ℕ) (first at i : ℕ) : Type 0 where

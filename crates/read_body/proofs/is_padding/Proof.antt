@@ -5,9 +5,9 @@ use borrow.Author.Needs.{needs}
 use denote.Ref.{now}
 use Rattle.format.specs.Sizes.{maxStream}
 use Rattle.read_field.specs.View.{alignmentOf}
-use Rattle.reader.proofs.Padding.{too-much, padding-refused, padding-value}
-use Rattle.reader.proofs.is_padding.Statement.{statement}
-use Rattle.reader.proofs.is_padding.Tie as tie
+use Rattle.read_body.proofs.Padding.{too-much, padding-refused, padding-value}
+use Rattle.read_body.proofs.is_padding.Statement.{statement}
+use Rattle.read_body.proofs.is_padding.Tie as tie
 
 mul-left : tie.Need-mul-left
 unfolding maxStream

@@ -13,7 +13,7 @@ use Rattle.state.specs.declared.State.{State}
 use Rattle.outcome.specs.Memory.{ZeroFrom}
 use Rattle.outcome.proofs.Memory.{zero-drop, zero-cleared, cleared-back}
 use Rattle.read_event.specs.Step.{withEvent}
-use Rattle.reader.specs.Read.{cellsOfAll}
+use Rattle.read_body.specs.Reply.{cellsOfAll}
 
 -- ---- zeros
 

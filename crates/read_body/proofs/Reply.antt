@@ -7,8 +7,8 @@ use lib.ListN.{length, replicate}
 use Rattle.fields.specs.Refusal.{Refusal, numberOf, Answer, refused, accepted}
 use Rattle.fields.proofs.Refusal.{refusal-number}
 use Rattle.format.specs.Reader.{Reading, readReply}
-use Rattle.reader.specs.Read.{replyOf, eventsFilled, textFilled, Attempted, refusalOf}
-use Rattle.reader.specs.declared.ReadReply as declared
+use Rattle.read_body.specs.Reply.{replyOf, eventsFilled, textFilled, Attempted, refusalOf}
+use Rattle.read_body.specs.declared.ReadReply as declared
 
 module _ {events text events′ text′ : List ℕ} {r : declared.ReadReply} where
   pub attempted-refused : {x : Answer Reading} (k : Refusal) (i number index : ℕ) → x ≡ refused k i → number ≡ numberOf k → index ≡ i → r ≡ refusalOf number index

@@ -1,9 +1,9 @@
 -- `read_header` meets its contract.
 use borrow.Author.Needs.{needs}
 use Rattle.settings.specs.Meant.{settingsFrom}
-use Rattle.reader.proofs.Header.{header-with, header-without}
-use Rattle.reader.proofs.read_header.Statement.{statement}
-use Rattle.reader.proofs.read_header.Tie as tie
+use Rattle.read_header.proofs.Header.{header-with, header-without}
+use Rattle.read_header.proofs.read_header.Statement.{statement}
+use Rattle.read_header.proofs.read_header.Tie as tie
 
 read-octets-requires : tie.Need-read-octets-requires
 read-octets-requires c κs = search needs

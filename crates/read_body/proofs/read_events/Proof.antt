@@ -4,9 +4,9 @@ use Prim.Native.Nat.{_-_}
 use native.Mathlib.Omega.{arith}
 use Rattle.format.specs.Sizes.{maxEvents, maxStore}
 use Rattle.settings.specs.Meant.{settingsFrom}
-use Rattle.reader.proofs.Events.{Turning, turning-start, same-events, too-many, step-asks, refused-event, event-read, event-more, padding-asks, run-tail, run-ended}
-use Rattle.reader.proofs.read_events.Statement.{statement}
-use Rattle.reader.proofs.read_events.Tie as tie
+use Rattle.read_body.proofs.Events.{Turning, turning-start, same-events, too-many, step-asks, refused-event, event-read, event-more, padding-asks, run-tail, run-ended}
+use Rattle.read_body.proofs.read_events.Statement.{statement}
+use Rattle.read_body.proofs.read_events.Tie as tie
 
 abbrev Inv-loop : tie.InvT-loop
 Inv-loop o stream events₀ text₀ work₀ t₀ events text work t = Turning (settingsFrom o) stream events₀ text₀ work₀ t₀ events text work t
@@ -20,8 +20,8 @@ loop-holds c = turning-start (settingsFrom (c .before .before .before .before .a
 step-requires : tie.Need-step-requires Inv-loop μ-loop
 step-requires c κs = let l = c .before .before .before .before .before in step-asks (l .loop .inv) (c .before .before .before .if1 .taken) (l .before .before .before .before .before .pre)
 
-refusal-requires : tie.Need-refusal-requires Inv-loop μ-loop
-refusal-requires c κs = omega (arith, c .before .before .before .before .before .before .before .before .before .before .before .before .if1 .taken)
+refused-requires : tie.Need-refused-requires Inv-loop μ-loop
+refused-requires c κs = omega (arith, c .before .before .before .before .before .before .before .before .before .before .before .before .if1 .taken)
 
 same-length : tie.Need-same-length Inv-loop μ-loop
 same-length c = let l = c .before .before .before .before .before .before .before .before .before .before .before .before .before .before .before in c .before .before .before .before .before .before .before .before .events .given ∙ same-events (l .loop .inv) (l .before .before .before .before .before .pre .cells)
@@ -34,7 +34,7 @@ same-length-3 c = c .before .before .before .before .work .given ∙ c .before .
 
 returns : tie.Need-returns Inv-loop μ-loop
 returns c = let s = c .before .before .before .before .before .before .before .before .before in
-    refused-event (s .before .before .before .before .before .before .loop .inv) (s .before .before .before .before .if1 .taken) (s .step .ensures) (c .before .if2 .taken) (c .refusal .ensures)
+    refused-event (s .before .before .before .before .before .before .loop .inv) (s .before .before .before .before .if1 .taken) (s .step .ensures) (c .before .if2 .taken) (c .refused .ensures)
 
 is-padding-requires : tie.Need-is-padding-requires Inv-loop μ-loop
 is-padding-requires c κs = let s = c .before .before .before .before .before .before .before .before .before .before .before in
@@ -66,9 +66,9 @@ returns-2 c = let s = c .before .before .before .before .before .before .before 
     run-ended (event-read (s .before .before .before .before .before .before .loop .inv) (s .before .before .before .before .if1 .taken) (s .step .ensures) (c .before .before .before .before .before .before .before .if2 .left)) (c .before .before .before .before .if3 .taken)
     (c .before .before .before .is-padding .ensures) (c .before .before .if4 .taken)
 
-refusal-requires-2 : tie.Need-refusal-requires-2 Inv-loop μ-loop
+refused-requires-2 : tie.Need-refused-requires-2 Inv-loop μ-loop
 unfolding maxEvents
-refusal-requires-2 c κs = let s = c .before .before .before .before .before .before .before .before .before .before .before .before .before in
+refused-requires-2 c κs = let s = c .before .before .before .before .before .before .before .before .before .before .before .before .before in
     omega (arith, event-read (s .before .before .before .before .before .before .loop .inv) (s .before .before .before .before .if1 .taken) (s .step .ensures) (c .before .before .before .before .before .if2 .left) .few)
 
 same-length-7 : tie.Need-same-length-7 Inv-loop μ-loop
@@ -84,7 +84,7 @@ same-length-9 c = let s = c .before .before .before .before .before .before .bef
 returns-3 : tie.Need-returns-3 Inv-loop μ-loop
 returns-3 c = let s = c .before .before .before .before .before .before .before .before .before .before .before .before .before .before in
     run-tail (event-read (s .before .before .before .before .before .before .loop .inv) (s .before .before .before .before .if1 .taken) (s .step .ensures) (c .before .before .before .before .before .before .if2 .left)) (c .before .before .before .if3 .taken)
-    (c .before .before .is-padding .ensures) (c .before .if4 .left) (c .refusal2 .ensures)
+    (c .before .before .is-padding .ensures) (c .before .if4 .left) (c .refused2 .ensures)
 
 loop-less : tie.Need-loop-less Inv-loop μ-loop
 loop-less c = let s = c .before .before .before .before .before .before .before .before .before .before .before in omega (arith, s .before .before .before .before .if1 .taken, s .step .ensures .outcome .is (c .before .before .before .if2 .left) .count)
@@ -93,9 +93,9 @@ loop-again : tie.Need-loop-again Inv-loop μ-loop
 loop-again c = let s = c .before .before .before .before .before .before .before .before .before .before .before in
     event-more (event-read (s .before .before .before .before .before .before .loop .inv) (s .before .before .before .before .if1 .taken) (s .step .ensures) (c .before .before .before .if2 .left)) (c .if3 .left)
 
-refusal-requires-3 : tie.Need-refusal-requires-3 Inv-loop μ-loop
+refused-requires-3 : tie.Need-refused-requires-3 Inv-loop μ-loop
 unfolding maxEvents
-refusal-requires-3 c κs = omega (arith, c .before .before .loop .inv .few)
+refused-requires-3 c κs = omega (arith, c .before .before .loop .inv .few)
 
 same-length-10 : tie.Need-same-length-10 Inv-loop μ-loop
 same-length-10 c = let l = c .before .before .before in same-events (l .loop .inv) (l .before .before .before .before .before .pre .cells)
@@ -107,7 +107,7 @@ same-length-12 : tie.Need-same-length-12 Inv-loop μ-loop
 same-length-12 c = c .before .before .before .loop .inv .sameWork
 
 returns-4 : tie.Need-returns-4 Inv-loop μ-loop
-returns-4 c = too-many (c .before .before .before .loop .inv) (c .before .if1 .left) (c .refusal3 .ensures)
+returns-4 c = too-many (c .before .before .before .loop .inv) (c .before .if1 .left) (c .refused3 .ensures)
 
 pub read-events-spec : {M : Type 1} → statement M
 read-events-spec =
@@ -117,7 +117,7 @@ read-events-spec =
     μ-loop
     loop-holds
     step-requires
-    refusal-requires
+    refused-requires
     same-length
     same-length-2
     same-length-3
@@ -129,14 +129,14 @@ read-events-spec =
     same-length-5
     same-length-6
     returns-2
-    refusal-requires-2
+    refused-requires-2
     same-length-7
     same-length-8
     same-length-9
     returns-3
     loop-less
     loop-again
-    refusal-requires-3
+    refused-requires-3
     same-length-10
     same-length-11
     same-length-12

@@ -1,0 +1,4 @@
+pub mod Cells
+pub mod Events
+pub mod Padding
+pub mod Reply

@@ -1,0 +1,21 @@
+-- What reading the header asks and leaves.
+use Prim.Native.Nat.{ℕ, _≤_}
+use mathlib.Core.List.{List, [], _∷_}
+use lib.ListN.{length}
+use Rattle.format.specs.Sizes.{maxStream}
+use Rattle.format.specs.Reader.{readHeader}
+use Rattle.outcome.specs.Outcome.{Outcome}
+use Rattle.read_header.specs.declared.Passed.{Passed}
+
+-- The octets with the cookie, which is the first four.
+abbrev pub headerOctets : List ℕ
+headerOctets = 36 ∷ 69 ∷ 88 ∷ 73 ∷ 128 ∷ []
+
+-- A stream that is not too long, and one of the octets or their end.
+pub record OctetsReady (stream : List ℕ) (first : ℕ) : Type 0 where
+  pub size : length stream ≤ maxStream
+  pub few : first ≤ 5
+
+-- By the definitions' header parser: the refusal's number, or the position behind the header.
+abbrev pub Passes : List ℕ → List ℕ → Passed → Type 0
+Passes octets stream r = Outcome (readHeader octets) stream 0 (r .number) (r .at) (λ _. Unit {0})
