@@ -26,8 +26,11 @@ use Rattle.standing.specs.Standing.{Kept}
 use Rattle.outcome.specs.Memory.{readerMemory, ZeroFrom, ZeroRows, Clear, OneRow}
 use Rattle.outcome.proofs.Outcome.{refused-outcome}
 use Rattle.outcome.proofs.Memory.{longer-refl, longer-then, cleared-back, Grown, Inside, clear-row, clear-same}
-use Rattle.read_content.specs.declared.Got.{Got}
-use Rattle.read_content.specs.Content.{rowsOf, Counted, UriRow, NameRow, ValueRow, PartRead}
+use Rattle.read_form.specs.declared.Got.{Got}
+use Rattle.read_form.specs.Content.{rowsOf, Counted, PartRead}
+use Rattle.read_uri.specs.Uri.{UriRow}
+use Rattle.read_local.specs.Local.{NameRow}
+use Rattle.read_value.specs.Value.{ValueRow}
 use Rattle.read_items.specs.declared.Content.{Content}
 use Rattle.read_items.specs.Content.{Beside, Off, Left, zeroRow, undoneWork, undoneText, ContentRead, refusedContent, ItemsRead}
 

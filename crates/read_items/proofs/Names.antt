@@ -39,8 +39,10 @@ use Rattle.outcome.specs.Outcome.{Gotten, Outcome}
 use Rattle.outcome.specs.Memory.{readerMemory, tablesOf}
 use Rattle.outcome.proofs.Outcome.{declined-outcome, outcome-as, outcome-then, outcome-map, return-outcome}
 use Rattle.read_code.specs.declared.Decoded.{Decoded}
-use Rattle.read_content.specs.declared.Got.{Got}
-use Rattle.read_content.specs.Content.{ReadyLocal, StringRead, UriRow, NameRow}
+use Rattle.read_form.specs.declared.Got.{Got}
+use Rattle.read_form.specs.Content.{StringRead}
+use Rattle.read_uri.specs.Uri.{UriRow}
+use Rattle.read_local.specs.Local.{ReadyLocal, NameRow}
 use Rattle.read_items.specs.Content.{Left, CarriedFits, partOf, carriedAt, nameIn, NameFits, NameHeld, NameRead}
 use Rattle.read_items.specs.declared.Named.{Named}
 use Rattle.read_items.proofs.Memory.{left-none, uri-left, local-left}

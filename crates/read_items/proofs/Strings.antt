@@ -33,8 +33,9 @@ use Rattle.outcome.specs.Memory.{readerMemory, tablesOf, ReadReady}
 use Rattle.outcome.proofs.Outcome.{declined-outcome, outcome-as, outcome-then, outcome-map, return-outcome}
 use Rattle.read_code.specs.declared.Decoded.{Decoded}
 use Rattle.read_code.specs.Decoding.{productionIn}
-use Rattle.read_content.specs.declared.Got.{Got}
-use Rattle.read_content.specs.Content.{ReadyValue, Read, StringRead, ValueRow}
+use Rattle.read_form.specs.declared.Got.{Got}
+use Rattle.read_form.specs.Content.{Read, StringRead}
+use Rattle.read_value.specs.Value.{ReadyValue, ValueRow}
 use Rattle.read_items.specs.Content.{Left, nameIn, NameFits, NameRead, ContentFits, Held, ContentRead}
 use Rattle.read_items.specs.declared.Named.{Named}
 use Rattle.read_items.specs.declared.Content.{Content}

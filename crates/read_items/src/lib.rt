@@ -15,7 +15,7 @@ use layout::NAMES;
 use layout::URIS;
 use layout::VALUES;
 use read_code::Decoded;
-use read_content::Got;
+use read_form::Got;
 use state::State;
 
 // The number of a name's refusal or 0, its row, where its two strings lie, and the state behind them; after a refusal, before the one that was refused.
@@ -111,7 +111,7 @@ fn read_name(
     if code.learned {
         return carried(st, code.row, work);
     }
-    let uri = read_content::read_uri(aligned, stream, st, text, work);
+    let uri = read_uri::read_uri(aligned, stream, st, text, work);
     let u = part_of(uri);
     let between = uri.state;
     if uri.number != 0 {
@@ -123,7 +123,7 @@ fn read_name(
             state: between,
         };
     }
-    let local = read_content::read_local(aligned, stream, between, attr, uri.row, text, work);
+    let local = read_local::read_local(aligned, stream, between, attr, uri.row, text, work);
     let l = part_of(local);
     let state = local.state;
     Named {
@@ -159,7 +159,7 @@ fn read_attribute(
             state: between,
         };
     }
-    let value = read_content::read_value(aligned, stream, between, name.row, text, work);
+    let value = read_value::read_value(aligned, stream, between, name.row, text, work);
     let v = part_of(value);
     let state = value.state;
     Content {
@@ -181,13 +181,13 @@ fn read_instruction(
     requires { ⌜ code .kind ≡ 7 ⌝ }
     ensures { λ r. ⌜ ((a : Alignment) → ContentRead a (productionIn (readerMemory (now (work .entry)) (now (text .entry))) code) (now (stream .entry)) (now (work .entry)) (now (text .entry)) st (now (work .entry)) (now (text .exit)) r) ⌝ }
 {
-    let target = read_content::read_text(stream, st, true, text, work);
+    let target = read_value::read_text(stream, st, true, text, work);
     let x = part_of(target);
     if target.number != 0 {
         return nameless(Event::Instruction(x, x), target);
     }
     let between = target.state;
-    let last = read_content::read_text(stream, between, false, text, work);
+    let last = read_value::read_text(stream, between, false, text, work);
     let y = part_of(last);
     nameless(Event::Instruction(x, y), last)
 }
@@ -224,12 +224,12 @@ fn read_strings(
         4 => bare(Event::EndElement, st),
         5 => {
             let row = state::top(st.stack) as u32;
-            let value = read_content::read_value(aligned, stream, st, row, text, work);
+            let value = read_value::read_value(aligned, stream, st, row, text, work);
             let v = part_of(value);
             nameless(Event::Characters(v), value)
         }
         6 => {
-            let comment = read_content::read_text(stream, st, false, text, work);
+            let comment = read_value::read_text(stream, st, false, text, work);
             let x = part_of(comment);
             nameless(Event::Comment(x), comment)
         }

@@ -1,0 +1,5 @@
+pub mod Steps
+pub mod Hits
+pub mod News
+pub mod Fresh
+pub mod Joins
