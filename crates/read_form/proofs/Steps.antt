@@ -26,16 +26,6 @@ use Rattle.read_form.specs.declared.Got.{Got}
 use Rattle.read_form.specs.Content.{refusedGot, PartRead, StringRead}
 use Rattle.read_form.specs.Parts.{admit, judge, readAsNew, readAsHit}
 
--- ---- a test, negated
-
-pub test-failed : (b : Bool) → not b ≡ true → b ≡ false
-test-failed true e = sym e
-test-failed false e = refl
-
-pub test-passed : (b : Bool) → not b ≡ false → b ≡ true
-test-passed true e = refl
-test-passed false e = sym e
-
 abbrev pub rowless : Got → Got
 rowless g = record { number = g .number; row = 0; place = g .place; size = g .size; state = g .state }
 

@@ -18,7 +18,7 @@ mod print;
 
 use parse::Laid;
 use parse::Numeral;
-use reader::ReadReply;
+use read_body::ReadReply;
 use settings::SettingNumbers;
 use writer::WriteReply;
 

@@ -4,7 +4,7 @@ use Rattle.format.specs.Sizes.{maxUris}
 use Rattle.layout.proofs.Sizes.{room-uris}
 use Rattle.layout.specs.Layout.{urisAt, namesAt}
 use Rattle.read_form.proofs.Hits.{row-room}
-use Rattle.read_form.proofs.Steps.{test-failed, test-passed}
+use borrow.Author.Tests.{not-true, not-false}
 use Rattle.read_local.proofs.Locals.{local-hit-asks, local-missed, local-named, local-passed}
 use Rattle.read_local.proofs.read_local_hit.Statement.{statement}
 use Rattle.read_local.proofs.read_local_hit.Tie as tie
@@ -25,11 +25,11 @@ refused-requires c κs = search needs
 
 returns-2 : tie.Need-returns-2
 unfolding maxUris urisAt namesAt
-returns-2 c = rw (c .refused .ensures) (local-named (c .before .before .before .before .before .before .before .before .before .pre) (c .before .before .before .before .before .before .before .before .before .args .attr) (c .before .before .before .before .before .read-hit .ensures) (c .before .before .before .if1 .left) (c .before .before .is-allowed .ensures) (test-failed _ (c .before .if2 .taken)))
+returns-2 c = rw (c .refused .ensures) (local-named (c .before .before .before .before .before .before .before .before .before .pre) (c .before .before .before .before .before .before .before .before .before .args .attr) (c .before .before .before .before .before .read-hit .ensures) (c .before .before .before .if1 .left) (c .before .before .is-allowed .ensures) (not-true _ (c .before .if2 .taken)))
 
 returns-3 : tie.Need-returns-3
 unfolding maxUris urisAt namesAt
-returns-3 c = local-passed (c .before .before .before .before .before .before .before .before .pre) (c .before .before .before .before .before .before .before .before .args .attr) (c .before .before .before .before .read-hit .ensures) (c .before .before .if1 .left) (c .before .is-allowed .ensures) (test-passed _ (c .if2 .left))
+returns-3 c = local-passed (c .before .before .before .before .before .before .before .before .pre) (c .before .before .before .before .before .before .before .before .args .attr) (c .before .before .before .before .read-hit .ensures) (c .before .before .if1 .left) (c .before .is-allowed .ensures) (not-false _ (c .if2 .left))
 
 pub read-local-hit-spec : {M : Type 1} → statement M
 read-local-hit-spec =

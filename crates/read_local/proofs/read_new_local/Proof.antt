@@ -6,7 +6,7 @@ use Rattle.layout.proofs.Sizes.{room-uris, room-names}
 use Rattle.layout.specs.Layout.{urisAt, namesAt}
 use Rattle.read_form.proofs.Fresh.{name-asks}
 use Rattle.read_form.proofs.Hits.{row-room}
-use Rattle.read_form.proofs.Steps.{test-failed, test-passed}
+use borrow.Author.Tests.{not-true, not-false}
 use Rattle.read_local.proofs.Locals.{local-fresh, local-declined, local-unnamed, local-full, local-joins}
 use Rattle.read_local.proofs.read_new_local.Statement.{statement}
 use Rattle.read_local.proofs.read_new_local.Tie as tie
@@ -46,7 +46,7 @@ same-length-4 c = search needs
 
 returns-2 : tie.Need-returns-2
 unfolding maxUris urisAt namesAt
-returns-2 c = rw (c .before .before .undone .ensures .0) (local-unnamed (c .before .before .before .before .before .before .before .before .before .before .before .before .before .before .before .before .before .before .before .pre) (c .before .before .before .before .before .before .before .before .before .before .before .before .before .before .before .before .before .before .before .args .attr) (local-fresh (c .before .before .before .before .before .before .before .before .before .before .before .before .before .before .before .before .before .before .before .pre) (c .before .before .before .before .before .before .before .before .before .before .before .before .before .before .before .before .before .before .before .args .attr) (c .before .before .before .before .before .before .before .before .before .before .before .before .before .read-new .ensures) (c .before .before .before .before .before .before .before .before .before .if1 .left)) (c .before .before .before .before .before .is-allowed .ensures) (test-failed _ (c .before .before .before .before .if2 .taken)) (c .before .before .undone .ensures .1))
+returns-2 c = rw (c .before .before .undone .ensures .0) (local-unnamed (c .before .before .before .before .before .before .before .before .before .before .before .before .before .before .before .before .before .before .before .pre) (c .before .before .before .before .before .before .before .before .before .before .before .before .before .before .before .before .before .before .before .args .attr) (local-fresh (c .before .before .before .before .before .before .before .before .before .before .before .before .before .before .before .before .before .before .before .pre) (c .before .before .before .before .before .before .before .before .before .before .before .before .before .before .before .before .before .before .before .args .attr) (c .before .before .before .before .before .before .before .before .before .before .before .before .before .read-new .ensures) (c .before .before .before .before .before .before .before .before .before .if1 .left)) (c .before .before .before .before .before .is-allowed .ensures) (not-true _ (c .before .before .before .before .if2 .taken)) (c .before .before .undone .ensures .1))
 
 add-within-requires : tie.Need-add-within-requires
 unfolding maxUris urisAt namesAt maxNames
@@ -63,7 +63,7 @@ same-length-6 c = search needs
 
 returns-3 : tie.Need-returns-3
 unfolding maxUris urisAt namesAt maxNames
-returns-3 c = rw (c .before .before .undone2 .ensures .0) (local-full (c .before .before .before .before .before .before .before .before .before .before .before .before .before .before .before .before .before .before .before .before .before .before .before .before .pre) (c .before .before .before .before .before .before .before .before .before .before .before .before .before .before .before .before .before .before .before .before .before .before .before .before .args .attr) (local-fresh (c .before .before .before .before .before .before .before .before .before .before .before .before .before .before .before .before .before .before .before .before .before .before .before .before .pre) (c .before .before .before .before .before .before .before .before .before .before .before .before .before .before .before .before .before .before .before .before .before .before .before .before .args .attr) (c .before .before .before .before .before .before .before .before .before .before .before .before .before .before .before .before .before .before .read-new .ensures) (c .before .before .before .before .before .before .before .before .before .before .before .before .before .before .if1 .left)) (c .before .before .before .before .before .before .before .before .before .before .is-allowed .ensures) (test-passed _ (c .before .before .before .before .before .before .before .before .before .if2 .left)) ((c .before .before .before .before .before .before .before .add-within .ensures) .0) ((c .before .before .before .before .before .before .before .add-within .ensures) .1) (test-failed _ (c .before .before .before .before .if3 .taken)) (c .before .before .undone2 .ensures .1))
+returns-3 c = rw (c .before .before .undone2 .ensures .0) (local-full (c .before .before .before .before .before .before .before .before .before .before .before .before .before .before .before .before .before .before .before .before .before .before .before .before .pre) (c .before .before .before .before .before .before .before .before .before .before .before .before .before .before .before .before .before .before .before .before .before .before .before .before .args .attr) (local-fresh (c .before .before .before .before .before .before .before .before .before .before .before .before .before .before .before .before .before .before .before .before .before .before .before .before .pre) (c .before .before .before .before .before .before .before .before .before .before .before .before .before .before .before .before .before .before .before .before .before .before .before .before .args .attr) (c .before .before .before .before .before .before .before .before .before .before .before .before .before .before .before .before .before .before .read-new .ensures) (c .before .before .before .before .before .before .before .before .before .before .before .before .before .before .if1 .left)) (c .before .before .before .before .before .before .before .before .before .before .is-allowed .ensures) (not-false _ (c .before .before .before .before .before .before .before .before .before .if2 .left)) ((c .before .before .before .before .before .before .before .add-within .ensures) .0) ((c .before .before .before .before .before .before .before .add-within .ensures) .1) (not-true _ (c .before .before .before .before .if3 .taken)) (c .before .before .undone2 .ensures .1))
 
 laid-requires : tie.Need-laid-requires
 unfolding maxUris urisAt namesAt
@@ -88,7 +88,7 @@ same-length-8 c = search needs
 
 returns-4 : tie.Need-returns-4
 unfolding maxUris urisAt namesAt maxNames
-returns-4 c = rw (c .read-as .ensures, c .before .before .before .laid .ensures) (local-joins (c .before .before .before .before .before .before .before .before .before .before .before .before .before .before .before .before .before .before .before .before .before .before .before .before .pre) (c .before .before .before .before .before .before .before .before .before .before .before .before .before .before .before .before .before .before .before .before .before .before .before .before .args .attr) (local-fresh (c .before .before .before .before .before .before .before .before .before .before .before .before .before .before .before .before .before .before .before .before .before .before .before .before .pre) (c .before .before .before .before .before .before .before .before .before .before .before .before .before .before .before .before .before .before .before .before .before .before .before .before .args .attr) (c .before .before .before .before .before .before .before .before .before .before .before .before .before .before .before .before .before .before .read-new .ensures) (c .before .before .before .before .before .before .before .before .before .before .before .before .before .before .if1 .left)) (c .before .before .before .before .before .before .before .before .before .before .is-allowed .ensures) (test-passed _ (c .before .before .before .before .before .before .before .before .before .if2 .left)) ((c .before .before .before .before .before .before .before .add-within .ensures) .0) ((c .before .before .before .before .before .before .before .add-within .ensures) .1) (test-passed _ (c .before .before .before .before .if3 .left)))
+returns-4 c = rw (c .read-as .ensures, c .before .before .before .laid .ensures) (local-joins (c .before .before .before .before .before .before .before .before .before .before .before .before .before .before .before .before .before .before .before .before .before .before .before .before .pre) (c .before .before .before .before .before .before .before .before .before .before .before .before .before .before .before .before .before .before .before .before .before .before .before .before .args .attr) (local-fresh (c .before .before .before .before .before .before .before .before .before .before .before .before .before .before .before .before .before .before .before .before .before .before .before .before .pre) (c .before .before .before .before .before .before .before .before .before .before .before .before .before .before .before .before .before .before .before .before .before .before .before .before .args .attr) (c .before .before .before .before .before .before .before .before .before .before .before .before .before .before .before .before .before .before .read-new .ensures) (c .before .before .before .before .before .before .before .before .before .before .before .before .before .before .if1 .left)) (c .before .before .before .before .before .before .before .before .before .before .is-allowed .ensures) (not-false _ (c .before .before .before .before .before .before .before .before .before .if2 .left)) ((c .before .before .before .before .before .before .before .add-within .ensures) .0) ((c .before .before .before .before .before .before .before .add-within .ensures) .1) (not-false _ (c .before .before .before .before .if3 .left)))
 
 pub read-new-local-spec : {M : Type 1} → statement M
 read-new-local-spec =

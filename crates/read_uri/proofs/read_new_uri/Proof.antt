@@ -5,7 +5,7 @@ use Rattle.format.specs.Sizes.{maxUris, maxStore}
 use Rattle.layout.proofs.Sizes.{room-uris}
 use Rattle.layout.specs.Layout.{urisAt}
 use Rattle.read_form.proofs.Fresh.{uri-asks}
-use Rattle.read_form.proofs.Steps.{test-failed, test-passed}
+use borrow.Author.Tests.{not-true, not-false}
 use Rattle.read_uri.proofs.Uris.{uri-fresh, uri-declined, uri-full, uri-joins}
 use Rattle.read_uri.proofs.read_new_uri.Statement.{statement}
 use Rattle.read_uri.proofs.read_new_uri.Tie as tie
@@ -46,7 +46,7 @@ same-length-4 c = search needs
 
 returns-2 : tie.Need-returns-2
 unfolding urisAt maxUris
-returns-2 c = rw (c .before .before .undone .ensures .0) (uri-full (c .before .before .before .before .before .before .before .before .before .before .before .before .before .before .before .before .before .before .before .before .pre) (uri-fresh (c .before .before .before .before .before .before .before .before .before .before .before .before .before .before .before .before .before .before .before .before .pre) (c .before .before .before .before .before .before .before .before .before .before .before .before .before .before .read-new .ensures) (c .before .before .before .before .before .before .before .before .before .before .if1 .left)) ((c .before .before .before .before .before .before .before .add-within .ensures) .0) ((c .before .before .before .before .before .before .before .add-within .ensures) .1) (test-failed _ (c .before .before .before .before .if2 .taken)) (c .before .before .undone .ensures .1))
+returns-2 c = rw (c .before .before .undone .ensures .0) (uri-full (c .before .before .before .before .before .before .before .before .before .before .before .before .before .before .before .before .before .before .before .before .pre) (uri-fresh (c .before .before .before .before .before .before .before .before .before .before .before .before .before .before .before .before .before .before .before .before .pre) (c .before .before .before .before .before .before .before .before .before .before .before .before .before .before .read-new .ensures) (c .before .before .before .before .before .before .before .before .before .before .if1 .left)) ((c .before .before .before .before .before .before .before .add-within .ensures) .0) ((c .before .before .before .before .before .before .before .add-within .ensures) .1) (not-true _ (c .before .before .before .before .if2 .taken)) (c .before .before .undone .ensures .1))
 
 laid-requires : tie.Need-laid-requires
 unfolding urisAt
@@ -71,7 +71,7 @@ same-length-6 c = search needs
 
 returns-3 : tie.Need-returns-3
 unfolding urisAt maxUris
-returns-3 c = rw (c .read-as .ensures, c .before .before .before .laid .ensures) (uri-joins (c .before .before .before .before .before .before .before .before .before .before .before .before .before .before .before .before .before .before .before .before .pre) (uri-fresh (c .before .before .before .before .before .before .before .before .before .before .before .before .before .before .before .before .before .before .before .before .pre) (c .before .before .before .before .before .before .before .before .before .before .before .before .before .before .read-new .ensures) (c .before .before .before .before .before .before .before .before .before .before .if1 .left)) ((c .before .before .before .before .before .before .before .add-within .ensures) .0) ((c .before .before .before .before .before .before .before .add-within .ensures) .1) (test-passed _ (c .before .before .before .before .if2 .left)))
+returns-3 c = rw (c .read-as .ensures, c .before .before .before .laid .ensures) (uri-joins (c .before .before .before .before .before .before .before .before .before .before .before .before .before .before .before .before .before .before .before .before .pre) (uri-fresh (c .before .before .before .before .before .before .before .before .before .before .before .before .before .before .before .before .before .before .before .before .pre) (c .before .before .before .before .before .before .before .before .before .before .before .before .before .before .read-new .ensures) (c .before .before .before .before .before .before .before .before .before .before .if1 .left)) ((c .before .before .before .before .before .before .before .add-within .ensures) .0) ((c .before .before .before .before .before .before .before .add-within .ensures) .1) (not-false _ (c .before .before .before .before .if2 .left)))
 
 pub read-new-uri-spec : {M : Type 1} → statement M
 read-new-uri-spec =

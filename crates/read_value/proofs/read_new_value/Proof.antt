@@ -5,7 +5,7 @@ use Rattle.format.specs.Sizes.{maxUris, maxNames, maxValues, maxStore}
 use Rattle.layout.proofs.Sizes.{room-values}
 use Rattle.layout.specs.Layout.{urisAt, namesAt, valuesAt}
 use Rattle.read_form.proofs.Fresh.{value-asks}
-use Rattle.read_form.proofs.Steps.{test-failed, test-passed}
+use borrow.Author.Tests.{not-true, not-false}
 use Rattle.read_value.proofs.Values.{value-fresh, value-declined, value-empty, value-full, value-joins}
 use Rattle.read_value.proofs.read_new_value.Statement.{statement}
 use Rattle.read_value.proofs.read_new_value.Tie as tie
@@ -63,7 +63,7 @@ same-length-6 c = search needs
 
 returns-3 : tie.Need-returns-3
 unfolding maxUris maxNames urisAt namesAt valuesAt maxValues
-returns-3 c = rw (c .before .before .undone .ensures .0) (value-full (c .before .before .before .before .before .before .before .before .before .before .before .before .before .before .before .before .before .before .before .before .before .before .pre) (value-fresh (c .before .before .before .before .before .before .before .before .before .before .before .before .before .before .before .before .before .before .before .before .before .before .pre) (c .before .before .before .before .before .before .before .before .before .before .before .before .before .before .before .before .read-new .ensures) (c .before .before .before .before .before .before .before .before .before .before .before .before .if1 .left)) (c .before .before .before .before .before .before .before .before .before .if2 .left) ((c .before .before .before .before .before .before .before .add-within .ensures) .0) ((c .before .before .before .before .before .before .before .add-within .ensures) .1) (test-failed _ (c .before .before .before .before .if3 .taken)) (c .before .before .undone .ensures .1))
+returns-3 c = rw (c .before .before .undone .ensures .0) (value-full (c .before .before .before .before .before .before .before .before .before .before .before .before .before .before .before .before .before .before .before .before .before .before .pre) (value-fresh (c .before .before .before .before .before .before .before .before .before .before .before .before .before .before .before .before .before .before .before .before .before .before .pre) (c .before .before .before .before .before .before .before .before .before .before .before .before .before .before .before .before .read-new .ensures) (c .before .before .before .before .before .before .before .before .before .before .before .before .if1 .left)) (c .before .before .before .before .before .before .before .before .before .if2 .left) ((c .before .before .before .before .before .before .before .add-within .ensures) .0) ((c .before .before .before .before .before .before .before .add-within .ensures) .1) (not-true _ (c .before .before .before .before .if3 .taken)) (c .before .before .undone .ensures .1))
 
 add-t : tie.Need-add-t
 unfolding maxValues
@@ -80,7 +80,7 @@ same-length-8 c = search needs
 
 returns-4 : tie.Need-returns-4
 unfolding maxUris maxNames urisAt namesAt valuesAt maxValues
-returns-4 c = rw (c .read-as2 .ensures, c .before .before .before .before .before .before .before .before .laid .ensures) (value-joins (c .before .before .before .before .before .before .before .before .before .before .before .before .before .before .before .before .before .before .before .before .pre) (value-fresh (c .before .before .before .before .before .before .before .before .before .before .before .before .before .before .before .before .before .before .before .before .pre) (c .before .before .before .before .before .before .before .before .before .before .before .before .before .before .read-new .ensures) (c .before .before .before .before .before .before .before .before .before .before .if1 .left)) (c .before .before .before .before .before .before .before .if2 .left) ((c .before .before .before .before .before .add-within .ensures) .0) ((c .before .before .before .before .before .add-within .ensures) .1) (test-passed _ (c .before .before .if3 .left)))
+returns-4 c = rw (c .read-as2 .ensures, c .before .before .before .before .before .before .before .before .laid .ensures) (value-joins (c .before .before .before .before .before .before .before .before .before .before .before .before .before .before .before .before .before .before .before .before .pre) (value-fresh (c .before .before .before .before .before .before .before .before .before .before .before .before .before .before .before .before .before .before .before .before .pre) (c .before .before .before .before .before .before .before .before .before .before .before .before .before .before .read-new .ensures) (c .before .before .before .before .before .before .before .before .before .before .if1 .left)) (c .before .before .before .before .before .before .before .if2 .left) ((c .before .before .before .before .before .add-within .ensures) .0) ((c .before .before .before .before .before .add-within .ensures) .1) (not-false _ (c .before .before .if3 .left)))
 
 pub read-new-value-spec : {M : Type 1} → statement M
 read-new-value-spec =

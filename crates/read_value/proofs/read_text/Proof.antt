@@ -3,7 +3,7 @@ use native.Mathlib.Omega.{arith}
 use borrow.Author.Needs.{needs}
 use Rattle.format.specs.Sizes.{maxStore}
 use Rattle.read_form.proofs.Fresh.{ready-from, field-asks, literal-asks, number-from}
-use Rattle.read_form.proofs.Steps.{test-failed, test-passed}
+use borrow.Author.Tests.{not-true, not-false}
 use Rattle.read_value.proofs.Texts.{text-refused, text-declined, text-ends, text-unnamed, text-passed, allowed-target}
 use Rattle.read_value.proofs.read_text.Statement.{statement}
 use Rattle.read_value.proofs.read_text.Tie as tie
@@ -52,7 +52,7 @@ same-length-2 : tie.Need-same-length-2
 same-length-2 c = search needs
 
 returns-2 : tie.Need-returns-2
-returns-2 c = rw (c .before .before .undone .ensures .0) (text-unnamed (c .before .before .before .before .before .before .before .before .before .before .before .before .before .before .before .before .before .before .before .before .before .before .pre) (c .before .before .before .before .before .before .before .before .before .before .before .before .before .before .before .before .before .before .unsigned .ensures) ((c .before .before .before .before .before .before .before .before .before .before .before .before .before .before .before .before .before .before .before .before .before .before .args) .named) (c .before .before .before .before .before .before .before .before .before .before .before .before .before .before .before .before .n .given .1) (c .before .before .before .before .before .before .before .before .before .before .before .before .before .read-literal .ensures) (c .before .before .before .before .before .before .before .before .before .if1 .left) (allowed-target ((c .before .before .before .before .before .before .before .before .before .before .before .before .before .before .before .before .before .before .before .before .before .before .args) .named) (c .before .before .before .before .before .target-allowed .ensures) (c .before .before .before .before .before .before .look-up .ensures .0)) (test-failed _ (c .before .before .before .before .if2 .taken)) (c .before .before .undone .ensures .1))
+returns-2 c = rw (c .before .before .undone .ensures .0) (text-unnamed (c .before .before .before .before .before .before .before .before .before .before .before .before .before .before .before .before .before .before .before .before .before .before .pre) (c .before .before .before .before .before .before .before .before .before .before .before .before .before .before .before .before .before .before .unsigned .ensures) ((c .before .before .before .before .before .before .before .before .before .before .before .before .before .before .before .before .before .before .before .before .before .before .args) .named) (c .before .before .before .before .before .before .before .before .before .before .before .before .before .before .before .before .n .given .1) (c .before .before .before .before .before .before .before .before .before .before .before .before .before .read-literal .ensures) (c .before .before .before .before .before .before .before .before .before .if1 .left) (allowed-target ((c .before .before .before .before .before .before .before .before .before .before .before .before .before .before .before .before .before .before .before .before .before .before .args) .named) (c .before .before .before .before .before .target-allowed .ensures) (c .before .before .before .before .before .before .look-up .ensures .0)) (not-true _ (c .before .before .before .before .if2 .taken)) (c .before .before .undone .ensures .1))
 
 laid-requires : tie.Need-laid-requires
 laid-requires c κs = text-ends (c .before .before .before .before .before .before .before .before .before .before .before .before .before .before .before .before .before .before .pre) (c .before .before .before .before .before .before .before .before .before .before .before .before .before .before .unsigned .ensures) ((c .before .before .before .before .before .before .before .before .before .before .before .before .before .before .before .before .before .before .args) .named) (c .before .before .before .before .before .before .before .before .before .before .before .before .n .given .1) (c .before .before .before .before .before .before .before .before .before .read-literal .ensures) (c .before .before .before .before .before .if1 .left)
@@ -67,7 +67,7 @@ same-length-3 : tie.Need-same-length-3
 same-length-3 c = search needs
 
 returns-4 : tie.Need-returns-4
-returns-4 c = rw (c .read-as .ensures, c .before .laid .ensures) (text-passed (c .before .before .before .before .before .before .before .before .before .before .before .before .before .before .before .before .before .before .before .before .pre) (c .before .before .before .before .before .before .before .before .before .before .before .before .before .before .before .before .unsigned .ensures) ((c .before .before .before .before .before .before .before .before .before .before .before .before .before .before .before .before .before .before .before .before .args) .named) (c .before .before .before .before .before .before .before .before .before .before .before .before .before .before .n .given .1) (c .before .before .before .before .before .before .before .before .before .before .before .read-literal .ensures) (c .before .before .before .before .before .before .before .if1 .left) (allowed-target ((c .before .before .before .before .before .before .before .before .before .before .before .before .before .before .before .before .before .before .before .before .args) .named) (c .before .before .before .target-allowed .ensures) (c .before .before .before .before .look-up .ensures .0)) (test-passed _ (c .before .before .if2 .left)))
+returns-4 c = rw (c .read-as .ensures, c .before .laid .ensures) (text-passed (c .before .before .before .before .before .before .before .before .before .before .before .before .before .before .before .before .before .before .before .before .pre) (c .before .before .before .before .before .before .before .before .before .before .before .before .before .before .before .before .unsigned .ensures) ((c .before .before .before .before .before .before .before .before .before .before .before .before .before .before .before .before .before .before .before .before .args) .named) (c .before .before .before .before .before .before .before .before .before .before .before .before .before .before .n .given .1) (c .before .before .before .before .before .before .before .before .before .before .before .read-literal .ensures) (c .before .before .before .before .before .before .before .if1 .left) (allowed-target ((c .before .before .before .before .before .before .before .before .before .before .before .before .before .before .before .before .before .before .before .before .args) .named) (c .before .before .before .target-allowed .ensures) (c .before .before .before .before .look-up .ensures .0)) (not-false _ (c .before .before .if2 .left)))
 
 pub read-text-spec : {M : Type 1} → statement M
 read-text-spec =
