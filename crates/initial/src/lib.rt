@@ -47,7 +47,7 @@ fn lay_table(work: &mut [u32], base: usize, first: usize, n: usize, origin: u32)
     let mut i: usize = 0;
     while i < n {
         let r = first + i;
-        rows::add(work, base, i, KEYS[r], origin + PLACES[r], SIZES[r]);
+        add_row::add(work, base, i, KEYS[r], origin + PLACES[r], SIZES[r]);
         i += 1;
     }
 }

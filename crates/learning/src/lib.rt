@@ -75,7 +75,7 @@ fn enter(st: State, name: u32, work: &mut [u32]) -> Grown
             state: restacked(st, st.grammars, 4, pushed.stack),
         };
     }
-    if !rows::add_within(work, GRAMMARS, st.grammars, 64, name, 0, 0) {
+    if !add_row::add_within(work, GRAMMARS, st.grammars, 64, name, 0, 0) {
         return Grown {
             ok: false,
             state: st,
@@ -162,7 +162,7 @@ pub fn grow(st: State, kind: u32, teaches: bool, name: u32, work: &mut [u32]) ->
         return t;
     }
     let key = key_of(st);
-    rows::add(work, LEARNED, st.learned, key, kind, name);
+    add_row::add(work, LEARNED, st.learned, key, kind, name);
     let mut after = t.state;
     after.learned = st.learned + 1;
     Grown {

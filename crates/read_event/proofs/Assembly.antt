@@ -49,7 +49,8 @@ use Rattle.outcome.proofs.Outcome.{refused-outcome, outcome-as, declined-as, de
 use Rattle.read_code.specs.declared.Decoded.{Decoded}
 use Rattle.read_code.specs.Decoding.{CodeReady, productionIn, Strict, CodeRead}
 use Rattle.read_items.specs.declared.Content.{Content}
-use Rattle.read_items.specs.Content.{Off, undoneWork, undoneText, ContentFits, Held, ItemsRead}
+use Rattle.read_items.specs.Content.{Off, ContentFits, Held, ItemsRead}
+use Rattle.undo.specs.Undone.{undoneWork, undoneText}
 use Rattle.read_items.proofs.Memory.{text-back, work-back}
 use Rattle.read_event.specs.Step.{looseIn, teachesHere, grownBy, settled, withSettled, SettleFits, StepReady, withEvent, Done, Step}
 use Rattle.read_event.proofs.Growth.{Cells, growth-cells}

@@ -87,7 +87,7 @@ pub fn step(
     }
     let settled = settle(got.state, code, got.row, work);
     if settled.number != 0 {
-        read_items::undo(behind, text, work);
+        undo::strings(behind, text, work);
         return Stepped {
             number: settled.number,
             state: st,

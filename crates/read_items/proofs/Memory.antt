@@ -32,7 +32,8 @@ use Rattle.read_uri.specs.Uri.{UriRow}
 use Rattle.read_local.specs.Local.{NameRow}
 use Rattle.read_value.specs.Value.{ValueRow}
 use Rattle.read_items.specs.declared.Content.{Content}
-use Rattle.read_items.specs.Content.{Beside, Off, Left, zeroRow, undoneWork, undoneText, ContentRead, refusedContent, ItemsRead}
+use Rattle.read_items.specs.Content.{Beside, Off, Left, ContentRead, refusedContent, ItemsRead}
+use Rattle.undo.specs.Undone.{zeroRow, undoneWork, undoneText}
 
 -- ---- one string
 

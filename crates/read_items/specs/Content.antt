@@ -1,11 +1,11 @@
 -- What reading the strings of an event asks and leaves, in the definitions' terms.
-use Prim.Native.Nat.{ℕ, _+_, _*_, _-_, _≤_, _<_}
+use Prim.Native.Nat.{ℕ, _+_, _*_, _≤_, _<_}
 use mathlib.Core.Path.{_≡_}
 use mathlib.Core.Logic.{_⊎_}
 use mathlib.Core.Bool.{Bool, true, false, cond}
-use mathlib.Core.List.{List, _++_}
+use mathlib.Core.List.{List}
 use mathlib.Core.Option.{Option, none, some}
-use lib.ListN.{length, getD, take, replicate}
+use lib.ListN.{length, getD}
 use Rattle.fields.specs.Field.{Alignment}
 use Rattle.text.specs.Text.{Text}
 use Rattle.format.specs.Event.{QName, Event, Kind, kindOf, mapName, mapEvent}
@@ -15,7 +15,7 @@ use Rattle.format.specs.Grammar.{Production, kindNumber, fitsName, fits}
 use Rattle.format.specs.Context.{nameItems, items, afterItems}
 use Rattle.format.specs.Reader.{nameText, eventText, readName, readContent}
 use Rattle.rows.specs.declared.Row.{Row}
-use Rattle.rows.specs.Rows.{Room, rowAt, withRowBelow}
+use Rattle.rows.specs.Rows.{Room, rowAt}
 use Rattle.layout.specs.Layout.{urisAt, namesAt, valuesAt}
 use Rattle.layout.specs.Meaning.{Memory, nameAt, carries}
 use Rattle.productions.specs.Numbered.{Numbered}
@@ -49,20 +49,6 @@ pub record Left (work text : List ℕ) (st : State) (work′ text′ : List ℕ)
   pub clear : Clear work′ text′ st′
   pub size : length work′ ≡ length work
   pub cells : (k : ℕ) → Off st k → getD work′ k 0 ≡ getD work k 0
-
-abbrev pub zeroRow : Row
-zeroRow = record { key = 0; place = 0; size = 0 }
-
--- Zeros in the row behind each string table's rows.
-unfoldable pub undoneWork : List ℕ → State → List ℕ
-undoneWork work st =
-    withRowBelow maxValues
-    (withRowBelow maxNames (withRowBelow maxUris work urisAt (st .uris) zeroRow) namesAt (st .names) zeroRow)
-    valuesAt (st .values) zeroRow
-
--- Zeros behind the store.
-unfoldable pub undoneText : List ℕ → State → List ℕ
-undoneText text st = take (st .stored) text ++ replicate (length text - st .stored) 0
 
 pub record Ready (stream work text : List ℕ) (st : State) : Type 0 where
   pub read : ReadReady stream work text st

@@ -8,7 +8,7 @@ ghost use Rattle.layout.specs.Layout.{tableCells};
 ghost use Rattle.read_field.specs.View.{alignmentOf};
 ghost use Rattle.outcome.specs.Memory.{readerMemory};
 ghost use Rattle.read_code.specs.Decoding.{productionIn};
-ghost use Rattle.read_items.specs.Content.{CarriedFits, carriedAt, nameIn, NameFits, NameRead, ContentFits, ContentRead, ItemsRead, undoneWork, undoneText};
+ghost use Rattle.read_items.specs.Content.{CarriedFits, carriedAt, nameIn, NameFits, NameRead, ContentFits, ContentRead, ItemsRead};
 use event::Event;
 use event::Part;
 use layout::NAMES;
@@ -237,18 +237,6 @@ fn read_strings(
     }
 }
 
-// Takes back what the strings of an event added behind the state's counts.
-pub fn undo(st: State, text: &mut [u32], work: &mut [u32])
-    requires { ⌜ tableCells ≤ length (now work) ⌝ }
-    ensures { λ _. ⌜ now (work .exit) ≡ undoneWork (now (work .entry)) st ⌝ }
-    ensures { λ _. ⌜ now (text .exit) ≡ undoneText (now (text .entry)) st ⌝ }
-{
-    clear::cells_from(text, st.stored);
-    rows::add_within(work, URIS, st.uris, 16, 0, 0, 0);
-    rows::add_within(work, NAMES, st.names, 128, 0, 0, 0);
-    rows::add_within(work, VALUES, st.values, 512, 0, 0, 0);
-}
-
 // The strings of an event of the code's production, or a refusal that leaves everything as it was.
 pub fn read_items(
     aligned: bool,
@@ -263,7 +251,7 @@ pub fn read_items(
 {
     let got = read_strings(aligned, stream, st, code, text, work);
     if got.number != 0 {
-        undo(st, text, work);
+        undo::strings(st, text, work);
         return Content {
             number: got.number,
             row: 0,

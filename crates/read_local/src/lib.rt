@@ -78,7 +78,7 @@ fn read_new_local(
     if !is_allowed(attr, key, place, n, text, work) {
         return read_form::undone(NAME, st, text);
     }
-    if !rows::add_within(work, NAMES, st.names, 128, key, place, n) {
+    if !add_row::add_within(work, NAMES, st.names, 128, key, place, n) {
         return read_form::undone(LIMIT, st, text);
     }
     let mut t = read_form::laid(st, read.next, n);

@@ -31,7 +31,7 @@ fn read_new_uri(
         return read_form::refused(read.number, st);
     }
     let place = st.stored as u32;
-    if !rows::add_within(work, URIS, st.uris, 16, 0, place, n) {
+    if !add_row::add_within(work, URIS, st.uris, 16, 0, place, n) {
         return read_form::undone(LIMIT, st, text);
     }
     let mut t = read_form::laid(st, read.next, n);

@@ -66,7 +66,7 @@ fn read_new_value(
     if n == 0 {
         return read_form::read_as(0, place, n, t);
     }
-    if !rows::add_within(work, VALUES, st.values, 512, key, place, n) {
+    if !add_row::add_within(work, VALUES, st.values, 512, key, place, n) {
         return read_form::undone(LIMIT, st, text);
     }
     t.values = st.values + 1;

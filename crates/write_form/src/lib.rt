@@ -53,7 +53,7 @@ pub fn put_entry(
 {
     let place = STORE + st.stored;
     let t = put_literal(stream, st, raised, x, work);
-    rows::add(work, base, n, key, place as u32, x.len() as u32);
+    add_row::add(work, base, n, key, place as u32, x.len() as u32);
     t
 }
 

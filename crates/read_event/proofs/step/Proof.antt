@@ -36,9 +36,9 @@ settle-requires : tie.Need-settle-requires
 unfolding settingsFrom
 settle-requires c κs = settle-asks (c .before .before .before .before .before .before .before .before .before .before .before .before .before .before .before .before .before .before .before .pre) (c .before .before .before .before .before .before .before .before .before .before .before .before .read-code .ensures) (c .before .before .before .before .before .before .before .before .before .before .if1 .left) (c .before .before .before .before .before .before .before .read-items .ensures) (c .before .if2 .left)
 
-undo-requires : tie.Need-undo-requires
+strings-requires : tie.Need-strings-requires
 unfolding settingsFrom
-undo-requires c κs = undo-asks (c .before .before .before .before .before .before .before .before .before .before .before .before .before .before .before .before .before .before .before .before .before .before .before .before .before .before .pre) (c .before .before .before .before .before .before .before .before .before .before .before .before .before .before .before .before .before .before .before .read-code .ensures) (c .before .before .before .before .before .before .before .before .before .before .before .before .before .before .before .before .before .if1 .left) (c .before .before .before .before .before .before .before .before .before .before .before .before .before .before .read-items .ensures) (c .before .before .before .before .before .before .before .before .if2 .left) (c .before .before .before .before .before .before .settle .ensures .1)
+strings-requires c κs = undo-asks (c .before .before .before .before .before .before .before .before .before .before .before .before .before .before .before .before .before .before .before .before .before .before .before .before .before .before .pre) (c .before .before .before .before .before .before .before .before .before .before .before .before .before .before .before .before .before .before .before .read-code .ensures) (c .before .before .before .before .before .before .before .before .before .before .before .before .before .before .before .before .before .if1 .left) (c .before .before .before .before .before .before .before .before .before .before .before .before .before .before .read-items .ensures) (c .before .before .before .before .before .before .before .before .if2 .left) (c .before .before .before .before .before .before .settle .ensures .1)
 
 same-length-5 : tie.Need-same-length-5
 same-length-5 c = search needs
@@ -48,7 +48,7 @@ same-length-6 c = search needs
 
 returns-3 : tie.Need-returns-3
 unfolding settingsFrom
-returns-3 c = rw (c .before .before .before .before .before .before .before .before .before .before .before .settle .ensures .0) (settled-refused (c .before .before .before .before .before .before .before .before .before .before .before .before .before .before .before .before .before .before .before .before .before .before .before .before .before .before .before .before .before .before .before .pre) (c .before .before .before .before .before .before .before .before .before .before .before .before .before .before .before .before .before .before .before .before .before .before .before .before .read-code .ensures) (c .before .before .before .before .before .before .before .before .before .before .before .before .before .before .before .before .before .before .before .before .before .before .if1 .left) (c .before .before .before .before .before .before .before .before .before .before .before .before .before .before .before .before .before .before .before .read-items .ensures) (c .before .before .before .before .before .before .before .before .before .before .before .before .before .if2 .left) (rw (c .before .before .before .before .before .before .before .before .before .before .before .settle .ensures .1) at (c .before .before .before .before .undo .ensures .0)) (c .before .before .before .before .undo .ensures .1) (rw (c .before .before .before .before .before .before .before .before .before .before .before .settle .ensures .0) at (c .before .before .before .before .before .before .before .if3 .taken)))
+returns-3 c = rw (c .before .before .before .before .before .before .before .before .before .before .before .settle .ensures .0) (settled-refused (c .before .before .before .before .before .before .before .before .before .before .before .before .before .before .before .before .before .before .before .before .before .before .before .before .before .before .before .before .before .before .before .pre) (c .before .before .before .before .before .before .before .before .before .before .before .before .before .before .before .before .before .before .before .before .before .before .before .before .read-code .ensures) (c .before .before .before .before .before .before .before .before .before .before .before .before .before .before .before .before .before .before .before .before .before .before .if1 .left) (c .before .before .before .before .before .before .before .before .before .before .before .before .before .before .before .before .before .before .before .read-items .ensures) (c .before .before .before .before .before .before .before .before .before .before .before .before .before .if2 .left) (rw (c .before .before .before .before .before .before .before .before .before .before .before .settle .ensures .1) at (c .before .before .before .before .strings .ensures .0)) (c .before .before .before .before .strings .ensures .1) (rw (c .before .before .before .before .before .before .before .before .before .before .before .settle .ensures .0) at (c .before .before .before .before .before .before .before .if3 .taken)))
 
 mul-store : tie.Need-mul-store
 mul-store c = omega (arith, few-events (c .before .before .before .before .before .before .before .before .before .before .before .before .before .before .before .before .before .before .before .before .before .before .before .before .before .before .pre))
@@ -85,7 +85,7 @@ step-spec =
     same-length-4
     returns-2
     settle-requires
-    undo-requires
+    strings-requires
     same-length-5
     same-length-6
     returns-3

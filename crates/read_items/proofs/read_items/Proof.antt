@@ -9,8 +9,8 @@ use Rattle.read_items.proofs.read_items.Tie as tie
 read-strings-requires : tie.Need-read-strings-requires
 read-strings-requires c κs = c .before .before .before .before .before .pre
 
-undo-requires : tie.Need-undo-requires
-undo-requires c κs = omega (arith, c .before .before .before .before .before .before .before .before .before .before .before .before .before .before .pre .standing .tidy .sized .tables, c .before .before .before .before .before .before .before .before .read-strings .ensures .left .size)
+strings-requires : tie.Need-strings-requires
+strings-requires c κs = omega (arith, c .before .before .before .before .before .before .before .before .before .before .before .before .before .before .pre .standing .tidy .sized .tables, c .before .before .before .before .before .before .before .before .read-strings .ensures .left .size)
 
 same-length : tie.Need-same-length
 same-length c = search needs
@@ -21,7 +21,7 @@ same-length-2 c = search needs
 returns : tie.Need-returns
 returns c =
     items-refused (c .before .before .before .before .before .before .before .before .before .before .before .before .before .read-strings .ensures) (c .before .before .before .before .before .before .before .before .before .before .before .before .before .before .before .before .before .before .before .pre .ready .clear) (c .before .before .before .before .before .before .before .before .before .before .before .before .before .before .before .before .before .before .before .pre .standing .tidy .sized .tables)
-    (c .before .before .before .before .before .before .before .if1 .taken) (c .before .before .before .before .undo .ensures .0) (c .before .before .before .before .undo .ensures .1)
+    (c .before .before .before .before .before .before .before .if1 .taken) (c .before .before .before .before .strings .ensures .0) (c .before .before .before .before .strings .ensures .1)
 
 same-length-3 : tie.Need-same-length-3
 same-length-3 c = search needs
@@ -37,7 +37,7 @@ read-items-spec =
     tie.close
     (tie.spec
     read-strings-requires
-    undo-requires
+    strings-requires
     same-length
     same-length-2
     returns

@@ -5,10 +5,10 @@ use mathlib.Core.Path.{_≡_, sym, _∙_}
 use mathlib.Core.List.{List}
 use borrow.Author.Needs.{needs}
 use borrow.Author.Tests.{lt-ltb, le-ltb}
 use Rattle.rows.specs.declared.Row.{Row}
 use Rattle.rows.specs.Rows.{withRow, withRowBelow}
-use Rattle.rows.proofs.add_within.Statement.{statement}
-use Rattle.rows.proofs.add_within.Tie as tie
+use Rattle.add_row.proofs.add_within.Statement.{statement}
+use Rattle.add_row.proofs.add_within.Tie as tie
 
 module _ (most : ℕ) (work : List ℕ) (base n : ℕ) (r : Row) where
   full : most ≤ n → work ≡ withRowBelow most work base n r

@@ -1,12 +1,12 @@
--- `undo` meets its contract.
-use Rattle.read_items.specs.Content.{undoneWork, undoneText}
+-- `strings` meets its contract.
+use Rattle.undo.specs.Undone.{undoneWork, undoneText}
 use Rattle.layout.proofs.Sizes.{tableCells-is}
 use Rattle.layout.specs.Layout.{urisAt, namesAt, valuesAt}
 use Rattle.format.specs.Sizes.{maxUris, maxNames, maxValues}
 use native.Mathlib.Omega.{arith}
 use borrow.Author.Needs.{needs}
-use Rattle.read_items.proofs.undo.Statement.{statement}
-use Rattle.read_items.proofs.undo.Tie as tie
+use Rattle.undo.proofs.strings.Statement.{statement}
+use Rattle.undo.proofs.strings.Tie as tie
 
 cells-from-requires : tie.Need-cells-from-requires
 cells-from-requires c κs = search needs
@@ -30,8 +30,8 @@ returns : tie.Need-returns
 unfolding undoneWork undoneText urisAt namesAt valuesAt maxUris maxNames maxValues
 returns c = (rw (c .before .before .add-within3 .ensures .1, c .before .before .before .before .before .before .add-within2 .ensures .1, c .before .before .before .before .before .before .before .before .before .before .add-within .ensures .1), c .before .before .before .before .before .before .before .before .before .before .before .before .before .before .cells-from .ensures)
 
-pub undo-spec : {M : Type 1} → statement M
-undo-spec =
+pub strings-spec : {M : Type 1} → statement M
+strings-spec =
     tie.close
     (tie.spec
     cells-from-requires

@@ -3,9 +3,9 @@ use native.Mathlib.Omega.{arith}
 use mathlib.Core.Path.{refl}
 use lib.ListN.{length-set}
 use borrow.Author.Needs.{needs}
 use Rattle.rows.specs.Rows.{withRow}
-use Rattle.rows.proofs.add.Statement.{statement}
-use Rattle.rows.proofs.add.Tie as tie
+use Rattle.add_row.proofs.add.Statement.{statement}
+use Rattle.add_row.proofs.add.Tie as tie
 
 mul-at : tie.Need-mul-at
 mul-at c = search needs
