@@ -1,10 +1,12 @@
 -- A string that no table of its own has: the literal, which joins its table, and the memory behind it.
 use Prim.Native.Nat.{ℕ, _+_, _≤_, _<_}
 use native.Mathlib.Omega.{arith}
-use mathlib.Core.Path.{_≡_, refl}
+use mathlib.Core.Path.{_≡_, refl, _∙_}
 use mathlib.Core.Bool.{true}
 use mathlib.Core.List.{List, [], _∷_}
-use lib.ListN.{length}
+use lib.ListN.{length, getD}
+use mir.Syntax.{w8}
+use mir.Val.{Fits}
 use lib.Dec.{ltb}
 use borrow.Author.Tests.{ltb-true}
 use Rattle.fields.specs.Field.{Alignment}
@@ -24,12 +26,14 @@ use Rattle.write_form.specs.Form.{moved, entered, TextSends, EntrySent, TextSen
 use Rattle.write_form.specs.declared.Sent.{Sent}
 use Rattle.write_form.proofs.Laws.{string-length}
 use Rattle.sending.specs.Sending.{tablesOf, Ready, Sending}
+use Rattle.sending.proofs.Items.{wrote-nothing}
 use Rattle.sending.proofs.Memory.{laid-grows}
 use Rattle.sending.proofs.Forms.{recounted, LiteralPut, literal-sending}
 
 -- By partitions that are optimized for literals.
 module _ {a : Alignment} {s w s′ w′ : List ℕ} {st : State} {ess : List (List Placed)} (r : Role) (x : Text) (h : Ready s w st)
-    (literals-of : partitionsOf (tablesOf w st) r ≡ literals ess) (e : formOf (partitionsOf (tablesOf w st) r) x ≡ literal) where
+    (literals-of : partitionsOf (tablesOf w st) r ≡ literals ess) (e : formOf (partitionsOf (tablesOf w st) r) x ≡ literal)
+    (known : (i : ℕ) → Fits w8 (getD s i 0)) where
   literal-put : {st′ : State} {u n v : ℕ} → Put s (st .at) (stringBits (length ess) x) s′ (st′ .at) → length x ≤ maxString
       → st′ ≡ recounted st (st′ .at) (st .stored + length x) u n v
       → After (writerMemory w) (writerMemory w′) (countsOf st) (countsAfter (countsOf st) (length x) u n v) r x → st .uris ≤ u → st .names ≤ n
@@ -55,19 +59,25 @@ module _ {a : Alignment} {s w s′ w′ : List ℕ} {st : State} {ess : List (Li
       let done = f .done z in
       literal-put (done .put) (ok .small) (done .state) (after (ok .store refl) (laid-grows w st x (h .room) (ok .store refl) (done .work) tableCells))
       (omega arith) (omega arith))
+      (λ l. let still = f .refused l in wrote-nothing known h (still .1) (still .2) (still .0))
 
-  -- It joins the table at base as row k, so that the counts are these.
+  -- It joins the table at base as row k, so that the counts are these, or it is refused.
   pub entry-sent : {sent : Sent} {st′ : State} {u n v : ℕ} (base k most key : ℕ)
       → (length (tablesOf w st .store) + length x ≤ maxStore → withinTables (added (tablesOf w st) r x) ≡ ltb k most)
       → (st .stored + length x ≤ maxStore → k < most → w′ ≡ entered w st x base k key
       → After (writerMemory w) (writerMemory w′) (countsOf st) (countsAfter (countsOf st) (length x) u n v) r x)
-      → (sent .state ≡ moved st (sent .state .at) (st .stored + length x) → st′ ≡ recounted st (st′ .at) (st .stored + length x) u n v)
-      → st′ .at ≡ sent .state .at → st .uris ≤ u → st .names ≤ n
+      → (sent .number ≡ 0 → sent .state ≡ moved st (sent .state .at) (st .stored + length x)
+      → st′ ≡ recounted st (sent .state .at) (st .stored + length x) u n v)
+      → (0 < sent .number → st′ ≡ sent .state) → st .uris ≤ u → st .names ≤ n
       → EntrySent (length ess) x (nameAllowed r x) base k most key s w st s′ w′ sent → Sending a (item r x ∷ []) s w st s′ w′ (sent .number) st′
-  entry-sent base k most key within after state at more-uris more-names f =
+  entry-sent {st′} {u} {n} {v} base k most key within after state same more-uris more-names f =
       literal-sending r x h e (f .fault) within (λ z ok.
       let done = f .done z in
-      literal-put (rw at (done .put)) (ok .small) (state (done .state)) (after (ok .store refl) (ltb-true k most (ok .row)) (done .work)) more-uris more-names)
+      let put : LiteralPut a r x u n v s w st s′ w′ st′ =
+      rw (state z (done .state))
+      (literal-put (done .put) (ok .small) refl (after (ok .store refl) (ltb-true k most (ok .row)) (done .work)) more-uris more-names) in
+      put)
+      (λ l. let still = f .refused l in wrote-nothing known h (still .2) (still .3) (same l ∙ still .1))
 
 -- What a literal asks.
 pub text-asks : {s w : List ℕ} {st : State} → Ready s w st → (raised : ℕ) → raised ≤ 2 → TextSends s w st raised

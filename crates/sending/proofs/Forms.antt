@@ -1,18 +1,20 @@
 -- A single string by the form that it takes: a hit leaves the tables as they were, a literal is added to them.
-use Prim.Native.Nat.{ℕ, _+_, _≤_}
+use Prim.Native.Nat.{ℕ, _+_, _≤_, _<_}
 use native.Mathlib.Omega.{arith}
 use mathlib.Core.Path.{_≡_, refl, sym, ap, _∙_}
 use mathlib.Core.Bool.{Bool, true, false}
 use mathlib.Core.List.{List, [], _∷_}
 use lib.ListN.{length, getD, length-append}
 use lib.Dec.{eqb}
+use mir.Syntax.{w8}
+use mir.Val.{Fits}
 use borrow.Author.Tests.{eqb-true, eqb-false}
 use Rattle.fields.proofs.Tests.{split}
 use Rattle.fields.specs.Field.{Alignment, unsignedBits, choiceBits}
 use Rattle.text.specs.Text.{Text}
 use Rattle.format.specs.Sizes.{maxStore}
 use Rattle.format.specs.Tables.{Placed, Tables, Role, literals, partitionsOf, hit, literal, formOf, formBits, added, tablesAfter, nameAllowed}
-use Rattle.format.specs.Context.{Item, item, afterItem}
+use Rattle.format.specs.Context.{item, afterItem}
 use Rattle.format.specs.Strict.{itemBits}
 use Rattle.format.specs.Lists.{withinTables}
 use Rattle.layout.specs.Writer.{writerMemory}
@@ -25,11 +27,11 @@ use Rattle.literal.specs.Fault.{faultNumber, stringFault}
 use Rattle.literal.proofs.Laws.{fault-kept, fault-added, Passed}
 use Rattle.write_field.specs.Written.{Put}
 use Rattle.write_field.proofs.Lengths.{unsigned-length, choice-length}
-use Rattle.write_form.specs.Form.{moved, HitSent, EntrySent, TextSent}
+use Rattle.write_form.specs.Form.{moved, HitSent}
 use Rattle.write_form.specs.declared.Sent.{Sent}
 use Rattle.write_form.proofs.Laws.{sound}
-use Rattle.sending.specs.Sending.{tablesOf, Ready, Wrote, Sending, Unmoved, Rowless}
-use Rattle.sending.proofs.Items.{one-fault, one-bits, one-after}
+use Rattle.sending.specs.Sending.{tablesOf, Ready, Wrote, Sending}
+use Rattle.sending.proofs.Items.{wrote-nothing, one-bits, one-after, one-sending}
 
 -- The state at another position, with other counts.
 abbrev pub recounted : State → (at stored uris names values : ℕ) → State
@@ -46,34 +48,6 @@ recounted st at stored uris names values =
       mode = st .mode;
       stack = st .stack;
     }
-
--- ---- a refusal
-
--- Of a refusal's octets, work memory and state nothing is said.
-pub refused-sending : {a : Alignment} {is : List Item} {s w s′ w′ s″ w″ : List ℕ} {st st′ st″ : State} {n : ℕ} → (n ≡ 0 → ⊥)
-    → Sending a is s w st s′ w′ n st′ → Sending a is s w st s″ w″ n st″
-refused-sending refused f = record { fault = f .fault; wrote = λ z. absurd (refused z) }
-
--- What write_form leaves then.
-module _ {x : Text} {allowed : Bool} {s s′ : List ℕ} {st : State} {sent : Sent} where
-  pub hit-unmoved : {a : Alignment} {j among i row : ℕ} → HitSent a x allowed j among i row s st s′ sent → Unmoved st sent
-  hit-unmoved f = record { row = λ l. f .refused l .0; state = λ l. f .refused l .1 }
-
-  pub hit-rowless : {a : Alignment} {j among i : ℕ} → HitSent a x allowed j among i 0 s st s′ sent → Rowless st sent
-  hit-rowless f =
-      record {
-        row = split (eqb (sent .number) 0)
-            (λ e. f .done (eqb-true (sent .number) 0 e) .row-is)
-            (λ e. let some = eqb-false (sent .number) 0 e in f .refused (omega arith) .0);
-        state = λ l. f .refused l .1;
-      }
-
-  module _ {w w′ : List ℕ} where
-    pub entry-unmoved : {raised base n most key : ℕ} → EntrySent raised x allowed base n most key s w st s′ w′ sent → Unmoved st sent
-    entry-unmoved f = record { row = λ l. f .refused l .0; state = λ l. f .refused l .1 }
-
-    pub text-rowless : {raised : ℕ} → TextSent raised x allowed s w st s′ w′ sent → Rowless st sent
-    text-rowless f = record { row = f .row; state = λ l. f .refused l .0 }
 
 -- ---- a hit
 
@@ -124,26 +98,24 @@ module _ {a : Alignment} {s w s′ : List ℕ} {st st′ : State} {j i : ℕ} (r
       }
 
   pub hit-sending : {n : ℕ} → n ≡ faultNumber (stringFault x false (st .stored) (nameAllowed r x) true)
-      → (n ≡ 0 → HitPut a r x j i s w st s′ st′) → Sending a (item r x ∷ []) s w st s′ w n st′
+      → (n ≡ 0 → HitPut a r x j i s w st s′ st′) → (0 < n → Wrote a [] s w st s′ w st′) → Sending a (item r x ∷ []) s w st s′ w n st′
   unfolding item
-  hit-sending f p =
+  hit-sending f p q =
       let t : Tables = tablesOf w st in
-      record {
-        fault = f ∙ rw (
-          one-fault t (item r x),
-          fault-kept t (item r x) (within-tables (h .tidy .sized)) (hit-after t r x e),
-          length-text (writerMemory w) (countsOf st) (h .tidy .sized),
-        );
-        wrote = λ z. hit-wrote (p z);
-      }
+      one-sending
+      (f ∙ rw (
+        fault-kept t (item r x) (within-tables (h .tidy .sized)) (hit-after t r x e),
+        length-text (writerMemory w) (countsOf st) (h .tidy .sized),
+      ))
+      (λ z. hit-wrote (p z)) q
 
 -- A hit as write_form sends it, in partition j of those that are optimized for literals.
 pub hit-sent : {a : Alignment} {s w s′ : List ℕ} {st : State} {sent : Sent} {j i among row : ℕ} {ess : List (List Placed)} (r : Role) (x : Text)
-    → Ready s w st → formOf (partitionsOf (tablesOf w st) r) x ≡ hit j i → partitionsOf (tablesOf w st) r ≡ literals ess
+    → ((i : ℕ) → Fits w8 (getD s i 0)) → Ready s w st → formOf (partitionsOf (tablesOf w st) r) x ≡ hit j i → partitionsOf (tablesOf w st) r ≡ literals ess
     → length (getD ess j []) ≡ among → among ≤ 65536 → HitSent a x (nameAllowed r x) j among i row s st s′ sent
     → Sending a (item r x ∷ []) s w st s′ w (sent .number) (sent .state)
 unfolding formBits
-hit-sent {a} {j} {i} {among} r x h e p l few f =
+hit-sent {a} {j} {i} {among} r x known h e p l few f =
     hit-sending r x h e (f .fault) (λ z.
     let done = f .done z in
     record {
@@ -151,6 +123,15 @@ hit-sent {a} {j} {i} {among} r x h e p l few f =
       near = omega (arith, done .put .next, length-append (unsignedBits j) (choiceBits a among i), unsigned-length j, choice-length a among i few);
       state = done .state;
     })
+    (λ l. let still = f .refused l in wrote-nothing known h (still .2) refl (still .1))
+
+-- With row 0, also after a refusal.
+pub hit-rowless : {a : Alignment} {x : Text} {allowed : Bool} {s s′ : List ℕ} {st : State} {sent : Sent} {j among i : ℕ}
+    → HitSent a x allowed j among i 0 s st s′ sent → sent .row ≡ 0
+hit-rowless {sent} f =
+    split (eqb (sent .number) 0)
+    (λ e. f .done (eqb-true (sent .number) 0 e) .row-is)
+    (λ e. let some = eqb-false (sent .number) 0 e in f .refused (omega arith) .0)
 
 -- ---- a literal
 
@@ -206,15 +187,13 @@ module _ {a : Alignment} {s w s′ w′ : List ℕ} {st st′ : State} (r : Role
   pub literal-sending : {number : ℕ} {left : Bool} → number ≡ faultNumber (stringFault x true (st .stored) (nameAllowed r x) left)
       → (length (tablesOf w st .store) + length x ≤ maxStore → withinTables (added (tablesOf w st) r x) ≡ left)
       → (number ≡ 0 → Passed x true (st .stored) (nameAllowed r x) left → LiteralPut a r x u n v s w st s′ w′ st′)
-      → Sending a (item r x ∷ []) s w st s′ w′ number st′
+      → (0 < number → Wrote a [] s w st s′ w′ st′) → Sending a (item r x ∷ []) s w st s′ w′ number st′
   unfolding item
-  literal-sending {left} f l p =
+  literal-sending {left} f l p q =
       let t : Tables = tablesOf w st in
-      record {
-        fault = f ∙ rw (
-          one-fault t (item r x),
-          fault-added t (item r x) left (literal-after t r x e) l,
-          length-text (writerMemory w) (countsOf st) (h .tidy .sized),
-        );
-        wrote = λ z. literal-wrote (p z (sound f z));
-      }
+      one-sending
+      (f ∙ rw (
+        fault-added t (item r x) left (literal-after t r x e) l,
+        length-text (writerMemory w) (countsOf st) (h .tidy .sized),
+      ))
+      (λ z. literal-wrote (p z (sound f z))) q

@@ -4,14 +4,13 @@ use Prim.Native.Nat.{ℕ, zero, suc, _+_, _*_, _-_, _≤_, _<_}
 use native.Mathlib.Omega.{arith}
 use mathlib.Core.Bool.{true, false}
 use mathlib.Core.List.{List, [], _∷_, _++_, append-assoc, append-nil}
-use mathlib.Core.Option.{Option, none, some}
+use mathlib.Core.Option.{none, some}
 use lib.ListN.{length, getD, take, drop}
 use mir.Syntax.{w8}
 use mir.Val.{Fits}
 use lib.Dec.{ltb}
 use borrow.Author.Tests.{ltb-true, ltb-false}
 use Rattle.fields.proofs.Tests.{split}
-use Rattle.fields.proofs.Refusal.{refusal-number}
 use Rattle.fields.specs.Bits.{Bits}
 use Rattle.fields.specs.Refusal.{Refusal, numberOf, limit, shape, Answer, refused, accepted}
 use Rattle.text.specs.Text.{Text, Span, part}
@@ -32,12 +31,15 @@ use Rattle.state.specs.Changed.{reached}
 use Rattle.standing.proofs.Laws.{document-state, docContent-state, docEnd-state, finished-state, startTag-state, elementContent-state}
 use Rattle.standing.proofs.Laws.{reached-standing, reached-context}
 use Rattle.literal.specs.Fault.{faultNumber}
-use Rattle.literal.proofs.Laws.{none-fault, some-fault, fault-none}
-use Rattle.write_field.specs.Written.{Put}
+use Rattle.literal.proofs.Laws.{some-fault, fault-none}
+use Rattle.write_field.specs.Written.{written, Put}
 use Rattle.write_field.proofs.Written.{put-then, put-blank, put-nothing}
-use Rattle.write_event.specs.Step.{StepReady, Step, Done}
+use Rattle.sending.specs.Sending.{unlessFailed}
+use Rattle.sending.proofs.Items.{some-refusal}
+use Rattle.write_event.specs.Step.{StepReady, eventPassed, Step, Done}
 use Rattle.write_event.specs.declared.Stepped.{Stepped}
-use Rattle.write_body.specs.Body.{RunFits, Ran}
+use Rattle.write_event.proofs.Fault.{event-whole}
+use Rattle.write_body.specs.Body.{RunFits, listPassed, Ran}
 
 -- n events, with these bits, stand before what this answer is about.
 pub shifted : ℕ → Bits → Answer Bits → Answer Bits
@@ -56,38 +58,47 @@ shifted-prepended n w u (accepted bs) = ap accepted (sym (append-assoc w u bs))
 
 -- ---- the definitions' answer, by the first of the events
 
+-- The first of these events is refused, and this is written of it.
+record Stops (n : ℕ) (s : Settings) (c : Context) (store : Text) (xs : List Stored) (k : Refusal) (bs : Bits) : Type 0 where
+  answer : writeEvents n s c store xs ≡ refused k 0
+  passed : listPassed n s c store xs ≡ bs
+
 module _ (n : ℕ) (s : Settings) (c : Context) (store : Text) where
   answer-ended : isFinished (c .state) ≡ true → writeEvents n s c store [] ≡ accepted []
   unfolding writeEvents
   answer-ended e = rw e
 
-  answer-early : isFinished (c .state) ≡ false → writeEvents n s c store [] ≡ refused shape 0
+  ended-passed : listPassed n s c store [] ≡ []
+  unfolding listPassed
+  ended-passed = refl
+
+  stops-early : isFinished (c .state) ≡ false → Stops n s c store [] shape []
   unfolding writeEvents
-  answer-early e = rw e
+  stops-early e = record { answer = rw e; passed = ended-passed }
 
-  answer-full : (x : Stored) (xs : List Stored) → writeEvents 0 s c store (x ∷ xs) ≡ refused limit 0
-  unfolding writeEvents
-  answer-full x xs = refl
+  stops-full : (x : Stored) (xs : List Stored) → Stops 0 s c store (x ∷ xs) limit []
+  unfolding writeEvents listPassed
+  stops-full x xs = record { answer = refl; passed = refl }
 
-  answer-shape : (xs : List Stored) → writeEvents (suc n) s c store (none ∷ xs) ≡ refused shape 0
-  unfolding writeEvents
-  answer-shape xs = refl
+  stops-shape : (xs : List Stored) → Stops (suc n) s c store (none ∷ xs) shape []
+  unfolding writeEvents listPassed
+  stops-shape xs = record { answer = refl; passed = refl }
 
-  answer-refused : (e : Event Span) (xs : List Stored) (k : Refusal) → faultOf s c store e ≡ some k
-      → writeEvents (suc n) s c store (some e ∷ xs) ≡ refused k 0
-  unfolding writeEvents unless
-  answer-refused e xs k f = rw f
+  module _ (e : Event Span) (xs : List Stored) where
+    stops-refused : (k : Refusal) → faultOf s c store e ≡ some k → Stops (suc n) s c store (some e ∷ xs) k (eventPassed s c store e)
+    unfolding writeEvents unless listPassed unlessFailed
+    stops-refused k f = record { answer = rw f; passed = rw (f, append-nil) }
 
-  answer-more : (e : Event Span) (xs : List Stored) → faultOf s c store e ≡ none
-      → (let e′ = mapEvent (part store) e in
-      writeEvents (suc n) s c store (some e ∷ xs) ≡ prepended (eventBits s c e′) (writeEvents n s (next s c e′) store xs))
-  unfolding writeEvents unless
-  answer-more e xs f = rw f
+    module _ (f : faultOf s c store e ≡ none) where
+      answer-more : (let e′ = mapEvent (part store) e in
+          writeEvents (suc n) s c store (some e ∷ xs) ≡ prepended (eventBits s c e′) (writeEvents n s (next s c e′) store xs))
+      unfolding writeEvents unless
+      answer-more = rw f
 
--- A refusal has a number.
-some-refusal : (o : Option Refusal) → (faultNumber o ≡ 0 → ⊥) → (k : Refusal) × (o ≡ some k)
-some-refusal none h = absurd (h none-fault)
-some-refusal (some k) h = (k, refl)
+      passed-more : (let e′ = mapEvent (part store) e in
+          listPassed (suc n) s c store (some e ∷ xs) ≡ eventBits s c e′ ++ listPassed n s (next s c e′) store xs)
+      unfolding listPassed unlessFailed
+      passed-more = rw (f, event-whole s c store e f)
 
 -- ---- the list's end
 
@@ -108,11 +119,15 @@ unfinished {m} {st} h other = by-mode (st .mode) refl where
 abbrev answerFor : ℕ → Settings → List ℕ → State → Text → List ℕ → Answer Bits
 answerFor n s w st store cells = writeEvents n s (contextOf (writerMemory w) st) store (eventsOf cells)
 
+abbrev passedOf : ℕ → Settings → List ℕ → State → Text → List ℕ → Bits
+passedOf n s w st store cells = listPassed n s (contextOf (writerMemory w) st) store (eventsOf cells)
+
 -- The events before this cell are written.
 pub record Running (s : Settings) (cells : List ℕ) (store : Text) (stream₀ w₀ : List ℕ) (st : State) (stream w : List ℕ) (t : State) (cell : ℕ)
     : Type 0 where
   pub bits : Bits
   pub answer : answerFor maxEvents s w₀ st store cells ≡ shifted (t .events) bits (answerFor (maxEvents - t .events) s w t store (drop cell cells))
+  pub passed : passedOf maxEvents s w₀ st store cells ≡ bits ++ passedOf (maxEvents - t .events) s w t store (drop cell cells)
   pub put : Put stream₀ (st .at) bits stream (t .at)
   pub near : t .at ≤ 64 + 262144 * t .events
   pub standing : Standing (writerMemory w) t
@@ -129,6 +144,7 @@ running-start {s} {cells} {store} {stream} {w} {st} known h =
       answer = sym (
           ap₂ (λ n m. shifted n [] (answerFor m s w st store cells)) (h .first) e ∙ shifted-none (answerFor maxEvents s w st store cells)
           );
+      passed = ap (λ n. passedOf n s w st store cells) (sym e);
       put = put-nothing known (h .blank);
       near = omega (arith, h .near);
       standing = h .standing;
@@ -139,49 +155,54 @@ running-start {s} {cells} {store} {stream} {w} {st} known h =
 
 module _ {s : Settings} {cells : List ℕ} {store : Text} {stream₀ w₀ : List ℕ} {st : State} {stream w : List ℕ} {t : State} {cell : ℕ}
     (h : Running s cells store stream₀ w₀ st stream w t cell) where
-  left-is : {n : ℕ} {xs : List Stored} → maxEvents - t .events ≡ n → eventsOf (drop cell cells) ≡ xs
-      → answerFor (maxEvents - t .events) s w t store (drop cell cells) ≡ writeEvents n s (contextOf (writerMemory w) t) store xs
-  left-is a b = ap₂ (λ n l. writeEvents n s (contextOf (writerMemory w) t) store l) a b
-
   near-end : t .at ≤ 2147483648
   unfolding maxEvents
   near-end = omega (arith, h .near, h .few)
 
   -- What is left is refused at its first event.
-  ran-refused : (k : Refusal) → answerFor (maxEvents - t .events) s w t store (drop cell cells) ≡ refused k 0
-      → (number : ℕ) (after : List ℕ) → number ≡ numberOf k
-      → Ran s (eventsOf cells) store stream₀ w₀ st after (record { number = number; index = t .events; at = t .at })
+  ran-refused : {n : ℕ} {xs : List Stored} {k : Refusal} {bs : Bits} {after : List ℕ} {q : ℕ} (number : ℕ) → maxEvents - t .events ≡ n
+      → eventsOf (drop cell cells) ≡ xs → Stops n s (contextOf (writerMemory w) t) store xs k bs → number ≡ numberOf k
+      → Put stream₀ (st .at) (h .bits ++ bs) after q
+      → Ran s (eventsOf cells) store stream₀ w₀ st after (record { number = number; index = t .events; at = 0 })
   unfolding shifted
-  ran-refused k e number after same =
-      let here : answerFor maxEvents s w₀ st store cells ≡ refused k (t .events) =
-      h .answer ∙ ap (shifted (t .events) (h .bits)) e ∙ ap (refused k) (omega arith) in
+  ran-refused {k} number left here stops same put =
+      let first : answerFor (maxEvents - t .events) s w t store (drop cell cells) ≡ refused k 0 = rw (left, here) (stops .answer) in
+      let whole : answerFor maxEvents s w₀ st store cells ≡ refused k (t .events) =
+      h .answer ∙ ap (shifted (t .events) (h .bits)) first ∙ ap (refused k) (omega arith) in
       record {
-        refused-as = λ k′ i′ e′. (cc, cc);
+        refused-as = λ k′ i′ e′. let a : number ≡ numberOf k′ = cc in let b : t .events ≡ i′ = cc in rw (a, b);
         accepted-as = λ bs e′. let z : _≡_ {A = ℕ} 0 1 = cc in absurd (omega arith);
-        whole = λ z. absurd (omega (arith, refusal-number k));
+        octets = put .octets ∙ ap (written stream₀ (st .at)) (sym (h .passed ∙ rw (left, here, stops .passed)));
         few = h .few;
-        near = near-end;
+        near = omega arith;
       }
+
+  -- Nothing more is written.
+  nothing-more : Put stream₀ (st .at) (h .bits ++ []) stream (t .at)
+  nothing-more = rw append-nil (h .put)
 
   -- ---- the list's end
 
   module _ (end : length cells ≤ cell) where
-    pub ended-early : (t .mode ≡ 3 → ⊥) → Ran s (eventsOf cells) store stream₀ w₀ st stream (record { number = 14; index = t .events; at = t .at })
+    pub ended-early : (t .mode ≡ 3 → ⊥) → Ran s (eventsOf cells) store stream₀ w₀ st stream (record { number = 14; index = t .events; at = 0 })
     unfolding numberOf
     ended-early other =
-        ran-refused shape (left-is refl (events-end cells cell end) ∙ answer-early _ s _ store (unfinished (h .standing) other)) 14 stream refl
+        ran-refused 14 refl (events-end cells cell end) (stops-early _ s _ store (unfinished (h .standing) other)) refl nothing-more
 
     pub ended : t .mode ≡ 3 → Ran s (eventsOf cells) store stream₀ w₀ st stream (record { number = 0; index = 0; at = t .at })
     unfolding shifted isFinished
     ended last =
-        let all : answerFor (maxEvents - t .events) s w t store (drop cell cells) ≡ accepted [] =
-        left-is refl (events-end cells cell end) ∙ answer-ended _ s _ store (ap isFinished (finished-state (h .standing) last)) in
-        let here : answerFor maxEvents s w₀ st store cells ≡ accepted (h .bits) =
+        let n : ℕ = maxEvents - t .events in
+        let c : Context = contextOf (writerMemory w) t in
+        let here : eventsOf (drop cell cells) ≡ [] = events-end cells cell end in
+        let all : answerFor n s w t store (drop cell cells) ≡ accepted [] =
+        rw here (answer-ended n s c store (ap isFinished (finished-state (h .standing) last))) in
+        let whole : answerFor maxEvents s w₀ st store cells ≡ accepted (h .bits) =
         h .answer ∙ ap (shifted (t .events) (h .bits)) all ∙ ap accepted (append-nil (h .bits)) in
         record {
           refused-as = λ k i e. let z : _≡_ {A = ℕ} 0 1 = cc in absurd (omega arith);
-          accepted-as = λ bs e. let same : h .bits ≡ bs = cc in (refl, rw (← same) (h .put));
-          whole = λ z. refl;
+          accepted-as = λ bs e. let same : h .bits ≡ bs = cc in (refl, refl, rw (← same) (h .put));
+          octets = nothing-more .octets ∙ ap (written stream₀ (st .at)) (sym (h .passed ∙ rw (here, ended-passed n s c store)));
           few = omega arith;
           near = near-end;
         }
@@ -195,11 +216,11 @@ module _ {s : Settings} {cells : List ℕ} {store : Text} {stream₀ w₀ : List
         (λ l. (none, [], events-cut cells cell inside (ltb-true (length cells) (cell + 7) l)))
         (λ l. (_, _, events-at cells cell (ltb-false (length cells) (cell + 7) l)))
 
-    pub too-many : t .events ≡ 4096 → Ran s (eventsOf cells) store stream₀ w₀ st stream (record { number = 12; index = t .events; at = t .at })
+    pub too-many : t .events ≡ 4096 → Ran s (eventsOf cells) store stream₀ w₀ st stream (record { number = 12; index = t .events; at = 0 })
     unfolding maxEvents numberOf
     too-many full =
         let (x, xs, e) = some-left in
-        ran-refused limit (left-is (omega arith) e ∙ answer-full 0 s _ store x xs) 12 stream refl
+        ran-refused 12 (omega arith) e (stops-full 0 s _ store x xs) refl nothing-more
 
     module _ (more : (t .events ≡ 4096 → ⊥)) where
       one-less : maxEvents - t .events ≡ suc (maxEvents - (t .events + 1))
@@ -207,11 +228,11 @@ module _ {s : Settings} {cells : List ℕ} {store : Text} {stream₀ w₀ : List
       one-less = omega (arith, h .few)
 
       shape-here : {xs : List Stored} → eventsOf (drop cell cells) ≡ none ∷ xs
-          → Ran s (eventsOf cells) store stream₀ w₀ st stream (record { number = 14; index = t .events; at = t .at })
+          → Ran s (eventsOf cells) store stream₀ w₀ st stream (record { number = 14; index = t .events; at = 0 })
       unfolding numberOf
-      shape-here e = ran-refused shape (left-is one-less e ∙ answer-shape _ s _ store _) 14 stream refl
+      shape-here e = ran-refused 14 one-less e (stops-shape _ s _ store _) refl nothing-more
 
-      pub cut-short : length cells - cell < 7 → Ran s (eventsOf cells) store stream₀ w₀ st stream (record { number = 14; index = t .events; at = t .at })
+      pub cut-short : length cells - cell < 7 → Ran s (eventsOf cells) store stream₀ w₀ st stream (record { number = 14; index = t .events; at = 0 })
       cut-short l = shape-here (events-cut cells cell inside (omega arith))
 
       pub step-asks : RunFits stream₀ w₀ st → StepReady stream w t
@@ -226,20 +247,21 @@ module _ {s : Settings} {cells : List ℕ} {store : Text} {stream₀ w₀ : List
 
       module _ (whole : cell + 7 ≤ length cells) where
         pub no-event : loadedFrom (take 7 (drop cell cells)) ≡ none
-            → Ran s (eventsOf cells) store stream₀ w₀ st stream (record { number = 14; index = t .events; at = t .at })
+            → Ran s (eventsOf cells) store stream₀ w₀ st stream (record { number = 14; index = t .events; at = 0 })
         no-event l = shape-here (events-at cells cell whole ∙ ap (λ x. x ∷ eventsOf (drop (cell + 7) cells)) l)
 
         module _ {e : Event Span} {stream′ w′ : List ℕ} {r : Stepped} (loaded : loadedFrom (take 7 (drop cell cells)) ≡ some e)
             (step : Step s store e stream w t stream′ w′ r) where
-          first-left : answerFor (maxEvents - t .events) s w t store (drop cell cells)
-              ≡ writeEvents (suc (maxEvents - (t .events + 1))) s (contextOf (writerMemory w) t) store (some e ∷ eventsOf (drop (cell + 7) cells))
-          first-left = left-is one-less (events-at cells cell whole ∙ ap (λ x. x ∷ eventsOf (drop (cell + 7) cells)) loaded)
+          first-left : eventsOf (drop cell cells) ≡ some e ∷ eventsOf (drop (cell + 7) cells)
+          first-left = events-at cells cell whole ∙ ap (λ x. x ∷ eventsOf (drop (cell + 7) cells)) loaded
 
           pub refused-event : (r .number ≡ 0 → ⊥)
-              → Ran s (eventsOf cells) store stream₀ w₀ st stream′ (record { number = r .number; index = t .events; at = t .at })
+              → Ran s (eventsOf cells) store stream₀ w₀ st stream′ (record { number = r .number; index = t .events; at = 0 })
           refused-event some-number =
-              let (k, f) = some-refusal (faultOf s (contextOf (writerMemory w) t) store e) (λ z. some-number (step .fault ∙ z)) in
-              ran-refused k (first-left ∙ answer-refused _ s _ store e _ k f) (r .number) stream′ (step .fault ∙ ap faultNumber f ∙ some-fault k)
+              let c : Context = contextOf (writerMemory w) t in
+              let (k, f) = some-refusal (faultOf s c store e) (omega (arith, step .fault)) in
+              ran-refused (r .number) one-less first-left (stops-refused _ s c store e _ k f) (step .fault ∙ ap faultNumber f ∙ some-fault k)
+              (put-then (h .put) (record { octets = step .octets; next = refl }))
 
           pub event-more : r .number ≡ 0
               → Running s cells store stream₀ w₀ st stream′ w′ (reached (r .state) (r .state .at) (r .state .events + 1)) (cell + 7)
@@ -255,13 +277,17 @@ module _ {s : Settings} {cells : List ℕ} {store : Text} {stream₀ w₀ : List
               record {
                 bits = h .bits ++ eventBits s c e′;
                 answer = h .answer
-                    ∙ ap (shifted (t .events) (h .bits)) (first-left ∙ answer-more _ s c store e _ fine)
+                    ∙ ap (shifted (t .events) (h .bits)) (rw (one-less, first-left) (answer-more _ s c store e _ fine))
                     ∙ shifted-prepended (t .events) (h .bits) (eventBits s c e′) _
                     ∙ ap₂ (λ n x. shifted n (h .bits ++ eventBits s c e′) (writeEvents (maxEvents - n) s x store (eventsOf (drop (cell + 7) cells)))) count context;
+                passed = h .passed
+                    ∙ ap (λ l. h .bits ++ l) (rw (one-less, first-left) (passed-more _ s c store e _ fine))
+                    ∙ sym (append-assoc (h .bits) (eventBits s c e′) _)
+                    ∙ ap₂ (λ n x. (h .bits ++ eventBits s c e′) ++ listPassed (maxEvents - n) s x store (eventsOf (drop (cell + 7) cells))) count context;
                 put = put-then (h .put) (d .put);
                 near = omega (arith, h .near, d .near);
                 standing = reached-standing (r .state .at) (r .state .events + 1) (d .standing);
                 few = omega (arith, one-less, h .few);
                 place = omega (arith, h .place);
-                size = d .size ∙ h .size;
+                size = step .size ∙ h .size;
               }

@@ -9,7 +9,7 @@ use refusal::SHAPE;
 use settings::Settings;
 use state::State;
 
-// A list that was gone through: the number and index of its refusal, or 0, and the position behind its bits.
+// A list that was gone through: the number and index of its refusal, or 0, and the position behind its bits, or 0.
 pub struct Run {
     pub number: u32,
     pub index: usize,
@@ -18,12 +18,12 @@ pub struct Run {
 
 // A refusal of the event that comes next.
 fn stopped(number: u32, t: State) -> Run
-    ensures { λ r. ⌜ r ≡ record { number = number; index = t .events; at = t .at } ⌝ }
+    ensures { λ r. ⌜ r ≡ record { number = number; index = t .events; at = 0 } ⌝ }
 {
     Run {
         number,
         index: t.events,
-        at: t.at,
+        at: 0,
     }
 }
 

@@ -3,22 +3,23 @@ use Prim.Native.Nat.{ℕ, _≤_, _<_}
 use native.Mathlib.Omega.{arith}
 use mathlib.Core.Path.{_≡_, refl, sym, ap, subst, _∙_}
 use mathlib.Core.Bool.{true, false}
-use mathlib.Core.List.{List}
-use mathlib.Core.Option.{Option, none, some}
-use lib.ListN.{length}
+use mathlib.Core.List.{List, _++_}
+use mathlib.Core.Option.{none, some}
+use lib.ListN.{length, getD}
+use mir.Syntax.{w8}
+use mir.Val.{Fits}
 use Rattle.fields.specs.Refusal.{Refusal, numberOf}
-use Rattle.fields.specs.Field.{Alignment}
 use Rattle.fields.proofs.Refusal.{refusal-number}
 use Rattle.text.specs.Text.{Text, Span, inside, part}
 use Rattle.format.specs.Event.{Event, startDocument, endDocument, endElement, startElement, attribute, characters, comment, instruction, mapEvent, stringsOf, kindOf}
 use Rattle.format.specs.Settings.{Settings}
 use Rattle.format.specs.Sizes.{writerWork}
-use Rattle.format.specs.Grammar.{State, Production, kindNumber}
-use Rattle.format.specs.Context.{nameItems, items, after, afterCode, next}
-use Rattle.format.specs.Strict.{codedBits, eventBits}
+use Rattle.format.specs.Grammar.{State, Production, codeBits, kindNumber}
+use Rattle.format.specs.Context.{Context, levelsIn, nameItems, items, after, afterCode, next}
+use Rattle.format.specs.Strict.{itemsBits, eventBits}
 use Rattle.format.specs.Lists.{every, withinGrammars}
 use Rattle.format.specs.Writer.{firstFailed, contentTests, faultOf}
-use Rattle.layout.specs.Meaning.{contextIn}
+use Rattle.layout.specs.Meaning.{Memory, contextIn}
 use Rattle.layout.specs.Writer.{writerMemory}
 use Rattle.productions.proofs.Known.{Numbered}
 use Rattle.state.specs.declared.State as state
@@ -27,17 +28,19 @@ use Rattle.standing.proofs.Kept.{kept-standing, kept-context}
 use Rattle.standing.proofs.Laws.{reached-standing}
 use Rattle.literal.specs.Fault.{faultNumber}
 use Rattle.literal.proofs.Laws.{fault-none, some-fault, none-fault}
-use Rattle.write_field.specs.Written.{Put}
-use Rattle.write_field.proofs.Written.{put-then, put-blank}
+use Rattle.write_field.specs.Written.{written, Put}
+use Rattle.write_field.proofs.Written.{put-then, put-blank, put-nothing}
 use Rattle.write_form.specs.declared.Sent.{Sent}
-use Rattle.sending.specs.Sending.{tablesOf, Wrote}
+use Rattle.sending.specs.Sending.{tablesOf, passed, Wrote}
+use Rattle.sending.proofs.Items.{some-refusal, sent-wrote}
 use Rattle.write_items.specs.Items.{productionOf, ItemsFit, ItemsSent}
 use Rattle.learning.specs.declared.Grown.{Grown}
 use Rattle.learning.specs.Growth.{grownContext, Grows, Growth}
 use Rattle.write_code.specs.Coding.{Encoded, CodeSent}
 use Rattle.write_code.specs.declared.Coding.{Coding}
-use Rattle.write_event.specs.Step.{Done, Step}
-use Rattle.write_event.proofs.Fault.{fault-shape, fault-place, fault-content, fault-limit, fault-none-of}
+use Rattle.write_event.specs.Step.{StepReady, eventPassed, Done, Step}
+use Rattle.write_event.proofs.Back.{context-back}
+use Rattle.write_event.proofs.Fault.{fault-shape, none-passed, fault-place, code-passed, items-passed, event-whole, fault-content, fault-limit, fault-none-of}
 
 -- No event has more than three strings.
 items-few : (st : State) (p : Production) (e : Event Text) → length (items st p e) ≤ 3
@@ -57,9 +60,9 @@ items-few st p = elim [
 
 module _ {s : Settings} {w : List ℕ} {st : state.State} {ev : Event Text} {stream stream₁ : List ℕ} {code : Coding}
     (enc : Encoded s (writerMemory w) st ev stream stream₁ code) where
-  same-context : contextOf (writerMemory w) (code .state) ≡ contextOf (writerMemory w) st
+  same-context : (m : Memory) → contextOf m (code .state) ≡ contextOf m st
   unfolding contextOf
-  same-context = ap (contextOf (writerMemory w)) (enc .moved-is)
+  same-context m = ap (contextOf m) (enc .moved-is)
 
   same-tables : tablesOf w (code .state) ≡ contextOf (writerMemory w) st .tables
   unfolding contextOf contextIn
@@ -68,7 +71,7 @@ module _ {s : Settings} {w : List ℕ} {st : state.State} {ev : Event Text} {str
   same-items : items (contextOf (writerMemory w) (code .state) .state) (productionOf (code .learned) ev) ev
       ≡ items (contextOf (writerMemory w) st .state) (enc .code .production) ev
   unfolding productionOf
-  same-items = rw (same-context, enc .production)
+  same-items = rw (same-context (writerMemory w), enc .production)
 
   module _ (stand : Standing (writerMemory w) st) where
     code-standing : Standing (writerMemory w) (code .state)
@@ -85,19 +88,32 @@ module _ {s : Settings} {w : List ℕ} {st : state.State} {ev : Event Text} {str
           inside = λ l u. rw (ap (λ (x : state.State). x .mode) (enc .moved-is)) (enc .inside l u);
         }
 
-  module _ {a : Alignment} {stream₂ w₂ : List ℕ} {r : Sent} (sent : ItemsSent a (code .learned) ev stream₁ w (code .state) stream₂ w₂ r) where
+  module _ {stream₂ w₂ : List ℕ} {r : Sent} (sent : ItemsSent (s .alignment) (code .learned) ev stream₁ w (code .state) stream₂ w₂ r) where
     content-fault : r .number
         ≡ faultNumber (firstFailed (contentTests (contextOf (writerMemory w) st .tables)
         (items (contextOf (writerMemory w) st .state) (enc .code .production) ev)))
     content-fault = sent .sent .fault ∙ rw (same-tables, same-items)
+
+    -- The strings that pass stand behind the code.
+    passed-put : Put stream (st .at)
+        (codeBits (s .alignment) (levelsIn s (contextOf (writerMemory w) st)) (enc .code .parts)
+        ++ itemsBits (s .alignment) (contextOf (writerMemory w) st .tables)
+        (passed (contextOf (writerMemory w) st .tables) (items (contextOf (writerMemory w) st .state) (enc .code .production) ev)))
+        stream₂ (r .state .at)
+    passed-put = put-then (enc .put) (rw (same-tables, same-items) at (sent .sent .wrote .put))
+
+    -- By the old counts memory means what it meant.
+    old-context : Standing (writerMemory w) st → contextOf (writerMemory w₂) st ≡ contextOf (writerMemory w) st
+    old-context stand =
+        sym (same-context (writerMemory w₂)) ∙ context-back (code-standing stand) (sent .sent .wrote) ∙ same-context (writerMemory w)
 
     module _ (stand : Standing (writerMemory w) st) (zero : r .number ≡ 0) where
       content-passed : firstFailed (contentTests (contextOf (writerMemory w) st .tables)
           (items (contextOf (writerMemory w) st .state) (enc .code .production) ev)) ≡ none
       content-passed = fault-none _ (sym content-fault ∙ zero)
 
-      wrote : Wrote a (items (contextOf (writerMemory w) st .state) (enc .code .production) ev) stream₁ w (code .state) stream₂ w₂ (r .state)
-      wrote = subst (λ is. Wrote a is stream₁ w (code .state) stream₂ w₂ (r .state)) same-items (sent .sent .wrote zero)
+      wrote : Wrote (s .alignment) (items (contextOf (writerMemory w) st .state) (enc .code .production) ev) stream₁ w (code .state) stream₂ w₂ (r .state)
+      wrote = subst (λ is. Wrote (s .alignment) is stream₁ w (code .state) stream₂ w₂ (r .state)) same-items (sent-wrote (sent .sent) zero)
 
       items-context : contextOf (writerMemory w₂) (r .state)
           ≡ record {
@@ -106,7 +122,7 @@ module _ {s : Settings} {w : List ℕ} {st : state.State} {ev : Event Text} {str
             learned = contextOf (writerMemory w) st .learned;
             grammars = contextOf (writerMemory w) st .grammars;
           }
-      items-context = kept-context (code-standing stand) (wrote .kept) ∙ rw same-context
+      items-context = kept-context (code-standing stand) (wrote .kept) ∙ rw (same-context (writerMemory w))
 
       -- What the grammars then leave is what the event leaves.
       next-grown : grownContext (contextOf (writerMemory w₂) (r .state)) ev (code .teaches) ≡ next s (contextOf (writerMemory w) st) ev
@@ -132,78 +148,82 @@ module _ {s : Settings} {w : List ℕ} {st : state.State} {ev : Event Text} {str
         grammars-within : withinGrammars (next s (contextOf (writerMemory w) st) ev) ≡ g .ok
         grammars-within = sym (grew .within ∙ ap withinGrammars next-grown)
 
-        event-put : s .alignment ≡ a → Put stream (st .at) (eventBits s (contextOf (writerMemory w) st) ev) stream₂ (g .state .at)
-        unfolding eventBits codedBits
-        event-put al = rw (enc .is, grew .at, al) (put-then (rw al at (enc .put)) (rw same-tables at (wrote .put)))
-
-        event-done : s .alignment ≡ a → g .ok ≡ true → Done s ev stream w st stream₂ w₃ (g .state)
-        event-done al ok =
+        event-done : Put stream (st .at) (eventBits s (contextOf (writerMemory w) st) ev) stream₂ (r .state .at) → g .ok ≡ true
+            → Done s ev stream w st stream₂ w₃ (g .state)
+        event-done put ok =
             record {
-              put = event-put al;
+              put = rw (grew .at) put;
               near = omega (arith, grew .at, wrote .near, enc .near, items-few (contextOf (writerMemory w) st .state) (enc .code .production) ev);
               context = grew .context ok ∙ next-grown;
               standing = grew .standing ok;
-              size = grew .work ∙ wrote .kept .size;
               events = grew .events ∙ wrote .kept .sameEvents ∙ ap (λ (t : state.State). t .events) (enc .moved-is);
             }
 
--- ---- refusals
+-- ---- the step: refused at one of its parts, or done
 
-module _ {s : Settings} (store : Text) (e : Event Span) {stream w stream′ w′ : List ℕ} {st : state.State} where
-  refused-step : {k : Refusal} (number : ℕ) (t : state.State) → faultOf s (contextOf (writerMemory w) st) store e ≡ some k → number ≡ numberOf k
-      → Step s store e stream w st stream′ w′ (record { number = number; state = t })
-  refused-step {k} number t f n =
+module _ {s : Settings} (store : Text) (e : Event Span) {stream w : List ℕ} {st : state.State} where
+  refused-step : {k : Refusal} {stream′ w′ : List ℕ} (number : ℕ) → faultOf s (contextOf (writerMemory w) st) store e ≡ some k → number ≡ numberOf k
+      → stream′ ≡ written stream (st .at) (eventPassed s (contextOf (writerMemory w) st) store e) → length w′ ≡ length w
+      → contextOf (writerMemory w′) st ≡ contextOf (writerMemory w) st
+      → Step s store e stream w st stream′ w′ (record { number = number; state = st })
+  refused-step {k} number f n octets size context =
       record {
         fault = rw f (n ∙ sym (some-fault k));
+        octets = octets;
+        size = size;
         done = λ z. absurd (omega (arith, refusal-number k));
+        refused = λ _. (refl, context);
       }
 
-  pub shape-step : {stream₁ : List ℕ} {code : Coding} (t : state.State) → CodeSent s (writerMemory w) st (mapEvent (part store) e) stream stream₁ code
-      → code .fits ≡ false → Step s store e stream w st stream′ w′ (record { number = 14; state = t })
+  pub shape-step : {stream₁ : List ℕ} {code : Coding} → StepReady stream w st → ((i : ℕ) → Fits w8 (getD stream i 0))
+      → CodeSent s (writerMemory w) st (mapEvent (part store) e) stream stream₁ code
+      → code .fits ≡ false → Step s store e stream w st stream₁ w (record { number = 14; state = st })
   unfolding numberOf
-  shape-step t c f = refused-step 14 t (fault-shape s (contextOf (writerMemory w) st) store e (c .no-code f)) refl
+  shape-step h known c f =
+      refused-step 14 (fault-shape s (contextOf (writerMemory w) st) store e (c .no-code f)) refl
+      (c .unchanged f .0 ∙ rw (none-passed s (contextOf (writerMemory w) st) store e (c .no-code f)) (put-nothing known (h .blank) .octets))
+      refl refl
 
-  module _ {stream₁ : List ℕ} {code : Coding} (enc : Encoded s (writerMemory w) st (mapEvent (part store) e) stream stream₁ code) (t : state.State) where
-    pub place-step : every (inside store) (stringsOf e) ≡ false → Step s store e stream w st stream′ w′ (record { number = 15; state = t })
+  module _ {stream₁ : List ℕ} {code : Coding} (enc : Encoded s (writerMemory w) st (mapEvent (part store) e) stream stream₁ code) where
+    pub place-step : every (inside store) (stringsOf e) ≡ false → Step s store e stream w st stream₁ w (record { number = 15; state = st })
     unfolding numberOf
-    place-step h = refused-step 15 t (fault-place s (contextOf (writerMemory w) st) store e (enc .code) (enc .is) h) refl
+    place-step h =
+        refused-step 15 (fault-place s (contextOf (writerMemory w) st) store e (enc .code) (enc .is) h) refl
+        (rw (code-passed s (contextOf (writerMemory w) st) store e (enc .code) (enc .is) h) (enc .put .octets)) refl refl
 
-    module _ (h : every (inside store) (stringsOf e) ≡ true) {a : Alignment} {stream₂ w₂ : List ℕ} {r : Sent}
-        (sent : ItemsSent a (code .learned) (mapEvent (part store) e) stream₁ w (code .state) stream₂ w₂ r) where
-      pub content-step : 0 < r .number → Step s store e stream w st stream′ w′ (record { number = r .number; state = t })
-      content-step n = go _ refl
-        where
-          go : (o : Option Refusal)
-              → firstFailed (contentTests (contextOf (writerMemory w) st .tables)
-              (items (contextOf (writerMemory w) st .state) (enc .code .production) (mapEvent (part store) e))) ≡ o
-              → Step s store e stream w st stream′ w′ (record { number = r .number; state = t })
-          go none f = let z : r .number ≡ 0 = content-fault enc sent ∙ ap faultNumber f ∙ none-fault in absurd (omega arith)
-          go (some k) f =
-              refused-step (r .number) t
-              (fault-content s (contextOf (writerMemory w) st) store e (enc .code) (enc .is) h k f)
-              (content-fault enc sent ∙ ap faultNumber f ∙ some-fault k)
+    module _ (stand : Standing (writerMemory w) st) (h : every (inside store) (stringsOf e) ≡ true) {stream₂ w₂ : List ℕ} {r : Sent}
+        (sent : ItemsSent (s .alignment) (code .learned) (mapEvent (part store) e) stream₁ w (code .state) stream₂ w₂ r) where
+      event-put : Put stream (st .at) (eventPassed s (contextOf (writerMemory w) st) store e) stream₂ (r .state .at)
+      event-put = rw (items-passed s (contextOf (writerMemory w) st) store e (enc .code) (enc .is) h) (passed-put enc sent)
 
-      pub limit-step : Standing (writerMemory w) st → r .number ≡ 0 → {w₃ : List ℕ} {g : Grown}
-          → Growth (writerMemory w₂) (writerMemory w₃) (r .state) (mapEvent (part store) e) (code .teaches) g → g .ok ≡ false
-          → Step s store e stream w st stream′ w′ (record { number = 12; state = t })
-      unfolding numberOf
-      limit-step stand zero grew f =
-          refused-step 12 t
-          (fault-limit s (contextOf (writerMemory w) st) store e (enc .code) (enc .is) h (content-passed enc sent stand zero)
-          (grammars-within enc sent stand zero grew ∙ f))
-          refl
+      pub content-step : 0 < r .number → Step s store e stream w st stream₂ w₂ (record { number = r .number; state = st })
+      content-step n =
+          let (k, f) = some-refusal (firstFailed (contentTests (contextOf (writerMemory w) st .tables)
+          (items (contextOf (writerMemory w) st .state) (enc .code .production) (mapEvent (part store) e)))) (omega (arith, content-fault enc sent)) in
+          refused-step (r .number) (fault-content s (contextOf (writerMemory w) st) store e (enc .code) (enc .is) h k f)
+          (content-fault enc sent ∙ ap faultNumber f ∙ some-fault k) (event-put .octets) (sent .sent .wrote .kept .size)
+          (old-context enc sent stand)
 
--- ---- the event is written
+      module _ (zero : r .number ≡ 0) {w₃ : List ℕ} {g : Grown}
+          (grew : Growth (writerMemory w₂) (writerMemory w₃) (r .state) (mapEvent (part store) e) (code .teaches) g) where
+        pub limit-step : g .ok ≡ false → w₃ ≡ w₂ → Step s store e stream w st stream₂ w₃ (record { number = 12; state = st })
+        unfolding numberOf
+        limit-step f still =
+            refused-step 12
+            (fault-limit s (contextOf (writerMemory w) st) store e (enc .code) (enc .is) h (content-passed enc sent stand zero)
+            (grammars-within enc sent stand zero grew ∙ f))
+            refl (event-put .octets) (grew .work ∙ sent .sent .wrote .kept .size) (rw still (old-context enc sent stand))
 
-pub done-step : {s : Settings} (store : Text) (e : Event Span) {stream w stream₁ stream₂ w₂ w₃ : List ℕ} {st : state.State} {code : Coding} {r : Sent} {g : Grown}
-    → (enc : Encoded s (writerMemory w) st (mapEvent (part store) e) stream stream₁ code) → every (inside store) (stringsOf e) ≡ true
-    → ItemsSent (s .alignment) (code .learned) (mapEvent (part store) e) stream₁ w (code .state) stream₂ w₂ r → Standing (writerMemory w) st → r .number ≡ 0
-    → Growth (writerMemory w₂) (writerMemory w₃) (r .state) (mapEvent (part store) e) (code .teaches) g → g .ok ≡ true
-    → Step s store e stream w st stream₂ w₃ (record { number = 0; state = g .state })
-done-step {s} store e {w} {st} enc h sent stand zero grew f =
-    record {
-      fault = rw (fault-none-of s (contextOf (writerMemory w) st) store e (enc .code) (enc .is) h (content-passed enc sent stand zero)
-          (grammars-within enc sent stand zero grew ∙ f))
-          (sym none-fault);
-      done = λ z. event-done enc sent stand zero grew refl f;
-    }
+        -- No refusal.
+        pub done-step : g .ok ≡ true → Step s store e stream w st stream₂ w₃ (record { number = 0; state = g .state })
+        done-step f =
+            let c : Context = contextOf (writerMemory w) st in
+            let fine : faultOf s c store e ≡ none =
+            fault-none-of s c store e (enc .code) (enc .is) h (content-passed enc sent stand zero) (grammars-within enc sent stand zero grew ∙ f) in
+            record {
+              fault = rw fine (sym none-fault);
+              octets = event-put .octets;
+              size = grew .work ∙ sent .sent .wrote .kept .size;
+              done = λ z. event-done enc sent stand zero grew (rw (event-whole s c store e fine) at event-put) f;
+              refused = λ l. absurd (omega arith);
+            }

@@ -1,3 +1,4 @@
 pub mod Assembly
+pub mod Back
 pub mod Events
 pub mod Fault

@@ -1,23 +1,27 @@
 -- What writing one event asks and leaves, in the definitions' terms.
-use Prim.Native.Nat.{ℕ, _+_, _≤_}
+use Prim.Native.Nat.{ℕ, _+_, _≤_, _<_}
 use mathlib.Core.Path.{_≡_}
-use mathlib.Core.List.{List}
-use mathlib.Core.Option.{some}
+use mathlib.Core.Bool.{cond}
+use mathlib.Core.List.{List, [], _++_}
+use mathlib.Core.Option.{Option, none, some}
 use lib.ListN.{length}
 use lib.Dec.{T}
-use Rattle.text.specs.Text.{Text, Span, part}
-use Rattle.format.specs.Event.{Event, kindOf, nameOf, mapEvent}
+use Rattle.fields.specs.Bits.{Bits}
+use Rattle.text.specs.Text.{Text, Span, inside, part}
+use Rattle.format.specs.Event.{Event, kindOf, nameOf, mapEvent, stringsOf}
 use Rattle.format.specs.Sizes.{writerWork}
 use Rattle.format.specs.Settings.{Settings}
-use Rattle.format.specs.Grammar.{kindNumber}
-use Rattle.format.specs.Context.{next}
-use Rattle.format.specs.Strict.{eventBits}
+use Rattle.format.specs.Grammar.{Code, codeOf, codeBits, kindNumber}
+use Rattle.format.specs.Context.{Context, levelsIn, items, next}
+use Rattle.format.specs.Strict.{itemsBits, eventBits}
+use Rattle.format.specs.Lists.{every}
 use Rattle.format.specs.Writer.{faultOf}
 use Rattle.layout.specs.Writer.{writerMemory}
 use Rattle.state.specs.declared.State.{State}
 use Rattle.standing.specs.Standing.{contextOf, Standing}
 use Rattle.literal.specs.Fault.{faultNumber}
-use Rattle.write_field.specs.Written.{blankFrom, Put}
+use Rattle.write_field.specs.Written.{written, blankFrom, Put}
+use Rattle.sending.specs.Sending.{passed}
 use Rattle.write_code.specs.Coding.{CodeSent}
 use Rattle.write_code.specs.declared.Coding.{Coding}
 use Rattle.write_event.specs.declared.Stepped.{Stepped}
@@ -43,10 +47,25 @@ pub record Done (s : Settings) (e : Event Text) (stream w : List ℕ) (st : Stat
   pub near : st′ .at ≤ st .at + 262144
   pub context : contextOf (writerMemory w′) st′ ≡ next s (contextOf (writerMemory w) st) e
   pub standing : Standing (writerMemory w′) st′
-  pub size : length w′ ≡ length w
   pub events : st′ .events ≡ st .events
 
--- The number is the refusal's that the definitions give the stored event here, or 0.
+-- What is written of an event: its code, where a production fits; behind it, where all its strings lie inside the store, those before the first that is
+-- refused.
+unfoldable pub codedPassed : Settings → Context → Text → Event Span → Option Code → Bits
+codedPassed s c store e none = []
+codedPassed s c store e (some x) =
+    let is = items (c .state) (x .production) (mapEvent (part store) e) in
+    codeBits (s .alignment) (levelsIn s c) (x .parts)
+    ++ cond (every (inside store) (stringsOf e)) (itemsBits (s .alignment) (c .tables) (passed (c .tables) is)) []
+
+unfoldable pub eventPassed : Settings → Context → Text → Event Span → Bits
+eventPassed s c store e = codedPassed s c store e (codeOf (levelsIn s c) (mapEvent (part store) e))
+
+-- The number is the refusal's that the definitions give the stored event here, or 0. After a refusal the state is as it was, and memory means by it
+-- what it meant.
 pub record Step (s : Settings) (store : Text) (e : Event Span) (stream w : List ℕ) (st : State) (stream′ w′ : List ℕ) (r : Stepped) : Type 0 where
   pub fault : r .number ≡ faultNumber (faultOf s (contextOf (writerMemory w) st) store e)
+  pub octets : stream′ ≡ written stream (st .at) (eventPassed s (contextOf (writerMemory w) st) store e)
+  pub size : length w′ ≡ length w
   pub done : r .number ≡ 0 → Done s (mapEvent (part store) e) stream w st stream′ w′ (r .state)
+  pub refused : 0 < r .number → (r .state ≡ st) × (contextOf (writerMemory w′) st ≡ contextOf (writerMemory w) st)

@@ -20,8 +20,8 @@ use Rattle.state.specs.declared.State.{State}
 use Rattle.standing.proofs.Laws.{top-below}
 use Rattle.write_form.specs.Form.{midway}
 use Rattle.write_form.specs.declared.Sent.{Sent}
-use Rattle.sending.specs.Sending.{Ready, Sending, Rowless}
-use Rattle.sending.proofs.Items.{wrote-ready, sending-then, sending-refused}
+use Rattle.sending.specs.Sending.{Ready, Sending}
+use Rattle.sending.proofs.Items.{wrote-ready, sent-wrote, sending-then, sending-refused}
 use Rattle.write_name.specs.Name.{ReadyName, NameRow, nameAs}
 use Rattle.write_value.specs.Value.{ReadyValue}
 use Rattle.write_items.specs.Items.{ItemsFit, AttributeFit, AttributeSent, InstructionSent}
@@ -67,7 +67,7 @@ module _ {s w : List ℕ} {st : State} {learned : Bool} {name : ℕ} where
 -- Strings that were written leave all ready for the next.
 pub behind : {a : Alignment} {is : List Item} {s w s′ w′ : List ℕ} {st st′ : State} {n : ℕ} → Ready s w st → st .at + 65536 * length is ≤ midway
     → Sending a is s w st s′ w′ n st′ → n ≡ 0 → Ready s′ w′ st′
-behind h early f z = wrote-ready h (f .wrote z) (omega (arith, f .wrote z .near))
+behind h early f z = wrote-ready h (sent-wrote f z) (omega (arith, sent-wrote f z .near))
 
 -- ---- an attribute
 
@@ -80,17 +80,26 @@ module _ {a : Alignment} {q : QName Text} {st : State} {learned : Bool} {s w s�
   pub name-refused : {v : Text} → NameRow q w′ sent → (sent .number ≡ 0 → ⊥) → AttributeSent a q v learned s w st s′ w′ sent
   name-refused {v} r h = record { sent = sending-refused first (item (value q) v ∷ []) (omega arith); row = r }
 
-  pub value-behind : {v : Text} {s″ w″ : List ℕ} {k : ℕ} {st″ : State} → NameRow q w′ sent → sent .number ≡ 0
-      → Sending a (item (value (nameAt (writerMemory w′) (sent .row))) v ∷ []) s′ w′ (sent .state) s″ w″ k st″
-      → AttributeSent a q v learned s w st s″ w″ (record { number = k; row = sent .row; state = st″ })
-  value-behind r z last =
-      record {
-        sent = sending-then first z (rw (r .is z) at last);
-        row = record {
-          below = λ y. omega (arith, r .below z, last .wrote y .kept .moreNames);
-          is = λ y. last .wrote y .kept .names (sent .row) (r .below z) ∙ r .is z;
-        };
-      }
+  module _ {v : Text} {s″ w″ : List ℕ} {k : ℕ} {st″ : State} (r : NameRow q w′ sent) (z : sent .number ≡ 0)
+      (last : Sending a (item (value (nameAt (writerMemory w′) (sent .row))) v ∷ []) s′ w′ (sent .state) s″ w″ k st″) where
+    pub value-refused : {row : ℕ} → (k ≡ 0 → ⊥) → row ≡ 0 → AttributeSent a q v learned s w st s″ w″ (record { number = k; row = row; state = st″ })
+    value-refused h e =
+        record {
+          sent = sending-then first z (rw (r .is z) at last);
+          row = record { below = λ y. absurd (h y); is = λ y. absurd (h y); refused = λ _. e };
+        }
+
+    pub value-behind : k ≡ 0 → AttributeSent a q v learned s w st s″ w″ (record { number = k; row = sent .row; state = st″ })
+    value-behind y =
+        let kept = sent-wrote last y .kept in
+        record {
+          sent = sending-then first z (rw (r .is z) at last);
+          row = record {
+            below = λ _. omega (arith, r .below z, kept .moreNames);
+            is = λ _. kept .names (sent .row) (r .below z) ∙ r .is z;
+            refused = λ l. absurd (omega arith);
+          };
+        }
 
 -- ---- a processing instruction
 
@@ -100,6 +109,6 @@ module _ {x y : Text} {st : State} {s w s′ w′ : List ℕ} {n : ℕ} {st′ :
   target-refused h e = record { sent = λ a. sending-refused (first a) (item plain y ∷ []) (omega arith); rowless = e }
 
   pub text-behind : {s″ w″ : List ℕ} {last : Sent} → n ≡ 0
-      → ((a : Alignment) → Sending a (item plain y ∷ []) s′ w′ st′ s″ w″ (last .number) (last .state)) → Rowless st′ last
+      → ((a : Alignment) → Sending a (item plain y ∷ []) s′ w′ st′ s″ w″ (last .number) (last .state)) → last .row ≡ 0
       → InstructionSent x y s w st s″ w″ last
-  text-behind z last r = record { sent = λ a. sending-then (first a) z (last a); rowless = r .row }
+  text-behind z last r = record { sent = λ a. sending-then (first a) z (last a); rowless = r }

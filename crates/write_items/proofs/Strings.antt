@@ -5,7 +5,7 @@ use native.Mathlib.Decide.{decLe}
 use mathlib.Core.Path.{_≡_, refl, sym, subst}
 use mathlib.Core.Bool.{Bool, true, false, not, _||_}
 use mathlib.Core.List.{List, [], _∷_}
-use mathlib.Core.Option.{some}
+use mathlib.Core.Option.{some, Option·some-ne-none}
 use mathlib.Core.Logic.{inl, inr}
 use lib.ListN.{getD}
 use lib.Dec.{T, eqb}
@@ -20,8 +20,7 @@ use Rattle.format.specs.Event.{QName, Event, endElement, startElement, attribut
 use Rattle.format.specs.Sizes.{maxNames}
 use Rattle.format.specs.Tables.{value, plain}
 use Rattle.format.specs.Grammar.{kindNumber, isWildcard, productionFor, unnamed}
-use Rattle.format.specs.Context.{Item, item, nameItems, items, afterItems, characterRole}
-use Rattle.format.specs.Strict.{itemsBits}
+use Rattle.format.specs.Context.{Item, item, nameItems, items, characterRole}
 use Rattle.format.specs.Writer.{firstFailed, contentTests}
 use Rattle.layout.specs.Meaning.{nameAt}
 use Rattle.layout.specs.Writer.{writerMemory}
@@ -30,16 +29,15 @@ use Rattle.state.specs.Stack.{topOf}
 use Rattle.state.specs.declared.State.{State}
 use Rattle.standing.specs.Standing.{countsOf, contextOf, Standing}
 use Rattle.standing.proofs.Laws.{startTag-state, elementContent-state, top-below}
-use Rattle.standing.proofs.Kept.{kept-refl}
 use Rattle.literal.proofs.Laws.{none-fault}
 use Rattle.write_form.specs.declared.Sent.{Sent}
-use Rattle.sending.specs.Sending.{Ready, Wrote, Sending}
+use Rattle.sending.specs.Sending.{Ready, passed, Wrote, Sending}
+use Rattle.sending.proofs.Items.{wrote-nothing, sent-wrote}
 use Rattle.write_name.specs.Name.{NameRow, nameAs}
 use Rattle.event.specs.Cells.{meaning}
 use Rattle.event.specs.declared.Event as declared
 use Rattle.event.specs.declared.Event.the-variants.{StartDocument, EndDocument, StartElement, Attribute, EndElement, Characters, Comment, Instruction}
 use Rattle.event.proofs.Event.{the-type}
-use Rattle.write_field.proofs.Written.{put-nothing}
 use Rattle.write_items.specs.Items.{productionOf, ItemsFit, ItemsSent, AttributeSent, InstructionSent}
 
 -- ---- names
@@ -63,9 +61,11 @@ module _ {a : Alignment} {learned : Bool} {q : QName Text} {stream w stream′ w
   start-items x n =
       record {
         sent = rw (name-items learned (startElement q) false q refl) x;
-        small = λ z. row-small (x .wrote z) (n .below z);
+        small = λ z. row-small (sent-wrote x z) (n .below z);
         row = λ z l u. subst (λ p. Numbered (writerMemory w′) (countsOf (r .state)) (startElement p) (r .row)) (n .is z)
             (start-numbered (writerMemory w′) (countsOf (r .state)) (r .row) (n .below z));
+        nameless = λ no. absurd (Option·some-ne-none q no);
+        refused = n .refused;
       }
 
   pub attribute-items : {v : Text} → AttributeSent a q v learned stream w st stream′ w′ r → ItemsSent a learned (attribute q v) stream w st stream′ w′ r
@@ -73,9 +73,11 @@ module _ {a : Alignment} {learned : Bool} {q : QName Text} {stream w stream′ w
   attribute-items {v} x =
       record {
         sent = rw (name-items learned (attribute q v) true q refl) (x .sent);
-        small = λ z. row-small (x .sent .wrote z) (x .row .below z);
+        small = λ z. row-small (sent-wrote (x .sent) z) (x .row .below z);
         row = λ z l u. subst (λ p. Numbered (writerMemory w′) (countsOf (r .state)) (attribute p v) (r .row)) (x .row .is z)
             (attribute-numbered (writerMemory w′) (countsOf (r .state)) (r .row) v (x .row .below z));
+        nameless = λ no. absurd (Option·some-ne-none q no);
+        refused = x .row .refused;
       }
 
 -- ---- without a name
@@ -100,17 +102,27 @@ module _ {a : Alignment} {learned : Bool} {stream w stream′ w′ : List ℕ} {
         sent = rw (characters-role stand h) x;
         small = λ z. omega arith;
         row = λ z l u. rw rowless
-            (characters-numbered (writerMemory w′) (countsOf (r .state)) v (omega (arith, top-below stand h, x .wrote z .kept .moreNames)));
+            (characters-numbered (writerMemory w′) (countsOf (r .state)) v (omega (arith, top-below stand h, sent-wrote x z .kept .moreNames)));
+        nameless = λ _. rowless;
+        refused = λ _. rowless;
       }
 
   pub comment-items : {x : Text} → Sending a (item plain x ∷ []) stream w st stream′ w′ (r .number) (r .state) → r .row ≡ 0
       → ItemsSent a learned (comment x) stream w st stream′ w′ r
   unfolding items kindNumber kindOf
-  comment-items s rowless = record { sent = s; small = λ z. omega arith; row = λ z l u. absurd (omega arith) }
+  comment-items s rowless =
+      record { sent = s; small = λ z. omega arith; row = λ z l u. absurd (omega arith); nameless = λ _. rowless; refused = λ _. rowless }
 
   pub instruction-items : {x y : Text} → InstructionSent x y stream w st stream′ w′ r → ItemsSent a learned (instruction x y) stream w st stream′ w′ r
   unfolding items kindNumber kindOf
-  instruction-items s = record { sent = s .sent a; small = λ z. omega (arith, s .rowless); row = λ z l u. absurd (omega arith) }
+  instruction-items s =
+      record {
+        sent = s .sent a;
+        small = λ z. omega (arith, s .rowless);
+        row = λ z l u. absurd (omega arith);
+        nameless = λ _. s .rowless;
+        refused = λ _. s .rowless;
+      }
 
 -- ---- no string
 
@@ -120,12 +132,8 @@ bare-arm k (inr (inl h)) = rw h tt
 bare-arm k (inr (inr h)) = rw h tt
 
 nothing-sent : {a : Alignment} {s w : List ℕ} {st : State} → ((i : ℕ) → Fits w8 (getD s i 0)) → Ready s w st → Sending a [] s w st s w 0 st
-unfolding contentTests firstFailed itemsBits afterItems
-nothing-sent known ready =
-    record {
-      fault = sym none-fault;
-      wrote = λ z. record { put = put-nothing known (ready .blank); near = omega arith; tables = refl; kept = kept-refl (ready .tidy) };
-    }
+unfolding contentTests firstFailed passed
+nothing-sent known ready = record { fault = sym none-fault; wrote = wrote-nothing known ready refl refl refl }
 
 end-row : {s w : List ℕ} {st : State} {learned : Bool} {name : ℕ} → ItemsFit s w st learned name endElement
     → Numbered (writerMemory w) (countsOf st) endElement 0
@@ -136,7 +144,7 @@ module _ {a : Alignment} {learned : Bool} {name : ℕ} {s w : List ℕ} {st : St
   no-items : (e : Event Text) → ItemsFit s w st learned name e → items (contextOf (writerMemory w) st .state) (productionOf learned e) e ≡ []
       → (2 ≤ kindNumber (kindOf e) → Numbered (writerMemory w) (countsOf st) e 0)
       → ItemsSent a learned e s w st s w (record { number = 0; row = 0; state = st })
-  no-items e fit empty row = record { sent = rw empty (nothing-sent known (fit .ready)); small = λ z. omega arith; row = λ z l u. row l }
+  no-items e fit empty row = record { sent = rw empty (nothing-sent known (fit .ready)); small = λ z. omega arith; row = λ z l u. row l; nameless = λ _. refl; refused = λ _. refl }
 
   -- In the other arms of a `match` that has one for each kind with strings.
   pub other-items : (f : Span → Text) (e : declared.Event) → OneOf (0 ∷ 1 ∷ 4 ∷ []) (tagOf the-type e)

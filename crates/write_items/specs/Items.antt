@@ -1,12 +1,12 @@
--- What writing the strings of an event asks and leaves, in the definitions' terms. After a refusal octets and work memory, row and state are free:
--- `write` clears the first two, and `step` drops the others.
+-- What writing the strings of an event asks and leaves, in the definitions' terms.
 use Prim.Native.Nat.{ℕ, _+_, _≤_, _<_}
 use mathlib.Core.Path.{_≡_}
 use mathlib.Core.Bool.{Bool, true, cond, not}
 use mathlib.Core.List.{List, [], _∷_, _++_}
+use mathlib.Core.Option.{none}
 use Rattle.fields.specs.Field.{Alignment}
 use Rattle.text.specs.Text.{Text}
-use Rattle.format.specs.Event.{QName, Event, kindOf}
+use Rattle.format.specs.Event.{QName, Event, kindOf, nameOf}
 use Rattle.format.specs.Tables.{value, target, plain}
 use Rattle.format.specs.Grammar.{Production, kindNumber, productionFor, unnamed}
 use Rattle.format.specs.Context.{item, items}
@@ -35,9 +35,11 @@ pub record ItemsFit (stream w : List ℕ) (st : State) (learned : Bool) (name : 
 
 pub record ItemsSent (a : Alignment) (learned : Bool) (e : Event Text) (stream w : List ℕ) (st : State) (stream′ w′ : List ℕ) (r : Sent) : Type 0 where
   pub sent : Sending a (items (contextOf (writerMemory w) st .state) (productionOf learned e) e) stream w st stream′ w′ (r .number) (r .state)
-  -- the row of the event's name, or 0
+  -- the row of the event's name; 0 where it has none, and after a refusal
   pub small : r .number ≡ 0 → r .row < 65536
   pub row : r .number ≡ 0 → 2 ≤ kindNumber (kindOf e) → kindNumber (kindOf e) ≤ 5 → Numbered (writerMemory w′) (countsOf (r .state)) e (r .row)
+  pub nameless : nameOf e ≡ none → r .row ≡ 0
+  pub refused : 0 < r .number → r .row ≡ 0
 
 -- ---- an attribute
 

@@ -31,6 +31,9 @@ fn put_attribute(
     }
     let named = sent.state;
     let last = write_value::put_value(aligned, stream, named, sent.row, value, work);
+    if last.number != 0 {
+        return last;
+    }
     let state = last.state;
     Sent {
         number: last.number,

@@ -5,12 +5,14 @@ use mathlib.Core.Path.{_≡_, refl, sym, ap, _∙_}
 use mathlib.Core.Bool.{Bool, false}
 use mathlib.Core.List.{List, [], _∷_}
 use mathlib.Core.Option.{none}
-use lib.ListN.{length}
+use lib.ListN.{length, getD}
+use mir.Syntax.{w8}
+use mir.Val.{Fits}
 use borrow.Author.Tests.{eqb-true, ltb-true}
 use Rattle.fields.specs.Field.{Alignment}
 use Rattle.text.specs.Text.{Text}
 use Rattle.format.specs.Sizes.{maxNames, maxStore}
-use Rattle.format.specs.Tables.{namesOf, indexOf, uri, local, partitionsOf, hit, literal, hitOr, nameAllowed}
+use Rattle.format.specs.Tables.{namesOf, indexOf, uri, local, partitionsOf, literal, hitOr, nameAllowed}
 use Rattle.format.specs.Context.{item}
 use Rattle.rows.specs.declared.Found.{Found}
 use Rattle.rows.specs.declared.Found.the-variants.{At, Nothing}
@@ -59,11 +61,11 @@ module _ {s w : List ℕ} {st : State} {key : ℕ} {u : Text} {f : Found} (h : R
     name-is = cc (eqb-true (rowAt w namesAt row .key) key (hit-at names-list x answer e .is), h .is, text-at names-list x answer e)
 
     module _ {a : Alignment} {s′ : List ℕ} {sent : Sent} {allowed : Bool} (r : HitSent a x allowed 0 among number row s st s′ sent) where
-      hit-local : (attr : Bool) → allowed ≡ nameAllowed (local attr u) x
+      hit-local : ((i : ℕ) → Fits w8 (getD s i 0)) → (attr : Bool) → allowed ≡ nameAllowed (local attr u) x
           → Sending a (item (local attr u) x ∷ []) s w st s′ w (sent .number) (sent .state)
       unfolding partitionsOf
-      hit-local attr same =
-          hit-sent (local attr u) x (h .ready) (form-local (tablesOf w st) x attr u ∙ hit-form names-list x answer e 0 literal) refl
+      hit-local known attr same =
+          hit-sent (local attr u) x known (h .ready) (form-local (tablesOf w st) x attr u ∙ hit-form names-list x answer e 0 literal) refl
           (names-list .count ∙ sym c) few-names (rw same at r)
 
       local-found : NameRow (record { uri = u; local = x }) w sent
@@ -71,11 +73,12 @@ module _ {s w : List ℕ} {st : State} {key : ℕ} {u : Text} {f : Found} (h : R
           record {
             below = λ z. rw (r .done z .row-is, r .done z .state) (hit-at names-list x answer e .below);
             is = λ z. rw (r .done z .row-is) name-is;
+            refused = λ l. r .refused l .0;
           }
 
-      pub local-hit : (attr : Bool) → allowed ≡ nameAllowed (local attr u) x
+      pub local-hit : ((i : ℕ) → Fits w8 (getD s i 0)) → (attr : Bool) → allowed ≡ nameAllowed (local attr u) x
           → Sending a (item (local attr u) x ∷ []) s w st s′ w (sent .number) (sent .state) × NameRow (record { uri = u; local = x }) w sent
-      local-hit attr same = (hit-local attr same, local-found)
+      local-hit known attr same = (hit-local known attr same, local-found)
 
 -- ---- a literal
 
@@ -108,25 +111,33 @@ module _ {s w : List ℕ} {st : State} {key : ℕ} {u : Text} (h : ReadyLocal s 
           (entered-grows w st x (h .ready .room) few namesAt (st .names) key name-before e)
           (entered-row w st x (h .ready .room) few namesAt (st .names) key name-before e))
 
-    new-local : {a : Alignment} (attr : Bool) → allowed ≡ nameAllowed (local attr u) x
-        → Sending a (item (local attr u) x ∷ []) s w st s′ w′ (sent .number) (withNames (sent .state) (st .names + 1))
+    new-local : {a : Alignment} {st′ : State} → ((i : ℕ) → Fits w8 (getD s i 0)) → (attr : Bool) → allowed ≡ nameAllowed (local attr u) x
+        → (sent .number ≡ 0 → st′ ≡ withNames (sent .state) (st .names + 1)) → (0 < sent .number → st′ ≡ sent .state)
+        → Sending a (item (local attr u) x ∷ []) s w st s′ w′ (sent .number) st′
     unfolding partitionsOf hitOr
-    new-local attr same =
-        entry-sent (local attr u) x (h .ready) refl (form-local (tablesOf w st) x attr u ∙ rw lacks) namesAt (st .names) maxNames key
+    new-local known attr same more still =
+        entry-sent (local attr u) x (h .ready) refl (form-local (tablesOf w st) x attr u ∙ rw lacks) known namesAt (st .names) maxNames key
         (λ few. within-local (tablesOf w st) x (within-tables (h .ready .tidy .sized)) few attr u ∙ rw (length-names (writerMemory w) (countsOf st)))
-        (λ few left e. local-after few left e attr) (ap (λ (q : State). withNames q (st .names + 1))) refl (omega arith) (omega arith) (rw same at f)
+        (λ few left e. local-after few left e attr) (λ z e. more z ∙ ap (λ (q : State). withNames q (st .names + 1)) e) still
+        (omega arith) (omega arith) (rw same at f)
 
-    local-row : NameRow (record { uri = u; local = x }) w′
-        (record { number = sent .number; row = sent .row; state = withNames (sent .state) (st .names + 1) })
-    local-row =
+    local-row : {st′ : State} → (sent .number ≡ 0 → st′ ≡ withNames (sent .state) (st .names + 1))
+        → NameRow (record { uri = u; local = x }) w′ (record { number = sent .number; row = sent .row; state = st′ })
+    local-row more =
         record {
-          below = λ z. omega (arith, f .row z);
+          below = λ z. rw (more z) (omega (arith, f .row z));
           is = λ z. let ok = sound (f .fault) z in
               rw (f .row z) (local-is (ok .store refl) (ltb-true (st .names) maxNames (ok .row)) (f .done z .work));
+          refused = λ l. f .refused l .0;
         }
 
-    pub local-entry : {a : Alignment} (attr : Bool) → allowed ≡ nameAllowed (local attr u) x
-        → Sending a (item (local attr u) x ∷ []) s w st s′ w′ (sent .number) (withNames (sent .state) (st .names + 1))
-        × NameRow (record { uri = u; local = x }) w′
-        (record { number = sent .number; row = sent .row; state = withNames (sent .state) (st .names + 1) })
-    local-entry attr same = (new-local attr same, local-row)
+    module _ {a : Alignment} (known : (i : ℕ) → Fits w8 (getD s i 0)) (attr : Bool) (same : allowed ≡ nameAllowed (local attr u) x) where
+      pub local-entry : sent .number ≡ 0
+          → Sending a (item (local attr u) x ∷ []) s w st s′ w′ (sent .number) (withNames (sent .state) (st .names + 1))
+          × NameRow (record { uri = u; local = x }) w′
+          (record { number = sent .number; row = sent .row; state = withNames (sent .state) (st .names + 1) })
+      local-entry z = (new-local known attr same (λ _. refl) (λ l. absurd (omega arith)), local-row (λ _. refl))
+
+      pub local-refused : (sent .number ≡ 0 → ⊥)
+          → Sending a (item (local attr u) x ∷ []) s w st s′ w′ (sent .number) (sent .state) × NameRow (record { uri = u; local = x }) w′ sent
+      local-refused h = (new-local known attr same (λ z. absurd (h z)) (λ _. refl), local-row (λ z. absurd (h z)))

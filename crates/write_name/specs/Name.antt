@@ -4,7 +4,7 @@ use mathlib.Core.Path.{_≡_}
 use mathlib.Core.Bool.{Bool, true, false}
 use mathlib.Core.List.{List, [], _∷_}
 use mathlib.Core.Option.{Option, none, some}
-use Rattle.fields.specs.Refusal.{Refusal}
+use Rattle.fields.specs.Refusal.{Refusal, numberOf}
 use Rattle.text.specs.Text.{Text}
 use Rattle.format.specs.Event.{QName}
 use Rattle.format.specs.Tables.{uri, local, nameAllowed}
@@ -12,7 +12,7 @@ use Rattle.format.specs.Context.{Item}
 use Rattle.layout.specs.Meaning.{uriText, nameAt}
 use Rattle.layout.specs.Writer.{writerMemory}
 use Rattle.state.specs.declared.State.{State}
-use Rattle.literal.specs.Fault.{faultNumber, stringFault}
+use Rattle.literal.specs.Fault.{stringFault}
 use Rattle.write_form.specs.Form.{midway}
 use Rattle.write_form.specs.declared.Sent.{Sent}
 use Rattle.sending.specs.Sending.{Ready}
@@ -34,10 +34,11 @@ pub record ReadyName (stream w : List ℕ) (st : State) (learned : Bool) (name :
 
 -- ---- what is left
 
--- The row that a name then has. `put_name` says no more of row and state: after a refusal they are free.
+-- The row that a name then has; 0 after a refusal.
 pub record NameRow (q : QName Text) (w′ : List ℕ) (r : Sent) : Type 0 where
   pub below : r .number ≡ 0 → r .row < r .state .names
   pub is : r .number ≡ 0 → nameAt (writerMemory w′) (r .row) ≡ q
+  pub refused : 0 < r .number → r .row ≡ 0
 
 -- The two parts of a name, written or not.
 unfoldable pub nameAs : Bool → Bool → QName Text → List Item
@@ -50,11 +51,11 @@ unfoldable pub firstOf : Option Refusal → Option Refusal → Option Refusal
 firstOf none l = l
 firstOf (some k) l = some k
 
--- A name that is not written: what is wrong with its two parts.
-unfoldable pub skipped : State → Bool → Text → Text → ℕ → Sent
-skipped st attr u x name =
-    record {
-      number = faultNumber (firstOf (stringFault u false (st .stored) true true) (stringFault x false (st .stored) (nameAllowed (local attr u) x) true));
-      row = name;
-      state = st;
-    }
+-- What is wrong with a name that is not written.
+unfoldable pub nameFault : State → Bool → Text → Text → Option Refusal
+nameFault st attr u x = firstOf (stringFault u false (st .stored) true true) (stringFault x false (st .stored) (nameAllowed (local attr u) x) true)
+
+-- The answer for such a name: the row that it has, or its refusal.
+unfoldable pub skipped : State → ℕ → Option Refusal → Sent
+skipped st name none = record { number = 0; row = name; state = st }
+skipped st name (some k) = record { number = numberOf k; row = 0; state = st }

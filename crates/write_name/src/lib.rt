@@ -8,8 +8,8 @@ ghost use Rattle.format.specs.Sizes.{maxStore};
 ghost use Rattle.format.specs.Tables.{uri, local};
 ghost use Rattle.format.specs.Context.{item};
 ghost use Rattle.read_field.specs.View.{alignmentOf};
-ghost use Rattle.sending.specs.Sending.{Sending, Unmoved};
-ghost use Rattle.write_name.specs.Name.{ReadyLocal, ReadyName, NameRow, nameAs, skipped};
+ghost use Rattle.sending.specs.Sending.{Sending};
+ghost use Rattle.write_name.specs.Name.{ReadyLocal, ReadyName, NameRow, nameAs, nameFault, skipped};
 use layout::NAMES;
 use rows::Found;
 use state::State;
@@ -29,7 +29,6 @@ pub fn put_local(
     requires { ⌜ ReadyLocal (now stream) (now work) st key (now uri) ⌝ }
     ensures { λ r. ⌜ Sending (alignmentOf aligned) (item (local attr (now (uri .entry))) (now (x .entry)) ∷ []) (now (stream .entry)) (now (work .entry)) st (now (stream .exit)) (now (work .exit)) (r .number) (r .state) ⌝ }
     ensures { λ r. ⌜ NameRow (record { uri = now (uri .entry); local = now (x .entry) }) (now (work .exit)) r ⌝ }
-    ensures { λ r. ⌜ Unmoved st r ⌝ }
 {
     let allowed = names::local_allowed(attr, uri, x);
     let n = st.names;
@@ -57,13 +56,13 @@ pub fn put_local(
 // A name that a learned production carries: it is judged and not written.
 fn skip_name(st: State, attr: bool, uri: &[u32], local: &[u32], name: u32) -> Sent
     requires { ⌜ st .stored ≤ maxStore ⌝ }
-    ensures { λ r. ⌜ r ≡ skipped st attr (now (uri .entry)) (now (local .entry)) name ⌝ }
+    ensures { λ r. ⌜ r ≡ skipped st name (nameFault st attr (now (uri .entry)) (now (local .entry))) ⌝ }
 {
     let first = literal::fault(uri, false, st.stored, true, true);
     if first != 0 {
         return Sent {
             number: first,
-            row: name,
+            row: 0,
             state: st,
         };
     }
@@ -74,8 +73,15 @@ fn skip_name(st: State, attr: bool, uri: &[u32], local: &[u32], name: u32) -> Se
         names::local_allowed(attr, uri, local),
         true,
     );
+    if second != 0 {
+        return Sent {
+            number: second,
+            row: 0,
+            state: st,
+        };
+    }
     Sent {
-        number: second,
+        number: 0,
         row: name,
         state: st,
     }

@@ -9,7 +9,7 @@ use borrow.Author.Tests.{ltb-true}
 use Rattle.fields.specs.Field.{Alignment, choiceBits}
 use Rattle.text.specs.Text.{Text}
 use Rattle.format.specs.Sizes.{maxUris, maxString}
-use Rattle.format.specs.Tables.{uri, partitionsOf, hit, literal, hitOr, formOf, formBits, nameAllowed}
+use Rattle.format.specs.Tables.{uri, partitionsOf, literal, hitOr, formOf, formBits, nameAllowed}
 use Rattle.format.specs.Context.{item}
 use Rattle.rows.specs.declared.Found.{Found}
 use Rattle.rows.specs.declared.Found.the-variants.{At, Nothing}
@@ -32,7 +32,7 @@ use Rattle.layout.proofs.Writer.{storeAt-is, store-ends}
 use Rattle.literal.proofs.Laws.{Passed}
 use Rattle.write_field.proofs.Written.{put-then, put-blank}
 use Rattle.write_form.proofs.Laws.{string-length}
-use Rattle.sending.specs.Sending.{tablesOf, Ready, Sending}
+use Rattle.sending.specs.Sending.{tablesOf, Ready, Wrote, Sending}
 use Rattle.sending.proofs.Forms.{recounted, hit-sending, LiteralPut, literal-sending}
 use Rattle.sending.proofs.Hits.{index-none, hit-form, hit-at, text-at, below-count, count-few}
 use Rattle.sending.proofs.Memory.{entered-grows, entered-row}
@@ -61,15 +61,16 @@ module _ {s w : List ℕ} {st : State} {f : Found} (h : Ready s w st) (x : Text)
 
     pub uri-hit : {a : Alignment} {s′ : List ℕ} {st′ : State} {n : ℕ} → n ≡ faultNumber (stringFault x false (st .stored) true true)
         → (n ≡ 0 → Put s (st .at) (choiceBits a (st .uris + 1) (number + 1)) s′ (st′ .at)) → (n ≡ 0 → st′ ≡ moved st (st′ .at) (st .stored))
-        → Sending a (item uri x ∷ []) s w st s′ w n st′
+        → (0 < n → Wrote a [] s w st s′ w st′) → Sending a (item uri x ∷ []) s w st s′ w n st′
     unfolding partitionsOf formBits nameAllowed
-    uri-hit {a} fault put state =
+    uri-hit {a} fault put state still =
         hit-sending uri x h (form-uri (tablesOf w st) x ∙ hit-form uris-list x answer e 0 literal) fault
         (λ z. record {
           put = rw (length-uris (writerMemory w) (countsOf st), ← add-one (st .uris), ← add-one number) (put z);
           near = omega (arith, put z .next, choice-length a (st .uris + 1) (number + 1) (uri-asks .few));
           state = state z;
         })
+        still
 
     pub uri-found : (row < st .uris) × (uriText (writerMemory w) row ≡ x)
     unfolding uriText
@@ -94,12 +95,12 @@ module _ {s w : List ℕ} {st : State} {x : Text} (h : NewUri s w st x) where
   pub new-uri-sending : {a : Alignment} {s′ w′ : List ℕ} {st′ : State} {number : ℕ}
       → number ≡ faultNumber (stringFault x true (st .stored) true (ltb (st .uris) maxUris))
       → (number ≡ 0 → LiteralPut a uri x (st .uris + 1) (st .names) (st .values) s w st s′ w′ st′)
-      → Sending a (item uri x ∷ []) s w st s′ w′ number st′
+      → (0 < number → Wrote a [] s w st s′ w′ st′) → Sending a (item uri x ∷ []) s w st s′ w′ number st′
   unfolding nameAllowed
-  new-uri-sending f p =
+  new-uri-sending f p still =
       literal-sending uri x (h .ready) new-uri-form f
       (λ few. within-uri (tablesOf w st) x (within-tables (h .ready .tidy .sized)) few ∙ rw (length-uris (writerMemory w) (countsOf st)))
-      (λ z ok. p z)
+      (λ z ok. p z) still
 
   -- It passed, and its place in the table is written before it.
   module _ (a : Alignment) {mid : List ℕ} {p : ℕ} (ok : Passed x true (st .stored) true (ltb (st .uris) maxUris))

@@ -15,7 +15,8 @@ pub record NewUri (stream w : List ℕ) (st : State) (x : Text) : Type 0 where
   pub ready : Ready stream w st
   pub new : indexOf (tablesOf w st .uris) x ≡ none
 
--- The row that a URI then has.
+-- The row that a URI then has; 0 after a refusal.
 pub record UriRow (x : Text) (w′ : List ℕ) (r : Sent) : Type 0 where
   pub below : r .number ≡ 0 → r .row < r .state .uris
   pub is : r .number ≡ 0 → uriText (writerMemory w′) (r .row) ≡ x
+  pub refused : 0 < r .number → r .row ≡ 0

@@ -4,7 +4,7 @@ ghost use mathlib.Core.List.{[], _∷_};
 ghost use Rattle.format.specs.Tables.{uri};
 ghost use Rattle.format.specs.Context.{item};
 ghost use Rattle.read_field.specs.View.{alignmentOf};
-ghost use Rattle.sending.specs.Sending.{Ready, Sending, Unmoved};
+ghost use Rattle.sending.specs.Sending.{Ready, Sending};
 ghost use Rattle.write_uri.specs.Uri.{NewUri, UriRow};
 use layout::URIS;
 use rows::Found;
@@ -16,7 +16,6 @@ fn put_new_uri(aligned: bool, stream: &mut [u8], st: State, x: &[u32], work: &mu
     requires { ⌜ NewUri (now stream) (now work) st (now x) ⌝ }
     ensures { λ r. ⌜ Sending (alignmentOf aligned) (item uri (now (x .entry)) ∷ []) (now (stream .entry)) (now (work .entry)) st (now (stream .exit)) (now (work .exit)) (r .number) (r .state) ⌝ }
     ensures { λ r. ⌜ UriRow (now (x .entry)) (now (work .exit)) r ⌝ }
-    ensures { λ r. ⌜ Unmoved st r ⌝ }
 {
     let number = literal::fault(x, true, st.stored, true, st.uris < 16);
     if number != 0 {
@@ -42,7 +41,6 @@ pub fn put_uri(aligned: bool, stream: &mut [u8], st: State, x: &[u32], work: &mu
     requires { ⌜ Ready (now stream) (now work) st ⌝ }
     ensures { λ r. ⌜ Sending (alignmentOf aligned) (item uri (now (x .entry)) ∷ []) (now (stream .entry)) (now (work .entry)) st (now (stream .exit)) (now (work .exit)) (r .number) (r .state) ⌝ }
     ensures { λ r. ⌜ UriRow (now (x .entry)) (now (work .exit)) r ⌝ }
-    ensures { λ r. ⌜ Unmoved st r ⌝ }
 {
     match rows::find(work, work, URIS, st.uris, true, 0, x) {
         Found::At { number, row } => {

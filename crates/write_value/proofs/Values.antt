@@ -4,7 +4,9 @@ use native.Mathlib.Omega.{arith}
 use mathlib.Core.Path.{_≡_, refl, sym, ap, _∙_}
 use mathlib.Core.Bool.{true, false}
 use mathlib.Core.List.{List, [], _∷_}
-use lib.ListN.{length}
+use lib.ListN.{length, getD}
+use mir.Syntax.{w8}
+use mir.Val.{Fits}
 use Rattle.fields.specs.Field.{Alignment}
 use Rattle.text.specs.Text.{Text, isEmpty}
 use Rattle.format.specs.Sizes.{maxValues, maxStore}
@@ -52,11 +54,11 @@ module _ {s w : List ℕ} {st : State} {key : ℕ} {f : Found} (h : ReadyValue s
     pub own-asks : HitSends s st 0 among number
     own-asks = hit-asks (h .ready) 0 (omega arith) few-own (omega (arith, below-count own-list x answer e))
 
-    pub own-hit : {a : Alignment} {s′ : List ℕ} {sent : Sent} → HitSent a x true 0 among number 0 s st s′ sent
+    pub own-hit : {a : Alignment} {s′ : List ℕ} {sent : Sent} → ((i : ℕ) → Fits w8 (getD s i 0)) → HitSent a x true 0 among number 0 s st s′ sent
         → Sending a (item (value (nameAt (writerMemory w) key)) x ∷ []) s w st s′ w (sent .number) (sent .state)
     unfolding partitionsOf nameAllowed
-    own-hit =
-        hit-sent (value (nameAt (writerMemory w) key)) x (h .ready)
+    own-hit known =
+        hit-sent (value (nameAt (writerMemory w) key)) x known (h .ready)
         (form-value (tablesOf w st) x (nameAt (writerMemory w) key) ∙ hit-form own-list x answer e 0 _) refl (own-list .count ∙ sym c) few-own
 
 -- ---- a value of another name
@@ -86,10 +88,10 @@ module _ {s w : List ℕ} {st : State} {key : ℕ} {x : Text} {f : Found} (h : O
     unfolding hitOr
     any-form = form-value (tablesOf w st) x (nameAt (writerMemory w) key) ∙ rw (h .other, index-some any-list x answer e)
 
-    pub any-hit : {a : Alignment} {s′ : List ℕ} {sent : Sent} → HitSent a x true 1 (st .values) number 0 s st s′ sent
+    pub any-hit : {a : Alignment} {s′ : List ℕ} {sent : Sent} → ((i : ℕ) → Fits w8 (getD s i 0)) → HitSent a x true 1 (st .values) number 0 s st s′ sent
         → Sending a (item (value (nameAt (writerMemory w) key)) x ∷ []) s w st s′ w (sent .number) (sent .state)
     unfolding partitionsOf nameAllowed
-    any-hit = hit-sent (value (nameAt (writerMemory w) key)) x (h .ready .ready) any-form refl any-count few-values
+    any-hit known = hit-sent (value (nameAt (writerMemory w) key)) x known (h .ready .ready) any-form refl any-count few-values
 
 -- ---- a literal
 
@@ -109,15 +111,16 @@ module _ {s w : List ℕ} {st : State} {key : ℕ} {x : Text} (h : NewValue s w 
   unfolding hitOr
   new-value-form = form-value (tablesOf w st) x (nameAt (writerMemory w) key) ∙ rw (h .there .other, h .new)
 
-  module _ {s′ w′ : List ℕ} {sent : Sent} {a : Alignment} where
-    pub value-entry : isEmpty x ≡ false → EntrySent 2 x true valuesAt (st .values) maxValues key s w st s′ w′ sent
-        → Sending a (item (value (nameAt (writerMemory w) key)) x ∷ []) s w st s′ w′ (sent .number) (withValues (sent .state) (st .values + 1))
+  module _ {s′ w′ : List ℕ} {sent : Sent} {a : Alignment} (known : (i : ℕ) → Fits w8 (getD s i 0)) where
+    pub value-entry : {st′ : State} → isEmpty x ≡ false → (sent .number ≡ 0 → st′ ≡ withValues (sent .state) (st .values + 1))
+        → (0 < sent .number → st′ ≡ sent .state) → EntrySent 2 x true valuesAt (st .values) maxValues key s w st s′ w′ sent
+        → Sending a (item (value (nameAt (writerMemory w) key)) x ∷ []) s w st s′ w′ (sent .number) st′
     unfolding partitionsOf nameAllowed
-    value-entry full =
-        entry-sent (value (nameAt (writerMemory w) key)) x ready refl new-value-form valuesAt (st .values) maxValues key
+    value-entry full more same =
+        entry-sent (value (nameAt (writerMemory w) key)) x ready refl new-value-form known valuesAt (st .values) maxValues key
         (λ few. within-value (tablesOf w st) x (within-tables (ready .tidy .sized)) few (nameAt (writerMemory w) key) full
         ∙ rw (length-values (writerMemory w) (countsOf st)))
-        after (ap (λ (q : State). withValues q (st .values + 1))) refl (omega arith) (omega arith)
+        after (λ z e. more z ∙ ap (λ (q : State). withValues q (st .values + 1)) e) same (omega arith) (omega arith)
       where
         after : st .stored + length x ≤ maxStore → st .values < maxValues → w′ ≡ entered w st x valuesAt (st .values) key
             → After (writerMemory w) (writerMemory w′) (countsOf st)
@@ -133,6 +136,6 @@ module _ {s w : List ℕ} {st : State} {key : ℕ} {x : Text} (h : NewValue s w 
         → Sending a (item (value (nameAt (writerMemory w) key)) x ∷ []) s w st s′ w′ (sent .number) (sent .state)
     unfolding partitionsOf nameAllowed
     empty-value e =
-        text-sent (value (nameAt (writerMemory w) key)) x ready refl new-value-form
+        text-sent (value (nameAt (writerMemory w) key)) x ready refl new-value-form known
         (λ few. within-empty (tablesOf w st) x (within-tables (ready .tidy .sized)) few (nameAt (writerMemory w) key) e)
         (λ few. after-empty (ready .tidy) few (nameAt (writerMemory w) key) e)

@@ -1,5 +1,6 @@
 // Values, by the values of their name and by all values (EXI 7.3.3), and Strings by no table, written in the strict form; a value that is a literal joins
 // its tables. What the functions ask and leave is in specs/Value.antt, and in crates/sending/specs.
+ghost use mathlib.Core.Path.{_≡_};
 ghost use mathlib.Core.Bool.{cond};
 ghost use mathlib.Core.List.{[], _∷_};
 ghost use Rattle.fields.specs.Field.{Alignment};
@@ -8,7 +9,7 @@ ghost use Rattle.format.specs.Context.{item};
 ghost use Rattle.layout.specs.Meaning.{nameAt};
 ghost use Rattle.layout.specs.Writer.{writerMemory};
 ghost use Rattle.read_field.specs.View.{alignmentOf};
-ghost use Rattle.sending.specs.Sending.{Ready, Sending, Rowless};
+ghost use Rattle.sending.specs.Sending.{Ready, Sending};
 ghost use Rattle.write_value.specs.Value.{ReadyValue, OtherValue, NewValue};
 use layout::VALUES;
 use rows::Found;
@@ -19,7 +20,7 @@ use write_form::Sent;
 fn put_new_value(stream: &mut [u8], st: State, key: u32, x: &[u32], work: &mut [u32]) -> Sent
     requires { ⌜ NewValue (now stream) (now work) st key (now x) ⌝ }
     ensures { λ r. ⌜ ((a : Alignment) → Sending a (item (value (nameAt (writerMemory (now (work .entry))) key)) (now (x .entry)) ∷ []) (now (stream .entry)) (now (work .entry)) st (now (stream .exit)) (now (work .exit)) (r .number) (r .state)) ⌝ }
-    ensures { λ r. ⌜ Rowless st r ⌝ }
+    ensures { λ r. ⌜ r .row ≡ 0 ⌝ }
 {
     if x.len() == 0 {
         return write_form::send_text(stream, st, 2, x, true, work);
@@ -48,7 +49,7 @@ fn put_other_value(
 ) -> Sent
     requires { ⌜ OtherValue (now stream) (now work) st key (now x) ⌝ }
     ensures { λ r. ⌜ Sending (alignmentOf aligned) (item (value (nameAt (writerMemory (now (work .entry))) key)) (now (x .entry)) ∷ []) (now (stream .entry)) (now (work .entry)) st (now (stream .exit)) (now (work .exit)) (r .number) (r .state) ⌝ }
-    ensures { λ r. ⌜ Rowless st r ⌝ }
+    ensures { λ r. ⌜ r .row ≡ 0 ⌝ }
 {
     match rows::find(work, work, VALUES, st.values, true, 0, x) {
         Found::At { number, row } => write_form::send_hit(
@@ -77,7 +78,7 @@ pub fn put_value(
 ) -> Sent
     requires { ⌜ ReadyValue (now stream) (now work) st key ⌝ }
     ensures { λ r. ⌜ Sending (alignmentOf aligned) (item (value (nameAt (writerMemory (now (work .entry))) key)) (now (x .entry)) ∷ []) (now (stream .entry)) (now (work .entry)) st (now (stream .exit)) (now (work .exit)) (r .number) (r .state) ⌝ }
-    ensures { λ r. ⌜ Rowless st r ⌝ }
+    ensures { λ r. ⌜ r .row ≡ 0 ⌝ }
 {
     match rows::find(work, work, VALUES, st.values, false, key, x) {
         Found::At { number, row } => {
@@ -92,7 +93,7 @@ pub fn put_value(
 pub fn put_text(stream: &mut [u8], st: State, named: bool, x: &[u32], work: &mut [u32]) -> Sent
     requires { ⌜ Ready (now stream) (now work) st ⌝ }
     ensures { λ r. ⌜ ((a : Alignment) → Sending a (item (cond named target plain) (now (x .entry)) ∷ []) (now (stream .entry)) (now (work .entry)) st (now (stream .exit)) (now (work .exit)) (r .number) (r .state)) ⌝ }
-    ensures { λ r. ⌜ Rowless st r ⌝ }
+    ensures { λ r. ⌜ r .row ≡ 0 ⌝ }
 {
     let allowed = !named | names::target_allowed(x);
     write_form::send_text(stream, st, 0, x, allowed, work)

@@ -83,18 +83,20 @@ module _ {s : format.Settings} {xs : List Stored} {store : Text} {stream mid w :
     (ran : Ran s xs store mid w st after r) where
   module _ (k : Refusal) (i : ℕ) (e : writeEvents maxEvents s start store xs ≡ refused k i) where
     run-refused : (r .number ≡ numberOf k) × (r .index ≡ i)
-    run-refused = ran .refused-as k i (rw (b .context) e)
+    run-refused =
+        let is : r ≡ record { number = numberOf k; index = i; at = 0 } = ran .refused-as k i (rw (b .context) e) in
+        (ap (λ (x : Run). x .number) is, ap (λ (x : Run). x .index) is)
 
     answer-refused : writeList s xs store ≡ refused k i
     unfolding writeList asOctets
     answer-refused = rw e
 
   module _ (bs : Bits) (e : writeEvents maxEvents s start store xs ≡ accepted bs) where
-    run-accepted : (r .number ≡ 0) × Put mid (st .at) bs after (r .at)
+    run-accepted : (r .number ≡ 0) × (r .index ≡ 0) × Put mid (st .at) bs after (r .at)
     run-accepted = ran .accepted-as bs (rw (b .context) e)
 
     all-put : Put stream 0 (unpack (headerOf s) ++ bs) after (r .at)
-    all-put = put-then header (rw (b .there) at (run-accepted .1))
+    all-put = put-then header (rw (b .there) at (run-accepted .2))
 
     octets-are : (r .at + 7) / 8 ≡ length (pack (unpack (headerOf s) ++ bs))
     unfolding octetsFor

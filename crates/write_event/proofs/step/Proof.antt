@@ -7,6 +7,7 @@ use Rattle.learning.proofs.Growth.{grow-writer, grow-asks}
 use Rattle.settings.specs.Meant.{settingsFrom}
 use Rattle.format.specs.Grammar.{kindNumber}
 use Rattle.write_event.proofs.Assembly.{shape-step, place-step, content-step, limit-step, done-step, items-ask, items-grow}
+use Rattle.write_event.proofs.Back.{grow-refused}
 use Rattle.write_event.proofs.Events.{same-kind}
 use Rattle.write_event.proofs.step.Statement.{statement}
 use Rattle.write_event.proofs.step.Tie as tie
@@ -23,7 +24,7 @@ same-length-2 : tie.Need-same-length-2
 same-length-2 c = search needs
 
 returns : tie.Need-returns
-returns c = shape-step _ _ _ (c .before .before .before .before .put-event-code .ensures) (not-true _ (c .if1 .taken))
+returns c = shape-step _ _ (c .before .before .before .before .before .before .before .before .before .before .pre) (c .before .before .before .before .before .before .before .before .before .slice-known .given) (c .before .before .before .before .put-event-code .ensures) (not-true _ (c .if1 .taken))
 
 all-inside-requires : tie.Need-all-inside-requires
 all-inside-requires c κs = search needs
@@ -37,7 +38,7 @@ same-length-4 c = search needs
 returns-2 : tie.Need-returns-2
 returns-2 c =
     let coded = c .before .before in
-    place-step _ _ (coded .before .before .before .before .put-event-code .ensures .encoded (not-false _ (coded .if1 .left))) _
+    place-step _ _ (coded .before .before .before .before .put-event-code .ensures .encoded (not-false _ (coded .if1 .left)))
     (sym (c .before .all-inside .ensures) ∙ not-true _ (c .if2 .taken))
 
 put-items-requires : tie.Need-put-items-requires
@@ -54,16 +55,19 @@ same-length-6 : tie.Need-same-length-6
 same-length-6 c = search needs
 
 returns-3 : tie.Need-returns-3
+unfolding settingsFrom
 returns-3 c =
     let inside = c .before .before .before .before .before .before .before .before .before .before in
     let coded = inside .before .before in
-    content-step _ _ (coded .before .before .before .before .put-event-code .ensures .encoded (not-false _ (coded .if1 .left))) _
+    let code = coded .before .before .before .before in
+    content-step _ _ (code .put-event-code .ensures .encoded (not-false _ (coded .if1 .left))) (code .before .before .before .before .before .before .pre .standing)
     (sym (inside .before .all-inside .ensures) ∙ not-false _ (inside .if2 .left)) (c .before .before .before .before .before .before .put-items .ensures) (omega (arith, c .if3 .taken))
 
 kind-of-requires : tie.Need-kind-of-requires
 kind-of-requires c κs = search needs
 
 grow-requires : tie.Need-grow-requires
+unfolding settingsFrom
 grow-requires c κs =
     let sent = c .before .before .before .before .before .before .before .before .before in
     let coded = sent .before .before .before .before .before .before in
@@ -78,6 +82,7 @@ same-length-8 : tie.Need-same-length-8
 same-length-8 c = search needs
 
 returns-4 : tie.Need-returns-4
+unfolding settingsFrom
 returns-4 c =
     let grown = c .before .before .before .before in
     let whole = grown .before .before .before .before in
@@ -87,10 +92,11 @@ returns-4 c =
     let code = coded .before .before .before .before in
     let stand = code .before .before .before .before .before .before .pre .standing in
     let enc = code .put-event-code .ensures .encoded (not-false _ (coded .if1 .left)) in
-    limit-step _ _ enc _ (sym (inside .before .all-inside .ensures) ∙ not-false _ (inside .if2 .left)) (sent .put-items .ensures) stand (whole .if3 .left)
-    (grow-writer (items-grow enc (sent .put-items .ensures) stand (whole .if3 .left) (grown .before .before .kind-of .ensures ∙ sym (ap kindNumber (same-kind _ _))))
-    (grown .grow .ensures .0) (grown .grow .ensures .1))
+    let grows = items-grow enc (sent .put-items .ensures) stand (whole .if3 .left) (grown .before .before .kind-of .ensures ∙ sym (ap kindNumber (same-kind _ _))) in
+    limit-step _ _ enc stand (sym (inside .before .all-inside .ensures) ∙ not-false _ (inside .if2 .left)) (sent .put-items .ensures) (whole .if3 .left)
+    (grow-writer grows (grown .grow .ensures .0) (grown .grow .ensures .1))
     (not-true _ (c .if4 .taken))
+    (grow-refused grows (grown .grow .ensures .0) (grown .grow .ensures .1) (not-true _ (c .if4 .taken)))
 
 same-length-9 : tie.Need-same-length-9
 same-length-9 c = let sent = c .before .before .before .before .before .before .before .before .before .before .before .before .before .before .before in sent .put-items .kept .1 .0 ∙ sent .before .before .before .before .before .before .before .before .before .before .put-event-code .kept .1 .0
@@ -109,7 +115,7 @@ returns-5 c =
     let code = coded .before .before .before .before in
     let stand = code .before .before .before .before .before .before .pre .standing in
     let enc = code .put-event-code .ensures .encoded (not-false _ (coded .if1 .left)) in
-    done-step _ _ enc (sym (inside .before .all-inside .ensures) ∙ not-false _ (inside .if2 .left)) (sent .put-items .ensures) stand (whole .if3 .left)
+    done-step _ _ enc stand (sym (inside .before .all-inside .ensures) ∙ not-false _ (inside .if2 .left)) (sent .put-items .ensures) (whole .if3 .left)
     (grow-writer (items-grow enc (sent .put-items .ensures) stand (whole .if3 .left) (grown .before .before .kind-of .ensures ∙ sym (ap kindNumber (same-kind _ _))))
     (grown .grow .ensures .0) (grown .grow .ensures .1))
     (not-false _ (c .before .if4 .left))

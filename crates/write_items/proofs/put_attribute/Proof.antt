@@ -1,6 +1,6 @@
 -- `put_attribute` meets its contract.
 use borrow.Author.Needs.{needs}
-use Rattle.write_items.proofs.Sent.{value-fits, name-refused, value-behind}
+use Rattle.write_items.proofs.Sent.{value-fits, name-refused, value-refused, value-behind}
 use Rattle.write_items.proofs.put_attribute.Statement.{statement}
 use Rattle.write_items.proofs.put_attribute.Tie as tie
 
@@ -27,11 +27,28 @@ same-length-4 c = search needs
 
 returns-2 : tie.Need-returns-2
 returns-2 c =
+    value-refused
+    (c .before .before .before .before .before .before .before .before .before .before .before .before .before .before .before .before .put-name .ensures .0)
+    (c .before .before .before .before .before .before .before .before .before .before .before .before .before .before .before .before .put-name .ensures .1)
+    (c .before .before .before .before .before .before .before .before .before .before .if1 .left)
+    (c .before .before .before .before .before .before .put-value .ensures .0)
+    (c .if2 .taken)
+    (c .before .before .before .before .before .before .put-value .ensures .1)
+
+same-length-5 : tie.Need-same-length-5
+same-length-5 c = search needs
+
+same-length-6 : tie.Need-same-length-6
+same-length-6 c = search needs
+
+returns-3 : tie.Need-returns-3
+returns-3 c =
     value-behind
-    (c .before .before .before .before .before .before .before .before .before .before .before .before .before .before .before .put-name .ensures .0)
-    (c .before .before .before .before .before .before .before .before .before .before .before .before .before .before .before .put-name .ensures .1)
-    (c .before .before .before .before .before .before .before .before .before .if1 .left)
-    (c .before .before .before .before .before .put-value .ensures .0)
+    (c .before .before .before .before .before .before .before .before .before .before .before .before .before .before .before .before .before .put-name .ensures .0)
+    (c .before .before .before .before .before .before .before .before .before .before .before .before .before .before .before .before .before .put-name .ensures .1)
+    (c .before .before .before .before .before .before .before .before .before .before .before .if1 .left)
+    (c .before .before .before .before .before .before .before .put-value .ensures .0)
+    (c .before .if2 .left)
 
 pub put-attribute-spec : {M : Type 1} → statement M
 put-attribute-spec =
@@ -44,4 +61,7 @@ put-attribute-spec =
     put-value-requires
     same-length-3
     same-length-4
-    returns-2)
+    returns-2
+    same-length-5
+    same-length-6
+    returns-3)

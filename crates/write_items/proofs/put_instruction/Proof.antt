@@ -15,7 +15,7 @@ same-length-2 : tie.Need-same-length-2
 same-length-2 c = search needs
 
 returns : tie.Need-returns
-returns c = let first = c .before .before .before .before .before .before in target-refused (first .put-text .ensures .0) (c .if1 .taken) (first .put-text .ensures .1 .row)
+returns c = let first = c .before .before .before .before .before .before in target-refused (first .put-text .ensures .0) (c .if1 .taken) (first .put-text .ensures .1)
 
 put-text-requires-2 : tie.Need-put-text-requires-2
 put-text-requires-2 c κs =

@@ -125,7 +125,7 @@ returns-3 c =
     let e = text .before .before in
     let fit = rw (e .e3 .given .1) at (e .before .before .before .before .before .pre) in
     rw (e .e3 .given .1, ← (text .look-up6 .ensures .0))
-    (characters-items (fit .standing) (in-element fit) (rw (top .top .ensures) at (sent .put-value .ensures .0)) (sent .put-value .ensures .1 .row))
+    (characters-items (fit .standing) (in-element fit) (rw (top .top .ensures) at (sent .put-value .ensures .0)) (sent .put-value .ensures .1))
 
 same-length-7 : tie.Need-same-length-7
 same-length-7 c = search needs
@@ -138,7 +138,7 @@ unfolding mapEvent meaning asSpan
 returns-4 c =
     let sent = c .before .before .before .before in
     let text = sent .before .before .before in
-    rw (text .before .before .e4 .given .1, ← (text .look-up7 .ensures .0)) (comment-items (sent .put-text .ensures .0 _) (sent .put-text .ensures .1 .row))
+    rw (text .before .before .e4 .given .1, ← (text .look-up7 .ensures .0)) (comment-items (sent .put-text .ensures .0 _) (sent .put-text .ensures .1))
 
 same-length-9 : tie.Need-same-length-9
 same-length-9 c = search needs

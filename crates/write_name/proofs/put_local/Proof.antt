@@ -1,11 +1,10 @@
 -- `put_local` meets its contract.
 use native.Mathlib.Omega.{arith}
 use borrow.Author.Needs.{needs}
-use Rattle.sending.proofs.Forms.{refused-sending, hit-unmoved, entry-unmoved}
 use Rattle.layout.proofs.Sizes.{room-names}
 use Rattle.layout.specs.Layout.{urisAt, namesAt}
 use Rattle.format.specs.Sizes.{maxUris, maxNames}
-use Rattle.write_name.proofs.Locals.{local-entry-asks, local-entry, local-missing, local-asks, local-hit}
+use Rattle.write_name.proofs.Locals.{local-entry-asks, local-entry, local-refused, local-missing, local-asks, local-hit}
 use Rattle.write_name.proofs.put_local.Statement.{statement}
 use Rattle.write_name.proofs.put_local.Tie as tie
 
@@ -43,8 +42,7 @@ same-length-2 c = search needs
 returns : tie.Need-returns
 unfolding maxUris maxNames urisAt namesAt
 returns c =
-    let h = local-entry (c .before .before .before .before .before .before .before .before .before .before .before .before .before .before .before .before .before .before .pre) (c .before .before .before .before .before .before .before .before .before .before .before .before .before .before .before .before .before .before .args .x .now) (local-missing (c .before .before .before .before .before .before .before .before .before .before .before .before .before .before .before .before .before .before .pre) (c .before .before .before .before .before .before .before .before .before .before .before .before .before .before .before .before .before .before .args .x .now) (c .before .before .before .before .before .before .before .before .before .before .before .find .ensures) (c .before .before .before .before .before .before .before .before .before .enum-told .given .1)) (c .before .before .before .before .before .before .send-entry .ensures) (c .before .before .before .before .before .before .before .before .before .before .before .before .before .before .before .before .before .before .args .attr) (c .before .before .before .before .before .before .before .before .before .before .before .before .before .local-allowed .ensures) in
-    (refused-sending (c .if1 .taken) (h .0), (record { below = λ z. absurd (c .if1 .taken z); is = λ z. absurd (c .if1 .taken z) }, entry-unmoved (c .before .before .before .before .before .before .send-entry .ensures)))
+    local-refused (c .before .before .before .before .before .before .before .before .before .before .before .before .before .before .before .before .before .before .pre) (c .before .before .before .before .before .before .before .before .before .before .before .before .before .before .before .before .before .before .args .x .now) (local-missing (c .before .before .before .before .before .before .before .before .before .before .before .before .before .before .before .before .before .before .pre) (c .before .before .before .before .before .before .before .before .before .before .before .before .before .before .before .before .before .before .args .x .now) (c .before .before .before .before .before .before .before .before .before .before .before .find .ensures) (c .before .before .before .before .before .before .before .before .before .enum-told .given .1)) (c .before .before .before .before .before .before .send-entry .ensures) (c .before .before .before .before .before .before .before .before .before .before .before .before .before .before .before .before .before .slice-known .given) (c .before .before .before .before .before .before .before .before .before .before .before .before .before .before .before .before .before .before .args .attr) (c .before .before .before .before .before .before .before .before .before .before .before .before .before .local-allowed .ensures) (c .if1 .taken)
 
 add-t : tie.Need-add-t
 unfolding maxNames
@@ -59,8 +57,7 @@ same-length-4 c = search needs
 returns-2 : tie.Need-returns-2
 unfolding maxUris urisAt namesAt
 returns-2 c =
-    let h = local-hit (c .before .before .before .before .before .before .before .before .before .before .before .before .before .before .before .before .pre) (c .before .before .before .before .before .before .before .before .before .before .before .before .before .before .before .before .args .x .now) (c .before .before .before .before .before .before .before .before .before .find .ensures) (c .before .before .before .before .before .before .before .number .given .1) (c .before .before .before .before .count .ensures) (c .before .before .send-hit .ensures) (c .before .before .before .before .before .before .before .before .before .before .before .before .before .before .before .before .args .attr) (c .before .before .before .before .before .before .before .before .before .before .before .local-allowed .ensures) in
-    (h .0, (h .1, hit-unmoved (c .before .before .send-hit .ensures)))
+    local-hit (c .before .before .before .before .before .before .before .before .before .before .before .before .before .before .before .before .pre) (c .before .before .before .before .before .before .before .before .before .before .before .before .before .before .before .before .args .x .now) (c .before .before .before .before .before .before .before .before .before .find .ensures) (c .before .before .before .before .before .before .before .number .given .1) (c .before .before .before .before .count .ensures) (c .before .before .send-hit .ensures) (c .before .before .before .before .before .before .before .before .before .before .before .before .before .before .before .slice-known .given) (c .before .before .before .before .before .before .before .before .before .before .before .before .before .before .before .before .args .attr) (c .before .before .before .before .before .before .before .before .before .before .before .local-allowed .ensures)
 
 same-length-5 : tie.Need-same-length-5
 same-length-5 c = search needs
@@ -71,8 +68,7 @@ same-length-6 c = search needs
 returns-3 : tie.Need-returns-3
 unfolding maxUris maxNames urisAt namesAt
 returns-3 c =
-    let h = local-entry (c .before .before .before .before .before .before .before .before .before .before .before .before .before .before .before .before .before .before .before .pre) (c .before .before .before .before .before .before .before .before .before .before .before .before .before .before .before .before .before .before .before .args .x .now) (local-missing (c .before .before .before .before .before .before .before .before .before .before .before .before .before .before .before .before .before .before .before .pre) (c .before .before .before .before .before .before .before .before .before .before .before .before .before .before .before .before .before .before .before .args .x .now) (c .before .before .before .before .before .before .before .before .before .before .before .before .find .ensures) (c .before .before .before .before .before .before .before .before .before .before .enum-told .given .1)) (c .before .before .before .before .before .before .before .send-entry .ensures) (c .before .before .before .before .before .before .before .before .before .before .before .before .before .before .before .before .before .before .before .args .attr) (c .before .before .before .before .before .before .before .before .before .before .before .before .before .before .local-allowed .ensures) in
-    (h .0, (h .1, record { row = λ l. absurd (omega (arith, c .before .if1 .left)); state = λ l. absurd (omega (arith, c .before .if1 .left)) }))
+    local-entry (c .before .before .before .before .before .before .before .before .before .before .before .before .before .before .before .before .before .before .before .pre) (c .before .before .before .before .before .before .before .before .before .before .before .before .before .before .before .before .before .before .before .args .x .now) (local-missing (c .before .before .before .before .before .before .before .before .before .before .before .before .before .before .before .before .before .before .before .pre) (c .before .before .before .before .before .before .before .before .before .before .before .before .before .before .before .before .before .before .before .args .x .now) (c .before .before .before .before .before .before .before .before .before .before .before .before .find .ensures) (c .before .before .before .before .before .before .before .before .before .before .enum-told .given .1)) (c .before .before .before .before .before .before .before .send-entry .ensures) (c .before .before .before .before .before .before .before .before .before .before .before .before .before .before .before .before .before .before .slice-known .given) (c .before .before .before .before .before .before .before .before .before .before .before .before .before .before .before .before .before .before .before .args .attr) (c .before .before .before .before .before .before .before .before .before .before .before .before .before .before .local-allowed .ensures) (c .before .if1 .left)
 
 pub put-local-spec : {M : Type 1} → statement M
 put-local-spec =

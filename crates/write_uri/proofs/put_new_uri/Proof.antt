@@ -3,6 +3,7 @@ use native.Mathlib.Omega.{arith}
 use mathlib.Core.Path.{refl, sym, _∙_}
 use borrow.Author.Needs.{needs}
 use Rattle.write_form.proofs.Laws.{sound}
+use Rattle.sending.proofs.Items.{wrote-nothing}
 use Rattle.read_field.specs.View.{alignmentOf}
 use Rattle.layout.specs.Layout.{urisAt}
 use Rattle.format.specs.Sizes.{maxUris}
@@ -15,7 +16,7 @@ fault-requires c κs = search needs
 
 returns : tie.Need-returns
 unfolding maxUris
-returns c = (new-uri-sending (c .before .before .before .before .before .before .pre) (c .before .fault .ensures) (λ z. absurd (c .if1 .taken z)), (record { below = λ z. absurd (c .if1 .taken z); is = λ z. absurd (c .if1 .taken z) }, record { row = λ _. refl; state = λ _. refl }))
+returns c = (new-uri-sending (c .before .before .before .before .before .before .pre) (c .before .fault .ensures) (λ z. absurd (c .if1 .taken z)) (λ _. wrote-nothing (c .before .before .before .before .before .slice-known .given) (c .before .before .before .before .before .before .pre .ready) refl refl refl), record { below = λ z. absurd (c .if1 .taken z); is = λ z. absurd (c .if1 .taken z); refused = λ _. refl })
 
 cast-put-choice : tie.Need-cast-put-choice
 unfolding maxUris
@@ -48,7 +49,7 @@ same-length-2 c = search needs
 
 returns-2 : tie.Need-returns-2
 unfolding maxUris urisAt
-returns-2 c = (new-uri-sending (c .before .before .before .before .before .before .before .before .before .before .before .before .before .before .before .before .before .before .before .before .pre) (sym (c .before .before .before .before .before .before .before .before .before .before .before .before .before .before .if1 .left) ∙ c .before .before .before .before .before .before .before .before .before .before .before .before .before .before .before .fault .ensures) (λ _. new-uri-put (c .before .before .before .before .before .before .before .before .before .before .before .before .before .before .before .before .before .before .before .before .pre) (alignmentOf (c .before .before .before .before .before .before .before .before .before .before .before .before .before .before .before .before .before .before .before .before .args .aligned)) (sound (c .before .before .before .before .before .before .before .before .before .before .before .before .before .before .before .fault .ensures) (c .before .before .before .before .before .before .before .before .before .before .before .before .before .before .if1 .left)) (c .before .before .before .before .before .before .before .before .before .before .before .put-choice .ensures) (c .before .before .before .before .before .before .put-entry .ensures)), (record { below = λ _. omega arith; is = λ _. new-uri-is (c .before .before .before .before .before .before .before .before .before .before .before .before .before .before .before .before .before .before .before .before .pre) (alignmentOf (c .before .before .before .before .before .before .before .before .before .before .before .before .before .before .before .before .before .before .before .before .args .aligned)) (sound (c .before .before .before .before .before .before .before .before .before .before .before .before .before .before .before .fault .ensures) (c .before .before .before .before .before .before .before .before .before .before .before .before .before .before .if1 .left)) (c .before .before .before .before .before .before .before .before .before .before .before .put-choice .ensures) (c .before .before .before .before .before .before .put-entry .ensures) }, record { row = λ l. absurd (omega arith); state = λ l. absurd (omega arith) }))
+returns-2 c = (new-uri-sending (c .before .before .before .before .before .before .before .before .before .before .before .before .before .before .before .before .before .before .before .before .pre) (sym (c .before .before .before .before .before .before .before .before .before .before .before .before .before .before .if1 .left) ∙ c .before .before .before .before .before .before .before .before .before .before .before .before .before .before .before .fault .ensures) (λ _. new-uri-put (c .before .before .before .before .before .before .before .before .before .before .before .before .before .before .before .before .before .before .before .before .pre) (alignmentOf (c .before .before .before .before .before .before .before .before .before .before .before .before .before .before .before .before .before .before .before .before .args .aligned)) (sound (c .before .before .before .before .before .before .before .before .before .before .before .before .before .before .before .fault .ensures) (c .before .before .before .before .before .before .before .before .before .before .before .before .before .before .if1 .left)) (c .before .before .before .before .before .before .before .before .before .before .before .put-choice .ensures) (c .before .before .before .before .before .before .put-entry .ensures)) (λ l. absurd (omega arith)), record { below = λ _. omega arith; is = λ _. new-uri-is (c .before .before .before .before .before .before .before .before .before .before .before .before .before .before .before .before .before .before .before .before .pre) (alignmentOf (c .before .before .before .before .before .before .before .before .before .before .before .before .before .before .before .before .before .before .before .before .args .aligned)) (sound (c .before .before .before .before .before .before .before .before .before .before .before .before .before .before .before .fault .ensures) (c .before .before .before .before .before .before .before .before .before .before .before .before .before .before .if1 .left)) (c .before .before .before .before .before .before .before .before .before .before .before .put-choice .ensures) (c .before .before .before .before .before .before .put-entry .ensures); refused = λ l. absurd (omega arith) })
 
 pub put-new-uri-spec : {M : Type 1} → statement M
 put-new-uri-spec =

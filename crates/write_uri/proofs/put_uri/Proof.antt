@@ -3,6 +3,7 @@ use native.Mathlib.Omega.{arith}
 use mathlib.Core.Path.{refl, sym, _∙_}
 use borrow.Author.Needs.{needs}
 use Rattle.layout.proofs.Sizes.{room-uris}
+use Rattle.sending.proofs.Items.{wrote-nothing}
 use Rattle.layout.specs.Layout.{urisAt}
 use Rattle.format.specs.Sizes.{maxUris}
 use Rattle.write_uri.proofs.Uris.{uri-missing, uri-asks, uri-hit, uri-found}
@@ -24,7 +25,7 @@ same-length c = search needs
 
 returns : tie.Need-returns
 unfolding urisAt
-returns c = (uri-hit (c .before .before .before .before .before .before .before .before .before .before .pre) (c .before .before .before .before .before .before .before .before .before .before .args .x .now) (c .before .before .before .before .before .find .ensures) (c .before .before .before .number .given .1) (c .before .fault .ensures) (λ z. absurd (c .if1 .taken z)) (λ z. absurd (c .if1 .taken z)), (record { below = λ z. absurd (c .if1 .taken z); is = λ z. absurd (c .if1 .taken z) }, record { row = λ _. refl; state = λ _. refl }))
+returns c = (uri-hit (c .before .before .before .before .before .before .before .before .before .before .pre) (c .before .before .before .before .before .before .before .before .before .before .args .x .now) (c .before .before .before .before .before .find .ensures) (c .before .before .before .number .given .1) (c .before .fault .ensures) (λ z. absurd (c .if1 .taken z)) (λ z. absurd (c .if1 .taken z)) (λ _. wrote-nothing (c .before .before .before .before .before .before .before .before .before .slice-known .given) (c .before .before .before .before .before .before .before .before .before .before .pre) refl refl refl), record { below = λ z. absurd (c .if1 .taken z); is = λ z. absurd (c .if1 .taken z); refused = λ _. refl })
 
 cast-put-choice : tie.Need-cast-put-choice
 unfolding maxUris
@@ -57,7 +58,7 @@ same-length-3 c = search needs
 
 returns-2 : tie.Need-returns-2
 unfolding urisAt
-returns-2 c = (uri-hit (c .before .before .before .before .before .before .before .before .before .before .before .before .before .before .before .pre) (c .before .before .before .before .before .before .before .before .before .before .before .before .before .before .before .args .x .now) (c .before .before .before .before .before .before .before .before .before .before .find .ensures) (c .before .before .before .before .before .before .before .before .number .given .1) (sym (c .before .before .before .before .before .if1 .left) ∙ c .before .before .before .before .before .before .fault .ensures) (λ _. c .before .before .put-choice .ensures) (λ _. refl), (record { below = λ _. uri-found (c .before .before .before .before .before .before .before .before .before .before .before .before .before .before .before .pre) (c .before .before .before .before .before .before .before .before .before .before .before .before .before .before .before .args .x .now) (c .before .before .before .before .before .before .before .before .before .before .find .ensures) (c .before .before .before .before .before .before .before .before .number .given .1) .0; is = λ _. uri-found (c .before .before .before .before .before .before .before .before .before .before .before .before .before .before .before .pre) (c .before .before .before .before .before .before .before .before .before .before .before .before .before .before .before .args .x .now) (c .before .before .before .before .before .before .before .before .before .before .find .ensures) (c .before .before .before .before .before .before .before .before .number .given .1) .1 }, record { row = λ l. absurd (omega arith); state = λ l. absurd (omega arith) }))
+returns-2 c = (uri-hit (c .before .before .before .before .before .before .before .before .before .before .before .before .before .before .before .pre) (c .before .before .before .before .before .before .before .before .before .before .before .before .before .before .before .args .x .now) (c .before .before .before .before .before .before .before .before .before .before .find .ensures) (c .before .before .before .before .before .before .before .before .number .given .1) (sym (c .before .before .before .before .before .if1 .left) ∙ c .before .before .before .before .before .before .fault .ensures) (λ _. c .before .before .put-choice .ensures) (λ _. refl) (λ l. absurd (omega arith)), record { below = λ _. uri-found (c .before .before .before .before .before .before .before .before .before .before .before .before .before .before .before .pre) (c .before .before .before .before .before .before .before .before .before .before .before .before .before .before .before .args .x .now) (c .before .before .before .before .before .before .before .before .before .before .find .ensures) (c .before .before .before .before .before .before .before .before .number .given .1) .0; is = λ _. uri-found (c .before .before .before .before .before .before .before .before .before .before .before .before .before .before .before .pre) (c .before .before .before .before .before .before .before .before .before .before .before .before .before .before .before .args .x .now) (c .before .before .before .before .before .before .before .before .before .before .find .ensures) (c .before .before .before .before .before .before .before .before .number .given .1) .1; refused = λ l. absurd (omega arith) })
 
 same-length-4 : tie.Need-same-length-4
 same-length-4 c = search needs

@@ -4,7 +4,6 @@ use mathlib.Core.Path.{refl, _∙_}
 use lib.ListN.{length}
 use borrow.Author.Tests.{eq-eqb, ne-eqb}
 use borrow.Author.Needs.{needs}
-use Rattle.sending.proofs.Forms.{refused-sending, entry-unmoved, text-rowless}
 use Rattle.names.proofs.Laws.{is-empty}
 use Rattle.layout.specs.Layout.{urisAt, namesAt, valuesAt}
 use Rattle.format.specs.Sizes.{maxUris, maxNames, maxValues}
@@ -22,7 +21,7 @@ same-length-2 : tie.Need-same-length-2
 same-length-2 c = search needs
 
 returns : tie.Need-returns
-returns c = ((λ a. empty-value (c .before .before .before .before .before .before .before .before .before .before .before .pre) (is-empty (c .before .before .before .before .before .before .before .before .before .before .before .args .x .now) ∙ eq-eqb (length (c .before .before .before .before .before .before .before .before .before .before .before .args .x .now)) 0 (c .before .before .before .before .before .before .before .if1 .taken)) (c .before .before .before .before .send-text .ensures)), text-rowless (c .before .before .before .before .send-text .ensures))
+returns c = ((λ a. empty-value (c .before .before .before .before .before .before .before .before .before .before .before .pre) (c .before .before .before .before .before .before .before .before .before .before .slice-known .given) (is-empty (c .before .before .before .before .before .before .before .before .before .before .before .args .x .now) ∙ eq-eqb (length (c .before .before .before .before .before .before .before .before .before .before .before .args .x .now)) 0 (c .before .before .before .before .before .before .before .if1 .taken)) (c .before .before .before .before .send-text .ensures)), c .before .before .before .before .send-text .ensures .row)
 
 send-entry-requires : tie.Need-send-entry-requires
 unfolding maxUris maxNames maxValues urisAt namesAt valuesAt
@@ -37,8 +36,9 @@ same-length-4 c = search needs
 returns-2 : tie.Need-returns-2
 unfolding maxUris maxNames maxValues urisAt namesAt valuesAt
 returns-2 c =
-    let r = entry-unmoved (c .before .before .before .before .before .before .send-entry .ensures) in
-    ((λ a. refused-sending (c .if2 .taken) (value-entry (c .before .before .before .before .before .before .before .before .before .before .before .before .before .pre) (is-empty (c .before .before .before .before .before .before .before .before .before .before .before .before .before .args .x .now) ∙ ne-eqb (length (c .before .before .before .before .before .before .before .before .before .before .before .before .before .args .x .now)) 0 (c .before .before .before .before .before .before .before .before .before .if1 .left)) (c .before .before .before .before .before .before .send-entry .ensures))), record { row = r .row (omega (arith, c .if2 .taken)); state = r .state })
+    let sent = c .before .before .before .before .before .before in
+    let start = sent .before .before .before .before .before .before .before in
+    ((λ a. value-entry (start .pre) (c .before .before .before .before .before .before .before .before .before .before .before .before .slice-known .given) (is-empty (start .args .x .now) ∙ ne-eqb (length (start .args .x .now)) 0 (c .before .before .before .before .before .before .before .before .before .if1 .left)) (λ z. absurd (c .if2 .taken z)) (λ _. refl) (sent .send-entry .ensures)), sent .send-entry .ensures .refused (omega (arith, c .if2 .taken)) .0)
 
 add-t : tie.Need-add-t
 unfolding maxValues
@@ -52,7 +52,7 @@ same-length-6 c = search needs
 
 returns-3 : tie.Need-returns-3
 unfolding maxUris maxNames maxValues urisAt namesAt valuesAt
-returns-3 c = ((λ a. value-entry (c .before .before .before .before .before .before .before .before .before .before .before .before .before .before .before .pre) (is-empty (c .before .before .before .before .before .before .before .before .before .before .before .before .before .before .before .args .x .now) ∙ ne-eqb (length (c .before .before .before .before .before .before .before .before .before .before .before .before .before .before .before .args .x .now)) 0 (c .before .before .before .before .before .before .before .before .before .before .before .if1 .left)) (c .before .before .before .before .before .before .before .before .send-entry .ensures)), record { row = refl; state = λ l. absurd (omega (arith, c .before .before .if2 .left)) })
+returns-3 c = ((λ a. value-entry (c .before .before .before .before .before .before .before .before .before .before .before .before .before .before .before .pre) (c .before .before .before .before .before .before .before .before .before .before .before .before .before .before .slice-known .given) (is-empty (c .before .before .before .before .before .before .before .before .before .before .before .before .before .before .before .args .x .now) ∙ ne-eqb (length (c .before .before .before .before .before .before .before .before .before .before .before .before .before .before .before .args .x .now)) 0 (c .before .before .before .before .before .before .before .before .before .before .before .if1 .left)) (λ _. refl) (λ l. absurd (omega (arith, c .before .before .if2 .left))) (c .before .before .before .before .before .before .before .before .send-entry .ensures)), refl)
 
 pub put-new-value-spec : {M : Type 1} → statement M
 put-new-value-spec =

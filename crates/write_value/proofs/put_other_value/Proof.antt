@@ -40,7 +40,7 @@ same-length-2 c = search needs
 
 returns : tie.Need-returns
 unfolding maxUris maxNames urisAt namesAt valuesAt
-returns c = (any-hit (c .before .before .before .before .before .before .before .before .before .before .before .before .before .pre) (c .before .before .before .before .before .before .before .before .find .ensures) (c .before .before .before .before .before .before .number .given .1) (c .before .before .send-hit .ensures), hit-rowless (c .before .before .send-hit .ensures))
+returns c = (any-hit (c .before .before .before .before .before .before .before .before .before .before .before .before .before .pre) (c .before .before .before .before .before .before .before .before .find .ensures) (c .before .before .before .before .before .before .number .given .1) (c .before .before .before .before .before .before .before .before .before .before .before .before .slice-known .given) (c .before .before .send-hit .ensures), hit-rowless (c .before .before .send-hit .ensures))
 
 same-length-3 : tie.Need-same-length-3
 same-length-3 c = search needs

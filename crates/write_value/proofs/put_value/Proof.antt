@@ -38,7 +38,7 @@ same-length-2 c = search needs
 
 returns : tie.Need-returns
 unfolding maxUris maxNames urisAt namesAt valuesAt
-returns c = (own-hit (c .before .before .before .before .before .before .before .before .before .before .before .before .before .before .pre) (c .before .before .before .before .before .before .before .before .before .before .before .before .before .before .args .x .now) (c .before .before .before .before .before .before .before .before .before .find .ensures) (c .before .before .before .before .before .before .before .number .given .1) (c .before .before .before .before .count .ensures) (c .before .before .send-hit .ensures), hit-rowless (c .before .before .send-hit .ensures))
+returns c = (own-hit (c .before .before .before .before .before .before .before .before .before .before .before .before .before .before .pre) (c .before .before .before .before .before .before .before .before .before .before .before .before .before .before .args .x .now) (c .before .before .before .before .before .before .before .before .before .find .ensures) (c .before .before .before .before .before .before .before .number .given .1) (c .before .before .before .before .count .ensures) (c .before .before .before .before .before .before .before .before .before .before .before .before .before .slice-known .given) (c .before .before .send-hit .ensures), hit-rowless (c .before .before .send-hit .ensures))
 
 same-length-3 : tie.Need-same-length-3
 same-length-3 c = search needs
