@@ -22,13 +22,14 @@ use Rattle.layout.proofs.Writer.{store-ends}
 use Rattle.state.specs.declared.State.{State}
 use Rattle.standing.specs.Standing.{countsOf}
 use Rattle.write_field.specs.Written.{Put}
-use Rattle.write_form.specs.Form.{moved, entered, TextSends, EntrySent, TextSent}
+use Rattle.write_form.specs.Form.{entered, TextSends, EntrySent, TextSent}
+use Rattle.state.specs.Changed.{moved, recounted}
 use Rattle.write_form.specs.declared.Sent.{Sent}
 use Rattle.write_form.proofs.Laws.{string-length}
 use Rattle.sending.specs.Sending.{tablesOf, Ready, Sending}
 use Rattle.sending.proofs.Items.{wrote-nothing}
 use Rattle.sending.proofs.Memory.{laid-grows}
-use Rattle.sending.proofs.Forms.{recounted, LiteralPut, literal-sending}
+use Rattle.sending.proofs.Forms.{LiteralPut, literal-sending}
 
 -- By partitions that are optimized for literals.
 module _ {a : Alignment} {s w s′ w′ : List ℕ} {st : State} {ess : List (List Placed)} (r : Role) (x : Text) (h : Ready s w st)

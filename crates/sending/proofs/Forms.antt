@@ -18,36 +18,21 @@ use Rattle.format.specs.Context.{item, afterItem}
 use Rattle.format.specs.Strict.{itemBits}
 use Rattle.format.specs.Lists.{withinTables}
 use Rattle.layout.specs.Writer.{writerMemory}
-use Rattle.layout.specs.Tidy.{Tidy}
 use Rattle.layout.proofs.Sizes.{length-text, within-tables}
 use Rattle.layout.proofs.Adding.{After, countsAfter}
 use Rattle.state.specs.declared.State.{State}
-use Rattle.standing.specs.Standing.{countsOf, Kept}
+use Rattle.standing.specs.Standing.{countsOf}
+use Rattle.standing.proofs.Kept.{kept-moved, kept-after}
 use Rattle.literal.specs.Fault.{faultNumber, stringFault}
 use Rattle.literal.proofs.Laws.{fault-kept, fault-added, Passed}
 use Rattle.write_field.specs.Written.{Put}
 use Rattle.write_field.proofs.Lengths.{unsigned-length, choice-length}
-use Rattle.write_form.specs.Form.{moved, HitSent}
+use Rattle.write_form.specs.Form.{HitSent}
+use Rattle.state.specs.Changed.{moved, recounted}
 use Rattle.write_form.specs.declared.Sent.{Sent}
 use Rattle.write_form.proofs.Laws.{sound}
 use Rattle.sending.specs.Sending.{tablesOf, Ready, Wrote, Sending}
 use Rattle.sending.proofs.Items.{wrote-nothing, one-bits, one-after, one-sending}
-
--- The state at another position, with other counts.
-abbrev pub recounted : State → (at stored uris names values : ℕ) → State
-recounted st at stored uris names values =
-    record {
-      at = at;
-      events = st .events;
-      stored = stored;
-      uris = uris;
-      names = names;
-      values = values;
-      learned = st .learned;
-      grammars = st .grammars;
-      mode = st .mode;
-      stack = st .stack;
-    }
 
 -- ---- a hit
 
@@ -65,25 +50,6 @@ pub record HitPut (a : Alignment) (r : Role) (x : Text) (j i : ℕ) (s w : List 
   pub put : Put s (st .at) (formBits a (partitionsOf (tablesOf w st) r) (hit j i) x) s′ (st′ .at)
   pub near : st′ .at ≤ st .at + 65536
   pub state : st′ ≡ moved st (st′ .at) (st .stored)
-
-kept-moved : {w : List ℕ} {st : State} (at : ℕ) → Tidy (writerMemory w) (countsOf st)
-    → Kept (writerMemory w) st (writerMemory w) (moved st at (st .stored))
-kept-moved at t =
-    record {
-      tidy = t;
-      size = refl;
-      uris = λ u b. refl;
-      names = λ n b. refl;
-      learned = refl;
-      grammars = refl;
-      moreUris = omega arith;
-      moreNames = omega arith;
-      sameEvents = refl;
-      sameLearned = refl;
-      sameGrammars = refl;
-      sameMode = refl;
-      sameStack = refl;
-    }
 
 module _ {a : Alignment} {s w s′ : List ℕ} {st st′ : State} {j i : ℕ} (r : Role) (x : Text) (h : Ready s w st)
     (e : formOf (partitionsOf (tablesOf w st) r) x ≡ hit j i) where
@@ -155,25 +121,6 @@ pub record LiteralPut (a : Alignment) (r : Role) (x : Text) (u n v : ℕ) (s w :
 
 module _ {a : Alignment} {s w s′ w′ : List ℕ} {st st′ : State} (r : Role) (x : Text) {u n v : ℕ} (h : Ready s w st)
     (e : formOf (partitionsOf (tablesOf w st) r) x ≡ literal) where
-  kept-literal : LiteralPut a r x u n v s w st s′ w′ st′
-      → Kept (writerMemory w) st (writerMemory w′) (recounted st (st′ .at) (st .stored + length x) u n v)
-  kept-literal p =
-      record {
-        tidy = p .after .tidy;
-        size = p .after .size;
-        uris = p .after .uris;
-        names = p .after .names;
-        learned = p .after .learned;
-        grammars = p .after .grammars;
-        moreUris = p .moreUris;
-        moreNames = p .moreNames;
-        sameEvents = refl;
-        sameLearned = refl;
-        sameGrammars = refl;
-        sameMode = refl;
-        sameStack = refl;
-      }
-
   literal-wrote : LiteralPut a r x u n v s w st s′ w′ st′ → Wrote a (item r x ∷ []) s w st s′ w′ st′
   literal-wrote p =
       let t : Tables = tablesOf w st in
@@ -181,7 +128,7 @@ module _ {a : Alignment} {s w s′ w′ : List ℕ} {st st′ : State} (r : Role
         put = rw (one-bits t (item r x) a, literal-bits t r x e a) (p .put);
         near = p .near;
         tables = ap (tablesOf w′) (p .state) ∙ p .after .tables ∙ sym (one-after t (item r x) ∙ literal-after t r x e);
-        kept = rw (p .state) (kept-literal p);
+        kept = rw (p .state) (kept-after (p .after) (p .moreUris) (p .moreNames));
       }
 
   pub literal-sending : {number : ℕ} {left : Bool} → number ≡ faultNumber (stringFault x true (st .stored) (nameAllowed r x) left)

@@ -19,7 +19,7 @@ use Rattle.state.specs.declared.State as state
 use Rattle.standing.specs.Standing.{contextOf, Standing}
 use Rattle.read_field.specs.View.{alignmentOf}
 use Rattle.write_field.specs.Written.{Put}
-use Rattle.write_form.specs.Form.{moved}
+use Rattle.state.specs.Changed.{moved}
 use Rattle.event_code.specs.Parts.{partsBits, under, keptParts, documentParts, tagParts, contentParts, fixedParts, learnedPart, teachesIn, PartsFit}
 use Rattle.write_parts.specs.Ask.{CodeFits}
 use Rattle.write_parts.proofs.Parts.{parts-length}

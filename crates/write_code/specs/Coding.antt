@@ -17,7 +17,8 @@ use Rattle.productions.specs.Numbered.{Numbered}
 use Rattle.state.specs.declared.State.{State}
 use Rattle.standing.specs.Standing.{countsOf, contextOf, Standing}
 use Rattle.write_field.specs.Written.{blankFrom, Put}
-use Rattle.write_form.specs.Form.{midway, moved}
+use Rattle.write_form.specs.Form.{midway}
+use Rattle.state.specs.Changed.{moved}
 use Rattle.fitting.specs.Fitting.{Sought, rowOr, learnedHere}
 use Rattle.write_code.specs.declared.Coding.{Coding}
 

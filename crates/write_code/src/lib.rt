@@ -4,7 +4,7 @@ ghost use Rattle.standing.specs.Standing.{countsOf};
 ghost use Rattle.layout.specs.Tidy.{Tidy};
 ghost use Rattle.settings.specs.Meant.{settingsFrom};
 ghost use Rattle.layout.specs.Writer.{writerMemory};
-ghost use Rattle.write_form.specs.Form.{moved};
+ghost use Rattle.state.specs.Changed.{moved};
 ghost use Rattle.fitting.specs.Fitting.{NameFound, rowOr};
 ghost use Rattle.write_code.specs.Coding.{CodeReady, Stands, Coded};
 use event_code::Code;

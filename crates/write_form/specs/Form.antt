@@ -12,6 +12,7 @@ use Rattle.format.specs.Tables.{stringBits}
 use Rattle.rows.specs.Rows.{withRow}
 use Rattle.layout.specs.Writer.{storeAt}
 use Rattle.state.specs.declared.State.{State}
+use Rattle.state.specs.Changed.{moved}
 use Rattle.write_field.specs.Written.{blankFrom, farthest, Put}
 use Rattle.literal.specs.Fault.{faultNumber, stringFault}
 use Rattle.write_form.specs.declared.Sent.{Sent}
@@ -19,22 +20,6 @@ use Rattle.write_form.specs.declared.Sent.{Sent}
 -- The farthest position at which a string of an event begins: what the event writes from there on stays below `farthest`.
 abbrev pub midway : ℕ
 midway = 2147483648
-
--- The state at another position, with another count of stored code points.
-abbrev pub moved : State → ℕ → ℕ → State
-moved st at stored =
-    record {
-      at = at;
-      events = st .events;
-      stored = stored;
-      uris = st .uris;
-      names = st .names;
-      values = st .values;
-      learned = st .learned;
-      grammars = st .grammars;
-      mode = st .mode;
-      stack = st .stack;
-    }
 
 -- The text x behind the store.
 unfoldable pub laid : List ℕ → State → Text → List ℕ

@@ -31,7 +31,8 @@ use Rattle.layout.proofs.Adding.{countsAfter, After, after-local, name-new}
 use Rattle.layout.proofs.Writer.{storeAt-is}
 use Rattle.write_form.proofs.Laws.{sound}
 use Rattle.sending.specs.Sending.{tablesOf, Sending}
-use Rattle.sending.proofs.Forms.{recounted, hit-sent}
+use Rattle.sending.proofs.Forms.{hit-sent}
+use Rattle.state.specs.Changed.{recounted}
 use Rattle.sending.proofs.Hits.{index-none, hit-form, hit-at, text-at, below-count, count-few, hit-asks}
 use Rattle.sending.proofs.Memory.{entered-grows, entered-row}
 use Rattle.sending.proofs.Entries.{entry-sent, text-asks}

@@ -16,7 +16,7 @@ use state::State;
 use write_form::Sent;
 
 // The local name of an attribute (attr) or an element, in the URI with this row.
-pub fn put_local(
+fn put_local(
     aligned: bool,
     stream: &mut [u8],
     st: State,

@@ -25,7 +25,8 @@ use Rattle.standing.specs.Standing.{countsOf}
 use Rattle.literal.specs.Fault.{faultNumber, stringFault}
 use Rattle.write_field.specs.Written.{Put, ChoiceFits}
 use Rattle.write_field.proofs.Lengths.{choice-length}
-use Rattle.write_form.specs.Form.{moved, EntryFits, Entered}
+use Rattle.write_form.specs.Form.{EntryFits, Entered}
+use Rattle.state.specs.Changed.{moved, recounted}
 use lib.Dec.{ltb}
 use Rattle.layout.proofs.Adding.{Grows, newRow, after-uri, uri-new}
 use Rattle.layout.proofs.Writer.{storeAt-is, store-ends}
@@ -33,7 +34,7 @@ use Rattle.literal.proofs.Laws.{Passed}
 use Rattle.write_field.proofs.Written.{put-then, put-blank}
 use Rattle.write_form.proofs.Laws.{string-length}
 use Rattle.sending.specs.Sending.{tablesOf, Ready, Wrote, Sending}
-use Rattle.sending.proofs.Forms.{recounted, hit-sending, LiteralPut, literal-sending}
+use Rattle.sending.proofs.Forms.{hit-sending, LiteralPut, literal-sending}
 use Rattle.sending.proofs.Hits.{index-none, hit-form, hit-at, text-at, below-count, count-few}
 use Rattle.sending.proofs.Memory.{entered-grows, entered-row}
 use Rattle.write_uri.specs.Uri.{NewUri}

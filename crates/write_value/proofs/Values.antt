@@ -30,7 +30,8 @@ use Rattle.write_form.specs.declared.Sent.{Sent}
 use Rattle.layout.proofs.Adding.{countsAfter, After, after-value, after-empty}
 use Rattle.layout.proofs.Writer.{storeAt-is}
 use Rattle.sending.specs.Sending.{tablesOf, Ready, Sending}
-use Rattle.sending.proofs.Forms.{recounted, hit-sent}
+use Rattle.sending.proofs.Forms.{hit-sent}
+use Rattle.state.specs.Changed.{recounted}
 use Rattle.sending.proofs.Hits.{index-none, index-some, hit-form, below-count, count-few, hit-asks}
 use Rattle.sending.proofs.Memory.{entered-grows, entered-row}
 use Rattle.sending.proofs.Entries.{text-sent, entry-sent, text-asks}
