@@ -88,7 +88,7 @@ isZeros x = eqb (x .place) 0 && eqb (x .size) 0
 unfoldable pub provided : Bool → Event Span → Stored
 provided t e = cond t (some e) none
 
--- What the kind k and the strings x, y and z mean: a string that the kind does not have must be zeros.
+-- What the kind k and the strings x, y and z mean (scope, "What is bought": a kind without meaning, or data in a place that the kind does not use, is SHAPE).
 unfoldable pub ofRow : ℕ → Span → Span → Span → Stored
 ofRow k x y z =
     cond (eqb k 1) (provided (isZeros x && isZeros y && isZeros z) startDocument)

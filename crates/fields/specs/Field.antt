@@ -66,7 +66,7 @@ choice a k l = do
   return (v, x)
 
 -- ---- Unsigned Integer (EXI 7.1.6; scope, "Fields"): 7 bits an octet, least significant group first, the top bit set on all but the
--- last, at most 5 octets
+-- last; at most 5 octets, and a number up to 2,147,483,647 (scope, "Refusal numbers", 7)
 
 unfoldable pub maxOctets : ℕ
 maxOctets = 5

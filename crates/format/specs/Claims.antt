@@ -1,4 +1,5 @@
--- What is claimed, with only definitions above it.
+-- What is claimed, with only definitions above it. Demand 1, the answer for any octets, is the definition `read` of Reader.antt, which the running reader's
+-- contract gives outright (crates/reader/src/lib.rt).
 --
 -- Throughout, o is settings' numbers, r and p are lengths of lent parts, and a stream is a list of octets.
 use Prim.Native.Nat.{ℕ}

@@ -33,7 +33,7 @@ pub record Item : Type 0 where
 unfoldable pub item : Role → Text → Item
 item r x = record { role = r; written = true; text = x }
 
--- Characters stand inside an element alone, and are values of its name.
+-- Characters stand only inside an element, and are values of its name.
 unfoldable pub characterRole : State → Role
 characterRole st =
     elim st [ document ↦ plain | docContent ↦ plain | docEnd ↦ plain | finished ↦ plain | startTag q o ↦ value q | elementContent q o ↦ value q ]
@@ -45,6 +45,7 @@ nameItems p attr q =
     ∷ record { role = local attr (q .uri); written = isWildcard (p .qname); text = q .local }
     ∷ []
 
+-- The strings of an event's content, in order (EXI 4).
 unfoldable pub items : State → Production → Event Text → List Item
 items st p startDocument = []
 items st p endDocument = []
@@ -55,6 +56,7 @@ items st p (characters v) = item (characterRole st) v ∷ []
 items st p (comment x) = item plain x ∷ []
 items st p (instruction x y) = item target x ∷ item plain y ∷ []
 
+-- What a string leaves, by the form that it has in the strict form.
 unfoldable pub afterItem : Tables → Item → Tables
 afterItem t i = cond (i .written) (tablesAfter t (i .role) (formOf (partitionsOf t (i .role)) (i .text)) (i .text)) t
 

@@ -129,10 +129,10 @@ others =
     ∷ example inBits "80 40 98 70 37 89 00 00 28" (whole (begin "a" ∷ chars "x" ∷ begin "a" ∷ chars "x" ∷ end ∷ end ∷ []))
     -- 6: <a k="1">x<b/></a>. The start tag has learned AT(k) and CH, and the content begins with nothing learned.
     ∷ example inBits "80 40 98 54 09 AC 0C C7 81 BC 48 13 10 80" (whole (begin "a" ∷ attr "k" "1" ∷ chars "x" ∷ begin "b" ∷ end ∷ end ∷ []))
-    -- Comments alone: <!--1--><a><!--2--><!--3--></a><!--4-->. CM is 1, 0.4, 1.2 and 1.
+    -- Comments alone: <!--1--><a><!--2--><!--3--></a><!--4-->. CM is 1.0, 0.4.0, 1.2.0 and 1.0; its last part is the one of its level, and has no bits.
     ∷ example (numbers 1 0 1 0) "80 01 01 31 00 01 02 61 04 01 32 01 02 01 33 00 01 01 34 00"
     (whole (remark "1" ∷ begin "a" ∷ remark "2" ∷ remark "3" ∷ end ∷ remark "4" ∷ []))
-    -- Instructions alone: <?p 1?><a><?p 2?><?p 3?></a><?p 4?>. PI has closed up: it is 1, 0.4, 1.2 and 1.
+    -- Instructions alone: <?p 1?><a><?p 2?><?p 3?></a><?p 4?>. PI has closed up: it is 1.0, 0.4.0, 1.2.0 and 1.0.
     ∷ example (numbers 0 0 0 1) "80 80 B8 00 98 90 26 18 02 E0 02 65 80 5C 00 4C D0 17 00 13 40"
     (whole (instruct "p" "1" ∷ begin "a" ∷ instruct "p" "2" ∷ instruct "p" "3" ∷ end ∷ instruct "p" "4" ∷ []))
     -- Both: <!--1--><?p 2?><a><!--3--><?p 4?><b><?p 5?><!--6--></b></a><!--7--><?p 8?>. CM and PI have a last part, 0 and 1.

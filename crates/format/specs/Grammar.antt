@@ -30,7 +30,7 @@ kindNumber CH = 5
 kindNumber CM = 6
 kindNumber PI = 7
 
--- SE(*) and AT(*): the production has no name, so the event's name is written.
+-- The production has no name; of SE(*) and AT(*): the event's name is written.
 unfoldable pub isWildcard : Option (QName Text) → Bool
 isWildcard none = true
 isWildcard (some q) = false
@@ -41,6 +41,7 @@ fitsName none n = true
 fitsName (some q) none = false
 fitsName (some q) (some p) = eqName q p
 
+-- A production fits an event of its kind, and of its name where it has one.
 unfoldable pub fits : Production → Event Text → Bool
 fits p e = eqb (kindNumber (p .kind)) (kindNumber (kindOf e)) && fitsName (p .qname) (nameOf e)
 
@@ -80,7 +81,7 @@ learnedIn q tag (x ∷ xs) =
 unfoldable pub kept : Settings → List Production
 kept s = cond (s .comments) (unnamed CM ∷ []) [] ++ cond (s .instructions) (unnamed PI ∷ []) []
 
--- The newest learned production is first.
+-- The productions of a state, level by level of their codes (EXI 8.4.1, 8.4.3; scope, "Grammars": the table of codes). The newest learned one is first.
 unfoldable pub levels : Settings → List Learned → State → List (List Production)
 levels s ls document = (unnamed SD ∷ []) ∷ []
 levels s ls docContent = (unnamed SE ∷ []) ∷ kept s ∷ []
@@ -110,6 +111,7 @@ atLevel v p = record { parts = v ∷ []; production = p }
 unfoldable pub below : ℕ → Code → Code
 below v c = record { parts = v ∷ c .parts; production = c .production }
 
+-- Each part is a choice among the values that it can take (EXI 6.2).
 unfoldable pub codeBits : Alignment → List (List Production) → List ℕ → Bits
 codeBits a [] vs = []
 codeBits a (l ∷ ls) [] = []
@@ -193,6 +195,7 @@ closed [] = docEnd
 closed (q ∷ []) = docEnd
 closed (q ∷ p ∷ outer) = elementContent p outer
 
+-- Where each event leads (EXI 8.4; scope, "Grammars": "AT leads to the start tag state, SE, CH, CM and PI to element content"; SE first to the child's).
 unfoldable pub stateAfter : State → Event Text → State
 stateAfter st startDocument = docContent
 stateAfter st endDocument = finished

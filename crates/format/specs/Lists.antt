@@ -66,7 +66,7 @@ pub record WellFormed (s : Settings) (l : List (Event Text)) : Type 0 where
   pub chars : T (every charsOnly l)
   pub names : T (every namesAllowed l)
 
--- ---- inside the limits: the list and its strict form pass no size
+-- ---- inside the limits (scope, "Sizes"): the list and its strict form pass no size
 
 unfoldable pub withinTables : Tables → Bool
 withinTables t =

@@ -55,6 +55,7 @@ unfoldable pub readEntry : Alignment → Tables → ℕ → Option Placed → Pa
 readEntry a t v none = readByLiterals a t []
 readEntry a t v (some e) = return (hit 0 (v - 1), e)
 
+-- The form of a string, by its partitions.
 unfoldable pub readForm : Alignment → Tables → Partitions → Parser (Form × Placed)
 readForm a t (compact es) = do
   (v, e) ← choice a reference (none ∷ map some es)
@@ -92,6 +93,7 @@ readName a t attr none = do
   (n, t₂) ← readString a t₁ (local attr (u .text))
   return (record { uri = u; local = n }, t₂)
 
+-- The content of an event of this kind (EXI 4); the name that a learned production carries is not read.
 unfoldable pub readContent : Alignment → Tables → State → Kind → Option (QName Text) → Parser (Event Placed)
 readContent a t st SD n = return startDocument
 readContent a t st ED n = return endDocument
@@ -120,12 +122,14 @@ readPart v none deeper = do
   x ← deeper
   return (below v x)
 
+-- An event code (EXI 6.2), part by part; a part that names no production is CODE.
 unfoldable pub readCode : Alignment → List (List Production) → Parser Code
 readCode a [] = fail code
 readCode a (l ∷ ls) = do
   (v, p) ← choice a code (choices l ls)
   readPart v p (readCode a ls)
 
+-- Whether these parts are the code's. (Parts are numbers, as code points are, and are compared alike.)
 unfoldable pub sameCode : List ℕ → Option Code → Bool
 sameCode vs none = false
 sameCode vs (some x) = eqText vs (x .parts)
@@ -182,6 +186,7 @@ unfoldable pub readBody : Settings → Result (Unit {0}) → Answer Reading
 readBody s (bad k) = refused k 0
 readBody s (got u bs) = readEvents maxEvents s start bs
 
+-- The header, then the events.
 unfoldable pub readStream : Settings → List ℕ → Answer Reading
 readStream s stream = readBody s (readHeader (headerOf s) (unpack stream))
 

@@ -5,7 +5,7 @@ use mathlib.Core.List.{List, [], _∷_, _++_}
 use lib.Dec.{eqb, leb}
 use Rattle.fields.specs.Field.{Alignment, bitPacked, byteAligned}
 
--- All else is as EXI's default options have it: no prefixes, DTD, lexical values or self-contained elements are kept, nothing is compressed or a
+-- There is no schema. All else is as EXI's default options have it: no prefixes, DTD, lexical values or self-contained elements are kept, nothing is compressed or a
 -- fragment, and value capacity and length are unbounded.
 pub record Settings : Type 0 where
   pub alignment : Alignment
@@ -20,7 +20,7 @@ pub record SettingNumbers : Type 0 where
   pub comments : ℕ
   pub instructions : ℕ
 
--- Each number has a meaning: alignment 0 is bit-packed and 1 byte-aligned, each of the others 0 is no and 1 yes.
+-- Each number has a meaning (which numbers is our choice): alignment 0 is bit-packed and 1 byte-aligned, each of the others 0 is no and 1 yes.
 unfoldable pub meaningful : SettingNumbers → Bool
 meaningful o = leb (o .alignment) 1 && leb (o .cookie) 1 && leb (o .comments) 1 && leb (o .instructions) 1
 

@@ -13,6 +13,7 @@ use Rattle.format.specs.Tables.{Tables, partitionsOf, formOf, formBits}
 use Rattle.format.specs.Grammar.{Code, codeOf, codeBits}
 use Rattle.format.specs.Context.{Context, start, levelsIn, Item, items, afterItem, next}
 
+-- A string of an event, as the tables before it have it written.
 unfoldable pub itemBits : Alignment → Tables → Item → Bits
 itemBits a t i = cond (i .written) (formBits a (partitionsOf t (i .role)) (formOf (partitionsOf t (i .role)) (i .text)) (i .text)) []
 
@@ -30,6 +31,7 @@ codedBits s c (some x) e =
 unfoldable pub eventBits : Settings → Context → Event Text → Bits
 eventBits s c e = codedBits s c (codeOf (levelsIn s c) e) e
 
+-- The events in list order, each by what everything before has left.
 unfoldable pub listBits : Settings → Context → List (Event Text) → Bits
 listBits s c [] = []
 listBits s c (e ∷ l) = eventBits s c e ++ listBits s (next s c e) l

@@ -73,6 +73,7 @@ pub data Partitions : Type 0 where
   -- String by no table (EXI 7.1.10) is the case of none
   literals : List (List Placed) → Partitions
 
+-- The partitions of a role (EXI 7.3.1; scope, "String tables").
 unfoldable pub partitionsOf : Tables → Role → Partitions
 partitionsOf t uri = compact (t .uris)
 partitionsOf t (local attr u) = literals (namesOf t u ∷ [])
@@ -112,6 +113,8 @@ formOf (literals ess) x = firstHit 0 ess x
 unfoldable pub stringBits : ℕ → Text → Bits
 stringBits k x = unsignedBits (length x + k) ++ each unsignedBits x
 
+-- A URI: a choice among m + 1, i + 1 for a hit, 0 for a miss, and the String (EXI 7.3.2). Else a miss is the String, its length raised by the number of
+-- partitions; a hit is the partition's number, then a choice among its entries (EXI 7.3.3; scope, "String tables").
 unfoldable pub formBits : Alignment → Partitions → Form → Text → Bits
 formBits a (compact es) (hit j i) x = choiceBits a (suc (length es)) (suc i)
 formBits a (compact es) literal x = choiceBits a (suc (length es)) 0 ++ stringBits 0 x
@@ -145,6 +148,7 @@ added t r x =
       store = t .store ++ x;
     }
 
+-- A hit leaves the tables, a literal is added.
 unfoldable pub tablesAfter : Tables → Role → Form → Text → Tables
 tablesAfter t r (hit j i) x = t
 tablesAfter t r literal x = added t r x
@@ -157,7 +161,7 @@ xmlUri = text "http://www.w3.org/XML/1998/namespace"
 unfoldable pub xsiUri : Text
 xsiUri = text "http://www.w3.org/2001/XMLSchema-instance"
 
--- Role and text of each, in table order.
+-- Role and text of each, in table order. (Whether a local name is an attribute's does not matter here.)
 unfoldable pub initialEntries : List (Role × Text)
 initialEntries =
     (uri, [])

@@ -1,5 +1,5 @@
-// How the tables lie in work memory. Definitions and laws are in specs/ and proofs/; the numbers are held to specs/Layout.antt by the contracts of the
-// functions that use them.
+// How the tables lie in work memory. Definitions and laws are in specs/ and proofs/; the numbers are held to specs/Layout.antt and specs/Writer.antt by the
+// contracts of the functions that use them.
 
 // Where each table begins.
 pub const URIS: usize = 0;

@@ -16,8 +16,8 @@ use Rattle.format.specs.Sizes.{maxStream, maxStore}
 use Rattle.format.specs.Tables.{Placed, Tables, Role, Partitions, partitionsOf, Form, literal, eqForm, formOf, added, tablesAfter, nameAllowed}
 use Rattle.format.specs.Lists.{withinTables}
 use Rattle.format.specs.Reader.{readLiteral}
-use Rattle.layout.specs.Layout.{urisAt, namesAt, valuesAt}
-use Rattle.layout.proofs.Sizes.{length-text, room-uris, room-names, room-values}
+use Rattle.rows.specs.Rows.{Room}
+use Rattle.layout.proofs.Sizes.{length-text}
 use Rattle.layout.proofs.Adding.{After, countsAfter}
 use Rattle.state.specs.declared.State.{State}
 use Rattle.state.specs.Changed.{recounted}
@@ -69,14 +69,9 @@ module _ {s work text : List ℕ} {st : State} {at : ℕ} (h : ReadFrom s work t
   literal-asks =
       record { size = h .ready .size; place = h .from; room = h .ready .room; few = h .ready .tidy .sized .few; zeros = h .ready .zeros }
 
-  pub uri-asks : NewFit s at text (st .stored) work urisAt (st .uris)
-  uri-asks = record { literal = literal-asks; room = room-uris (h .ready .tidy .sized) (h .ready .tidy .sized .uris) }
-
-  pub name-asks : NewFit s at text (st .stored) work namesAt (st .names)
-  name-asks = record { literal = literal-asks; room = room-names (h .ready .tidy .sized) (h .ready .tidy .sized .names) }
-
-  pub value-asks : NewFit s at text (st .stored) work valuesAt (st .values)
-  value-asks = record { literal = literal-asks; room = room-values (h .ready .tidy .sized) (h .ready .tidy .sized .values) }
+  pub new-asks : {n base count : ℕ} {all : Bool} {key : ℕ} {p : Partitions} → Room work base count → Tells text (st .stored) n work base count all key p
+      → NewFit s at text (st .stored) n work base count all key
+  new-asks {p = p} room t = record { literal = literal-asks; room = room; partitions = p; tells = t }
 
 -- ---- from what read_new leaves
 
@@ -130,7 +125,7 @@ module _ {s work text : List ℕ} {st : State} {at : ℕ} (h : ReadFrom s work t
       new-declined e =
           let t : Tables = tablesOf work text st in
           let k : 0 < read .number = omega arith in
-          part-declined (p .unchanged k) (declined-as (new-then t r n (drop at (unpack s)))
+          part-declined (p .unchanged k .0) (declined-as (new-then t r n (drop at (unpack s)))
           (declined-then (admit t r) (p .outcome t (partitionsOf t r) stored-is y .refused k)))
 
     -- By no table.

@@ -86,14 +86,14 @@ listed-at {i} l h = l .nth i ∙ rw (h .entry)
 
 -- ---- the choice among the selected rows
 
-pub choice-asks : {s : List ℕ} {at : ℕ} {work : List ℕ} {base n among : ℕ} → HitFit s at work base n → (all : Bool) (key : ℕ)
+pub choice-asks : {s : List ℕ} {at : ℕ} {work : List ℕ} {base n among : ℕ} {all : Bool} {key : ℕ} → HitFit s at work base n all key
     → among ≡ countOf all key (rows work base n) → NumberIn s at among 65536
 unfolding maxStream
-choice-asks {work = work} {base} {n} fit all key count =
+choice-asks {work = work} {base} {n} {all = all} {key} fit count =
     omega (arith, fit .size, fit .place, fit .few, count-most all key (rows work base n), rows-length work base n)
 
 module _ (a : Alignment) {s : List ℕ} {at : ℕ} {work : List ℕ} {base n : ℕ} {all : Bool} {key among : ℕ} {f : Field}
-    (fit : HitFit s at work base n) (count : among ≡ countOf all key (rows work base n))
+    (fit : HitFit s at work base n all key) (count : among ≡ countOf all key (rows work base n))
     (answer : f ≡ fieldAt (numberField a (width among)) s at) where
   module _ {text : List ℕ} {es : List Placed} (l : Listed (readerMemory work text) base n all key es) where
     wide : f ≡ fieldAt (numberField a (width (length es))) s at
@@ -220,8 +220,10 @@ module _ {a : Alignment} {s work text : List ℕ} {st : State} {at base n : ℕ}
 
 -- ---- what a hit asks, and the counts after it
 
-pub hit-asks : {s work text : List ℕ} {st : State} {at base n : ℕ} → ReadFrom s work text st at → Room work base n → n ≤ 65536 → HitFit s at work base n
-hit-asks h room few = record { size = h .ready .size; place = h .from; room = room; few = few }
+pub hit-asks : {s work text : List ℕ} {st : State} {at base n : ℕ} {all : Bool} {key : ℕ} {es : List Placed} → ReadFrom s work text st at → Room work base n
+    → n ≤ 65536 → Listed (readerMemory work text) base n all key es → HitFit s at work base n all key
+hit-asks {text = text} {es = es} h room few l =
+    record { size = h .ready .size; place = h .from; room = room; few = few; text = text; entries = es; listed = l }
 
 module _ {a : Alignment} {s : List ℕ} {at : ℕ} {work text : List ℕ} {base n : ℕ} {all : Bool} {key : ℕ} {es : List Placed} {st : State} {g : Got}
     (l : Listed (readerMemory work text) base n all key es) (p : HitRead a s at work base n all key st g) where

@@ -73,11 +73,11 @@ laid-told {text} {stored} {n} {text′ = text′} v room d y answer =
     rw (d .form, answer, same, d .text-is) (y .tells x (d .size) (d .ends))
 
 module _ {s : List ℕ} {at : ℕ} {text : List ℕ} {stored n : ℕ} {work : List ℕ} {base count : ℕ} {all : Bool} {key : ℕ} {text′ : List ℕ} {read : declared.Literal}
-    (fit : NewFit s at text stored work base count) (p : LiteralRead s at text stored n text′ read) where
+    (fit : NewFit s at text stored n work base count all key) (p : LiteralRead s at text stored n text′ read) where
   pub new-refused : (read .number ≡ 0 → ⊥) → NewRead s at text stored n work base count all key text′ read
   unfolding readNew
   new-refused e =
-      record { outcome = λ t q l y. refused-outcome (declined-then _ (p .outcome t l .refused (omega arith))); unchanged = λ l. p .unchanged l .0 }
+      record { outcome = λ t q l y. refused-outcome (declined-then _ (p .outcome t l .refused (omega arith))); unchanged = p .unchanged }
 
   module _ (z : read .number ≡ 0) {f : Found}
       (answer : f ≡ found (findThat (hasText text′ (part text′ (record { place = stored; size = n }))) all key (rows work base count))) where
@@ -97,7 +97,7 @@ module _ {s : List ℕ} {at : ℕ} {text : List ℕ} {stored n : ℕ} {work : Li
           unchanged = λ _.
               let l : length (take stored text) ≡ stored = length-take-le stored text (omega (arith, fit .literal .room, fit .literal .few)) in
               let d = p .outcome (record { uris = []; names = []; values = []; store = take stored text }) l .is z in
-              laid-cleared text stored _ (omega (arith, d .size, d .ends, fit .literal .room)) (fit .literal .zeros) (d .text-is) c;
+              (laid-cleared text stored _ (omega (arith, d .size, d .ends, fit .literal .room)) (fit .literal .zeros) (d .text-is) c, refl);
         }
 
     pub new-missing : f ≡ Nothing → NewRead s at text stored n work base count all key text′ read

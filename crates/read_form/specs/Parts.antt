@@ -64,16 +64,32 @@ pub record ReadFrom (stream work text : List ℕ) (st : State) (at : ℕ) : Type
   pub ready : ReadReady stream work text st
   pub from : at ≤ 8 * length stream
 
--- So many rows, to be chosen from.
-pub record HitFit (stream : List ℕ) (at : ℕ) (work : List ℕ) (base n : ℕ) : Type 0 where
+-- So many rows, to be chosen from: the selected ones are a list of the definitions.
+pub record HitFit (stream : List ℕ) (at : ℕ) (work : List ℕ) (base n : ℕ) (all : Bool) (key : ℕ) : Type 0 where
   pub size : length stream ≤ maxStream
   pub place : at ≤ 8 * length stream
   pub room : Room work base n
   pub few : n ≤ 65536
+  pub text : List ℕ
+  pub entries : List Placed
+  pub listed : Listed (readerMemory work text) base n all key entries
 
-pub record NewFit (stream : List ℕ) (at : ℕ) (text : List ℕ) (stored : ℕ) (work : List ℕ) (base count : ℕ) : Type 0 where
+-- ---- a literal among the selected rows
+
+abbrev pub missing : Found → Bool
+missing (At number row) = false
+missing Nothing = true
+
+-- The selected rows tell whether a text behind the store has the literal as its strict form.
+pub record Tells (text : List ℕ) (stored n : ℕ) (work : List ℕ) (base count : ℕ) (all : Bool) (key : ℕ) (p : Partitions) : Type 0 where
+  pub tells : (x : Text) → length x ≡ n → stored + n ≤ maxStore
+      → eqForm literal (formOf p x) ≡ missing (found (findThat (hasText (laidAt text stored x) x) all key (rows work base count)))
+
+pub record NewFit (stream : List ℕ) (at : ℕ) (text : List ℕ) (stored n : ℕ) (work : List ℕ) (base count : ℕ) (all : Bool) (key : ℕ) : Type 0 where
   pub literal : LiteralFit stream at text stored
   pub room : Room work base count
+  pub partitions : Partitions
+  pub tells : Tells text stored n work base count all key partitions
 
 -- ---- what is left
 
@@ -101,17 +117,8 @@ pub record HitRead (a : Alignment) (stream : List ℕ) (at : ℕ) (work : List �
       (λ v. Taken work base n all key (v .0) st g × (v .1 ≡ placedAt (readerMemory work text) (rowAt work base (g .row))))
   pub refused : 0 < g .number → g ≡ refusedGot (g .number) st
 
-abbrev pub missing : Found → Bool
-missing (At number row) = false
-missing Nothing = true
-
--- The selected rows tell whether a text behind the store has the literal as its strict form.
-pub record Tells (text : List ℕ) (stored n : ℕ) (work : List ℕ) (base count : ℕ) (all : Bool) (key : ℕ) (p : Partitions) : Type 0 where
-  pub tells : (x : Text) → length x ≡ n → stored + n ≤ maxStore
-      → eqForm literal (formOf p x) ≡ missing (found (findThat (hasText (laidAt text stored x) x) all key (rows work base count)))
-
 -- A literal that no selected row has.
 pub record NewRead (stream : List ℕ) (at : ℕ) (text : List ℕ) (stored n : ℕ) (work : List ℕ) (base count : ℕ) (all : Bool) (key : ℕ) (text′ : List ℕ) (r : declared.Literal) : Type 0 where
   pub outcome : (t : Tables) (p : Partitions) → length (t .store) ≡ stored → Tells text stored n work base count all key p
       → Outcome (readNew t p n) stream at (r .number) (r .next) (Laid text stored n text′)
-  pub unchanged : 0 < r .number → text′ ≡ text
+  pub unchanged : 0 < r .number → (text′ ≡ text) × (r .next ≡ at)

@@ -17,7 +17,7 @@ use refusal::REFERENCE;
 use rows::Found;
 use state::State;
 
-// The number of the string's refusal or 0, the row of a URI or a local name in its table or 0, where it lies, and the state behind it.
+// The number of the string's refusal or 0, the row of its entry in its table or 0, where it lies, and the state behind it.
 pub struct Got {
     pub number: u32,
     pub row: u32,
@@ -115,7 +115,7 @@ pub fn read_hit(
     all: bool,
     key: u32,
 ) -> Got
-    requires { ⌜ HitFit (now stream) at (now work) base n ⌝ }
+    requires { ⌜ HitFit (now stream) at (now work) base n all key ⌝ }
     ensures { λ r. ⌜ HitRead (alignmentOf aligned) (now (stream .entry)) at (now (work .entry)) base n all key st r ⌝ }
 {
     let among = rows::count(work, base, n, all, key);
@@ -138,7 +138,7 @@ pub fn read_new(
     all: bool,
     key: u32,
 ) -> Literal
-    requires { ⌜ NewFit (now stream) at (now text) (st .stored) (now work) base count ⌝ }
+    requires { ⌜ NewFit (now stream) at (now text) (st .stored) n (now work) base count all key ⌝ }
     ensures { λ r. ⌜ NewRead (now (stream .entry)) at (now (text .entry)) (st .stored) n (now (work .entry)) base count all key (now (text .exit)) r ⌝ }
 {
     let read = read_string::read_literal(stream, at, text, st.stored, n);

@@ -36,14 +36,17 @@ following h hs o = need (eqb o h) header >> readHeader hs
 
 module _ {stream : List ℕ} {first at i : ℕ} (h : Passing stream first at i) where
   declined : {n : ℕ} → Declined (readHeader (drop i headerOctets)) stream at n → Passes (drop first headerOctets) stream (record { number = n; at = 0 })
-  declined d = refused-outcome (record { refusal = d .refusal; result = h .answer ∙ d .result; is = d .is })
+  declined d = record { outcome = refused-outcome (record { refusal = d .refusal; result = h .answer ∙ d .result; is = d .is }); refused = λ _. refl }
 
   pub all-passed : 5 ≤ i → Passes (drop first headerOctets) stream (record { number = 0; at = at })
   unfolding readHeader
   all-passed l =
       let e : i ≡ 5 = omega (arith, h .few) in
-      gotten-outcome refl
-      (record { value = tt; result = h .answer ∙ rw e (return-got tt (drop at (unpack stream))); after = omega arith; inside = h .there }) tt
+      record {
+        outcome = gotten-outcome refl
+            (record { value = tt; result = h .answer ∙ rw e (return-got tt (drop at (unpack stream))); after = omega arith; inside = h .there }) tt;
+        refused = λ b. absurd (omega arith);
+      }
 
   module _ (inside : i < 5) where
     one-more : drop i headerOctets ≡ getD headerOctets i 0 ∷ drop (i + 1) headerOctets

@@ -1,5 +1,6 @@
 -- What reading the header asks and leaves.
-use Prim.Native.Nat.{ℕ, _≤_}
+use Prim.Native.Nat.{ℕ, _≤_, _<_}
+use mathlib.Core.Path.{_≡_}
 use mathlib.Core.List.{List, [], _∷_}
 use lib.ListN.{length}
 use Rattle.format.specs.Sizes.{maxStream}
@@ -17,5 +18,6 @@ pub record OctetsReady (stream : List ℕ) (first : ℕ) : Type 0 where
   pub few : first ≤ 5
 
 -- By the definitions' header parser: the refusal's number, or the position behind the header.
-abbrev pub Passes : List ℕ → List ℕ → Passed → Type 0
-Passes octets stream r = Outcome (readHeader octets) stream 0 (r .number) (r .at) (λ _. Unit {0})
+pub record Passes (octets stream : List ℕ) (r : Passed) : Type 0 where
+  pub outcome : Outcome (readHeader octets) stream 0 (r .number) (r .at) (λ _. Unit {0})
+  pub refused : 0 < r .number → r .at ≡ 0

@@ -33,11 +33,11 @@ use Rattle.read_string.specs.Literal.{laidAt}
 use Rattle.read_string.specs.declared.Literal as declared
 use Rattle.read_form.specs.declared.Got.{Got}
 use Rattle.read_form.specs.Content.{refusedGot, PartRead, StringRead}
-use Rattle.read_form.specs.Parts.{readAsNew, readAsHit, HitFit, readGot, Taken, HitRead, Tells, NewRead}
+use Rattle.read_form.specs.Parts.{readAsNew, readAsHit, HitFit, readGot, Taken, HitRead, Tells, NewFit, NewRead}
 use Rattle.read_local.specs.Local.{ReadyLocal, LocalFrom, NameRow}
 use Rattle.read_form.proofs.Steps.{field-positive, literals-refused, literals-new, literals-hit, beyond}
 use Rattle.read_form.proofs.Hits.{hit-missed, hit-named, hit-passed, hit-asks, hit-state}
-use Rattle.read_form.proofs.Fresh.{Fresh, number-from, new-fresh, new-declined, fresh-text, fresh-named, fresh-limit, fresh-passed}
+use Rattle.read_form.proofs.Fresh.{Fresh, number-from, new-asks, new-fresh, new-declined, fresh-text, fresh-named, fresh-limit, fresh-passed}
 use Rattle.read_form.proofs.Joins.{laid-after, later, same-names, own-form, none-form, full-same, entered, fresh-few, store-few}
 
 -- A refusal names no row.
@@ -54,16 +54,16 @@ unfolding uriText textOf
 allowed-by work text key attr e u r x = e ∙ rw (x, u, r)
 
 module _ {s work text : List ℕ} {st : State} {at key : ℕ} (h : LocalFrom s work text st at key) where
-  pub local-hit-asks : HitFit s at work namesAt (st .names)
-  unfolding maxNames
-  local-hit-asks =
-      let z = h .from .ready .tidy .sized in
-      hit-asks (h .from) (room-names z (z .names)) (omega (arith, z .names))
-
   names-list : Listed (readerMemory work text) namesAt (st .names) false key (namesOf (tablesOf work text st) (uriText (readerMemory work text) key))
   names-list =
       let t = h .from .ready .tidy in
       names-listed (readerMemory work text) (countsOf st) (t .distinct) (t .strings) key (h .row)
+
+  pub local-hit-asks : HitFit s at work namesAt (st .names) false key
+  unfolding maxNames
+  local-hit-asks =
+      let z = h .from .ready .tidy .sized in
+      hit-asks (h .from) (room-names z (z .names)) (omega (arith, z .names)) names-list
 
   module _ {a : Alignment} {g : Got} (attr : Bool) (p : HitRead a s at work namesAt (st .names) false key st g) where
     abbrev LocalHit : Got → Type 0
@@ -138,6 +138,11 @@ module _ {s work text : List ℕ} {st : State} (h : ReadReady s work text st) (n
             (ap (λ (es : List Placed). indexOf es x) same
             ∙ find-answer (names-listed _ _ (after .tidy .distinct) (after .tidy .strings) key b) x refl);
       }
+
+pub new-local-asks : {s work text : List ℕ} {st : State} {at key : ℕ} (attr : Bool) (n : ℕ) → LocalFrom s work text st at key
+    → NewFit s at text (st .stored) n work namesAt (st .names) false key
+new-local-asks {key = key} attr n h =
+    let z = h .from .ready .tidy .sized in new-asks (h .from) (room-names z (z .names)) (local-tells (h .from .ready) n attr key (h .row))
 
 module _ {s work text : List ℕ} {st : State} {at key : ℕ} (h : LocalFrom s work text st at key) (attr : Bool) {n : ℕ} {text′ : List ℕ}
     {read : declared.Literal} (p : NewRead s at text (st .stored) n work namesAt (st .names) false key text′ read) where

@@ -41,11 +41,11 @@ use Rattle.read_string.specs.Literal.{laidAt}
 use Rattle.read_string.specs.declared.Literal as declared
 use Rattle.read_form.specs.declared.Got.{Got}
 use Rattle.read_form.specs.Content.{refusedGot, PartRead, StringRead}
-use Rattle.read_form.specs.Parts.{judge, readAsNew, ReadFrom, readGot, EntryTaken, Tells, NewRead}
+use Rattle.read_form.specs.Parts.{judge, readAsNew, ReadFrom, readGot, EntryTaken, Tells, NewFit, NewRead}
 use Rattle.read_uri.specs.Uri.{UriRow}
 use Rattle.read_form.proofs.Steps.{then-assoc, part-as, part-then, part-declined, field-positive, string-form, string-declined}
 use Rattle.read_form.proofs.Hits.{listed-at, hit-judged}
-use Rattle.read_form.proofs.Fresh.{Fresh, new-fresh, new-declined, fresh-limit, fresh-passed}
+use Rattle.read_form.proofs.Fresh.{Fresh, new-asks, new-fresh, new-declined, fresh-limit, fresh-passed}
 use Rattle.read_form.proofs.Joins.{laid-after, same-uris, own-form, none-form, full-same, entered, fresh-few, store-few}
 
 -- A refusal names no row.
@@ -191,6 +191,10 @@ module _ {s work text : List ℕ} {st : State} (h : ReadReady s work text st) (n
             (ap (λ (es : List Placed). indexOf es x) (sym (same-uris h x refl few′))
             ∙ find-answer (uris-listed _ _ (tidy .distinct) 0) x refl);
       }
+
+pub new-uri-asks : {s work text : List ℕ} {st : State} {at : ℕ} (n : ℕ) → ReadFrom s work text st at
+    → NewFit s at text (st .stored) n work urisAt (st .uris) true 0
+new-uri-asks n h = let z = h .ready .tidy .sized in new-asks h (room-uris z (z .uris)) (uri-tells (h .ready) n)
 
 module _ {s work text : List ℕ} {st : State} {at : ℕ} (h : ReadFrom s work text st at) {n : ℕ} {text′ : List ℕ} {read : declared.Literal}
     (p : NewRead s at text (st .stored) n work urisAt (st .uris) true 0 text′ read) where

@@ -39,11 +39,11 @@ use Rattle.read_string.specs.Literal.{laidAt}
 use Rattle.read_string.specs.declared.Literal as declared
 use Rattle.read_form.specs.declared.Got.{Got}
 use Rattle.read_form.specs.Content.{refusedGot, PartRead, StringRead}
-use Rattle.read_form.specs.Parts.{readAsNew, readAsHit, HitFit, readGot, HitRead, missing, Tells, NewRead}
+use Rattle.read_form.specs.Parts.{readAsNew, readAsHit, HitFit, readGot, HitRead, missing, Tells, NewFit, NewRead}
 use Rattle.read_value.specs.Value.{ReadyValue, ValueFrom, ValueRow}
 use Rattle.read_form.proofs.Steps.{rowless, part-rowless, literals-refused, literals-new, literals-hit, beyond}
 use Rattle.read_form.proofs.Hits.{hit-missed, hit-loose, hit-passed, hit-asks, hit-state}
-use Rattle.read_form.proofs.Fresh.{Fresh, number-from, new-fresh, new-declined, fresh-limit, fresh-passed}
+use Rattle.read_form.proofs.Fresh.{Fresh, number-from, new-asks, new-fresh, new-declined, fresh-limit, fresh-passed}
 use Rattle.read_form.proofs.Joins.{laid-grows, laid-after, same-values, none-form, full-same, entered, fresh-few, store-few}
 
 -- ---- a hit
@@ -54,12 +54,6 @@ module _ {a : Alignment} {s : List ℕ} {at : ℕ} {work text : List ℕ} {base 
   hit-values = record { row = refl; uris = ap (λ (x : State). x .uris) (hit-state l p); names = ap (λ (x : State). x .names) (hit-state l p) }
 
 module _ {s work text : List ℕ} {st : State} {at key : ℕ} (h : ValueFrom s work text st at key) where
-  pub value-hit-asks : HitFit s at work valuesAt (st .values)
-  unfolding maxValues
-  value-hit-asks =
-      let z = h .from .ready .tidy .sized in
-      hit-asks (h .from) (room-values z (z .values)) (omega (arith, z .values))
-
   own-list : Listed (readerMemory work text) valuesAt (st .values) false key (valuesOf (tablesOf work text st) (nameAt (readerMemory work text) key))
   own-list =
       let t = h .from .ready .tidy in
@@ -67,6 +61,19 @@ module _ {s work text : List ℕ} {st : State} {at key : ℕ} (h : ValueFrom s w
 
   any-list : Listed (readerMemory work text) valuesAt (st .values) true 0 (allValues (tablesOf work text st))
   any-list = any-listed (readerMemory work text) (countsOf st) (h .from .ready .tidy .distinct) 0
+
+  value-hit-asks : {all : Bool} {k : ℕ} {es : List Placed} → Listed (readerMemory work text) valuesAt (st .values) all k es
+      → HitFit s at work valuesAt (st .values) all k
+  unfolding maxValues
+  value-hit-asks l =
+      let z = h .from .ready .tidy .sized in
+      hit-asks (h .from) (room-values z (z .values)) (omega (arith, z .values)) l
+
+  pub own-asks : HitFit s at work valuesAt (st .values) false key
+  own-asks = value-hit-asks own-list
+
+  pub any-asks : HitFit s at work valuesAt (st .values) true 0
+  any-asks = value-hit-asks any-list
 
   abbrev ValueHit : Alignment → ℕ → List Placed → Got → Type 0
   ValueHit a j es g =
@@ -165,6 +172,12 @@ module _ {s work text : List ℕ} {st : State} (h : ReadReady s work text st) (n
             (ap (λ (es : List (Entry (QName Text))). indexOf (map (λ e. e .string) es) x) (sym (same-values h x refl few′))
             ∙ find-answer (any-listed _ _ (tidy .distinct) 0) x refl);
       }
+
+pub new-value-asks : {s work text : List ℕ} {st : State} {at key : ℕ} (n : ℕ) → ValueFrom s work text st at key
+    → NewFit s at text (st .stored) n work valuesAt (st .values) true 0
+new-value-asks {work = work} {text} {key = key} n h =
+    let z = h .from .ready .tidy .sized in
+    new-asks (h .from) (room-values z (z .values)) (value-tells (h .from .ready) n (nameAt (readerMemory work text) key))
 
 empty-is : (x : Text) → length x ≡ 0 → isEmpty x ≡ true
 unfolding isEmpty

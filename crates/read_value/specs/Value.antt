@@ -17,7 +17,7 @@ pub record ValueFrom (stream work text : List ℕ) (st : State) (at key : ℕ) :
   pub from : ReadFrom stream work text st at
   pub row : key < st .names
 
--- A value or a text leaves URIs and names; its row is not told.
+-- A value or a text leaves URIs and names, and answers no row.
 pub record ValueRow (st : State) (g : Got) : Type 0 where
   pub row : g .row ≡ 0
   pub uris : g .state .uris ≡ st .uris

@@ -38,11 +38,11 @@ module _ (s : format.Settings) {stream : List ℕ} {p : Passed} (passes : Passes
       → Attempted (readStream s stream) events text events′ text′ r
   unfolding readStream readBody
   header-refused some is =
-      let d = passes .refused (omega (arith, some)) in attempted-refused (d .refusal) 0 (p .number) 0 (rw (d .result)) (d .is) refl is
+      let d = passes .outcome .refused (omega (arith, some)) in attempted-refused (d .refusal) 0 (p .number) 0 (rw (d .result)) (d .is) refl is
 
   module _ (none : p .number ≡ 0) where
     pub header-inside : p .at ≤ 8 * length stream
-    header-inside = passes .read none .inside
+    header-inside = passes .outcome .read none .inside
 
     pub header-passed : (work text : List ℕ) {text₀ : List ℕ} (st : State) → st .at ≡ p .at → contextOf (readerMemory work text) st ≡ start → length text ≡ length text₀
         → {events events′ text′ : List ℕ} {r : declared.ReadReply} → Attempted (answerFrom s stream text work st) events text events′ text′ r
@@ -51,7 +51,7 @@ module _ (s : format.Settings) {stream : List ℕ} {p : Passed} (passes : Passes
     header-passed work text st place begins same a =
         let answer : answerFrom s stream text work st ≡ readEvents maxEvents s start (drop (p .at) (unpack stream)) =
         ap₂ (λ c n. readEvents maxEvents s c (drop n (unpack stream))) begins place in
-        attempted-as (answer ∙ rw (passes .read none .result)) refl same a
+        attempted-as (answer ∙ rw (passes .outcome .read none .result)) refl same a
 
 -- ---- what is lent
 

@@ -5,9 +5,11 @@ use Rattle.format.specs.Settings as format
 use Rattle.settings.specs.declared.SettingNumbers.{SettingNumbers}
 use Rattle.settings.specs.declared.Settings.{Settings}
 
+-- The definitions' numbers.
 unfoldable pub numbersOf : SettingNumbers → format.SettingNumbers
 numbersOf s = record { alignment = s .alignment; cookie = s .cookie; comments = s .comments; instructions = s .instructions }
 
+-- Numbers that have a meaning mean these settings (crates/format/specs/Settings.antt).
 unfoldable pub settingsMeant : SettingNumbers → Settings
 settingsMeant s =
     record {

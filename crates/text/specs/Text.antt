@@ -42,6 +42,7 @@ pub record Span : Type 0 where
   pub place : ℕ
   pub size : ℕ
 
+-- Place plus length does not pass the store's length; else it is PLACE (scope, "Refusal numbers", 15).
 unfoldable pub inside : Text → Span → Bool
 inside store x = leb (x .place + x .size) (length store)
 

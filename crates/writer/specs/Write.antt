@@ -24,7 +24,7 @@ answerOf s stream xs store work = format-writer.write (record { octets = length 
 unfoldable pub replyOf : declared.WriteReply → WriteReply
 replyOf r = record { number = r .number; index = r .index; octets = r .octets }
 
--- n octets: those of the answer, and zeros behind them.
+-- n octets: those of the answer, and zeros behind them; after a refusal zeros alone (scope, "Refusal numbers").
 unfoldable pub filled : ℕ → Answer (List ℕ) → List ℕ
 filled n (refused k i) = replicate n 0
 filled n (accepted os) = os ++ replicate (n - length os) 0

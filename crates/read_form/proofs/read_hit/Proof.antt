@@ -9,7 +9,7 @@ count-requires : tie.Need-count-requires
 count-requires c κs = search needs
 
 choice-requires : tie.Need-choice-requires
-choice-requires c κs = choice-asks (c .before .before .before .pre) ((c .before .before .before .args) .all) ((c .before .before .before .args) .key) (c .count .ensures)
+choice-requires c κs = choice-asks (c .before .before .before .pre) (c .count .ensures)
 
 enum-known-k : tie.Need-enum-known-k
 enum-known-k c = search needs

@@ -4,16 +4,15 @@ use borrow.Author.Needs.{needs}
 use Rattle.format.specs.Sizes.{maxUris, maxNames, maxStore}
 use Rattle.layout.proofs.Sizes.{room-uris, room-names}
 use Rattle.layout.specs.Layout.{urisAt, namesAt}
-use Rattle.read_form.proofs.Fresh.{name-asks}
 use Rattle.read_form.proofs.Hits.{row-room}
 use borrow.Author.Tests.{not-true, not-false}
-use Rattle.read_local.proofs.Locals.{local-fresh, local-declined, local-unnamed, local-full, local-joins}
+use Rattle.read_local.proofs.Locals.{new-local-asks, local-fresh, local-declined, local-unnamed, local-full, local-joins}
 use Rattle.read_local.proofs.read_new_local.Statement.{statement}
 use Rattle.read_local.proofs.read_new_local.Tie as tie
 
 read-new-requires : tie.Need-read-new-requires
 unfolding maxUris urisAt namesAt
-read-new-requires c κs = name-asks ((c .before .before .before .before .before .pre) .from)
+read-new-requires c κs = new-local-asks ((c .before .before .before .before .before .args) .attr) _ (c .before .before .before .before .before .pre)
 
 refused-requires : tie.Need-refused-requires
 refused-requires c κs = search needs

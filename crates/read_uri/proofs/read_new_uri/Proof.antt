@@ -4,15 +4,14 @@ use borrow.Author.Needs.{needs}
 use Rattle.format.specs.Sizes.{maxUris, maxStore}
 use Rattle.layout.proofs.Sizes.{room-uris}
 use Rattle.layout.specs.Layout.{urisAt}
-use Rattle.read_form.proofs.Fresh.{uri-asks}
 use borrow.Author.Tests.{not-true, not-false}
-use Rattle.read_uri.proofs.Uris.{uri-fresh, uri-declined, uri-full, uri-joins}
+use Rattle.read_uri.proofs.Uris.{new-uri-asks, uri-fresh, uri-declined, uri-full, uri-joins}
 use Rattle.read_uri.proofs.read_new_uri.Statement.{statement}
 use Rattle.read_uri.proofs.read_new_uri.Tie as tie
 
 read-new-requires : tie.Need-read-new-requires
 unfolding urisAt
-read-new-requires c κs = uri-asks (c .before .before .before .before .before .pre)
+read-new-requires c κs = new-uri-asks _ (c .before .before .before .before .before .pre)
 
 refused-requires : tie.Need-refused-requires
 refused-requires c κs = search needs

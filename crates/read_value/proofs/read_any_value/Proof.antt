@@ -3,13 +3,13 @@ use borrow.Author.Needs.{needs}
 use Rattle.format.specs.Sizes.{maxUris, maxNames}
 use Rattle.layout.specs.Layout.{urisAt, namesAt, valuesAt}
 use Rattle.read_form.proofs.Hits.{row-room}
-use Rattle.read_value.proofs.Values.{value-hit-asks, any-missed, any-below, any-loose, any-passed}
+use Rattle.read_value.proofs.Values.{any-asks, any-missed, any-below, any-loose, any-passed}
 use Rattle.read_value.proofs.read_any_value.Statement.{statement}
 use Rattle.read_value.proofs.read_any_value.Tie as tie
 
 read-hit-requires : tie.Need-read-hit-requires
 unfolding maxUris maxNames urisAt namesAt valuesAt
-read-hit-requires c κs = value-hit-asks (c .before .before .before .pre)
+read-hit-requires c κs = any-asks (c .before .before .before .pre)
 
 returns : tie.Need-returns
 unfolding maxUris maxNames urisAt namesAt valuesAt
@@ -20,7 +20,7 @@ cast-row-at c = search needs
 
 row-at-requires : tie.Need-row-at-requires
 unfolding maxUris maxNames urisAt namesAt valuesAt
-row-at-requires c κs = row-room (value-hit-asks (c .before .before .before .before .before .before .before .pre) .room) (any-below (c .before .before .before .before .before .before .before .pre) (c .before .before .before .read-hit .ensures) (c .before .if1 .left))
+row-at-requires c κs = row-room (any-asks (c .before .before .before .before .before .before .before .pre) .room) (any-below (c .before .before .before .before .before .before .before .pre) (c .before .before .before .read-hit .ensures) (c .before .if1 .left))
 
 refused-requires : tie.Need-refused-requires
 refused-requires c κs = search needs

@@ -4,15 +4,14 @@ use borrow.Author.Needs.{needs}
 use Rattle.format.specs.Sizes.{maxUris, maxNames, maxValues, maxStore}
 use Rattle.layout.proofs.Sizes.{room-values}
 use Rattle.layout.specs.Layout.{urisAt, namesAt, valuesAt}
-use Rattle.read_form.proofs.Fresh.{value-asks}
 use borrow.Author.Tests.{not-true, not-false}
-use Rattle.read_value.proofs.Values.{value-fresh, value-declined, value-empty, value-full, value-joins}
+use Rattle.read_value.proofs.Values.{new-value-asks, value-fresh, value-declined, value-empty, value-full, value-joins}
 use Rattle.read_value.proofs.read_new_value.Statement.{statement}
 use Rattle.read_value.proofs.read_new_value.Tie as tie
 
 read-new-requires : tie.Need-read-new-requires
 unfolding maxUris maxNames urisAt namesAt valuesAt
-read-new-requires c κs = value-asks ((c .before .before .before .before .before .pre) .from)
+read-new-requires c κs = new-value-asks _ (c .before .before .before .before .before .pre)
 
 refused-requires : tie.Need-refused-requires
 refused-requires c κs = search needs

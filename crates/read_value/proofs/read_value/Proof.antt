@@ -6,7 +6,7 @@ use Rattle.layout.specs.Meaning.{nameAt}
 use Rattle.read_field.specs.View.{alignmentOf}
 use Rattle.outcome.specs.Memory.{readerMemory}
 use Rattle.read_form.proofs.Fresh.{ready-from, field-asks}
-use Rattle.read_value.proofs.Values.{value-hit-asks, own-value, value-from, value-refused, value-own, value-any, value-new}
+use Rattle.read_value.proofs.Values.{own-asks, own-value, value-from, value-refused, value-own, value-any, value-new}
 use Rattle.read_value.proofs.read_value.Statement.{statement}
 use Rattle.read_value.proofs.read_value.Tie as tie
 
@@ -27,7 +27,7 @@ enum-known-value c = search needs
 
 read-hit-requires : tie.Need-read-hit-requires
 unfolding maxUris maxNames urisAt namesAt valuesAt
-read-hit-requires c κs = value-hit-asks (value-from (c .before .before .before .before .before .before .before .before .before .pre) (c .before .before .before .before .before .unsigned .ensures) (c .before .before .before .value .given .1))
+read-hit-requires c κs = own-asks (value-from (c .before .before .before .before .before .before .before .before .before .pre) (c .before .before .before .before .before .unsigned .ensures) (c .before .before .before .value .given .1))
 
 same-length : tie.Need-same-length
 same-length c = search needs
