@@ -7,8 +7,8 @@ use mathlib.Core.Bool.{true, false, not, _&&_, true≢false}
 use mathlib.Core.List.{List, _++_}
 use mathlib.Core.Option.{none, some}
 use lib.ListN.{length, getD, take, drop}
-use lib.Dec.{eqb, leb, ltb}
-use borrow.Author.Tests.{eqb-true, ne-eqb, leb-true, ltb-true, ltb-false}
+use lib.Dec.{ltb}
+use borrow.Author.Tests.{ltb-true, ltb-false}
 use Rattle.fields.specs.Refusal.{numberOf, loose, limit}
 use Rattle.fields.proofs.Tests.{split, is-T}
 use Rattle.text.specs.Text.{Text}
@@ -40,6 +40,7 @@ use Rattle.learning.specs.declared.Grown.{Grown}
 use Rattle.learning.specs.Learning.{grown, withGrowth}
 use Rattle.learning.specs.Growth.{grownContext, Grows, Growth}
 use Rattle.learning.proofs.Growth.{grow-means, grow-asks}
+use Rattle.learning.proofs.Kept.{Above, grown-above, grown-refused}
 use Rattle.fitting.specs.Fitting.{Sought, newerOf, locatedHere, newestOf, learnedHere}
 use Rattle.fitting.proofs.Sought.{apart, sought-none}
 use Rattle.fitting.proofs.Fitting.{newest-asks, newest-means}
@@ -309,6 +310,14 @@ module _ {s : Settings} {stream events text work : List ℕ} {st : State} {r : D
           unfolding grownBy
           cells = growth-cells work₁ (g .state) (r .kind) (teachesHere (g .state) r) (g .row)
 
+          no-growth : grownBy work₁ (g .state) r (g .row) .ok ≡ false → withGrowth work₁ (g .state) (r .kind) (teachesHere (g .state) r) (g .row) ≡ work₁
+          unfolding grownBy
+          no-growth f = grown-refused work₁ (g .state) (r .kind) (g .row) (teachesHere (g .state) r) refl refl f
+
+          above : Above (g .state .stack) (grownBy work₁ (g .state) r (g .row) .state .stack)
+          unfolding grownBy
+          above = grown-above (g .state) (r .kind) (g .row) _ (teachesHere (g .state) r) refl
+
           grammars-within : withinGrammars (next s (contextOf (readerMemory work text) st) (eventText (content-outcome .read y .value)))
               ≡ grownBy work₁ (g .state) r (g .row) .ok
           grammars-within = sym (growth .within ∙ ap withinGrammars next-grown)
@@ -344,7 +353,7 @@ module _ {s : Settings} {stream events text work : List ℕ} {st : State} {r : D
               (gotten-declined _ (code .outcome .read z) (gotten-declined _ (content-outcome .read y) (need-declined _ loose _ (other-code e))))))
               (λ e. split (grownBy work₁ (g .state) r (g .row) .ok)
               (λ f. absurd (fails (rw (e, f))))
-              (λ f. rw (e, f) (taken-back (rw e (cells e .refused f))
+              (λ f. rw (e, f) (taken-back (rw e (no-growth e f))
               (gotten-declined _ (code .outcome .read z) (gotten-declined _ (content-outcome .read y)
               (declined-as (need-true _ loose _ _ (event-code e .same)) (need-declined _ limit _ (grammars-within e ∙ f))))))))
 
@@ -371,7 +380,7 @@ module _ {s : Settings} {stream events text work : List ℕ} {st : State} {r : D
                   sameText = strings .left y .longer .size;
                   sameWork = growth strict .work ∙ strings .left y .size;
                   behind = λ k h. cells strict .behind k h ∙ strings .left y .cells k (off-behind (reached st (r .at) (st .events)) k h);
-                  above = λ i h. cells strict .above i h ∙ ap (λ (x : Stack). getD (x .names) i 0) (content-outcome .is y .kept .sameStack);
+                  above = λ i h. above strict i h ∙ ap (λ (x : Stack). getD (x .names) i 0) (content-outcome .is y .kept .sameStack);
                 }
 
             event-step : Step s stream events text work st events′ text₁ grownWork (record { number = 0; state = reached grownState (grownState .at) (st .events + 1) })

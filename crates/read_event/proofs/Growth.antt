@@ -1,13 +1,11 @@
--- What an event leaves in learned rows and element grammars, as cells: nothing where it is refused, else zeros behind the counts. Behind the tables, and in
--- the open elements' array from the depth on, nothing changes.
+-- What an event leaves in learned rows and element grammars, as cells: zeros behind the counts. Behind the tables nothing changes.
 use Prim.Native.Nat.{ℕ, _+_, _≤_, _<_}
 use native.Mathlib.Omega.{arith}
-use mathlib.Core.Path.{_≡_, refl, sym, ap, _∙_}
+use mathlib.Core.Path.{_≡_, refl, sym, _∙_}
 use mathlib.Core.Logic.{inl, inr}
 use mathlib.Core.Bool.{Bool, true, false, cond, true≢false}
 use mathlib.Core.List.{List}
 use lib.ListN.{getD}
-use lib.Seq.{getD-set-other}
 use lib.Dec.{eqb, ltb}
 use borrow.Author.Tests.{eqb-true, ltb-true}
 use Rattle.fields.proofs.Tests.{split}
@@ -20,29 +18,16 @@ use Rattle.layout.proofs.Sizes.{learnedAt-is, grammarsAt-is, tableCells-is}
 use Rattle.state.specs.declared.Stack.{Stack}
 use Rattle.state.specs.declared.State.{State}
 use Rattle.state.specs.Stack.{pushed, popped}
-use Rattle.state.proofs.Laws.{push-stack}
 use Rattle.outcome.specs.Memory.{Clear}
 use Rattle.outcome.proofs.Memory.{Grown, clear-row, clear-same}
 use Rattle.learning.specs.declared.Grown as learning
 use Rattle.learning.specs.Learning.{grammarRowOf, entered, withGrammarRow, left, contentBegun, turned, withTurn, learnedRowOf, alsoLearnt, grown, withLearnt, withGrowth}
 use Rattle.state.specs.Changed.{regrown}
 
--- From the depth on the array is as it was.
-abbrev pub Above : Stack → Stack → Type 0
-Above s t = (i : ℕ) → t .depth ≤ i → getD (t .names) i 0 ≡ getD (s .names) i 0
-
-pushed-above : (s : Stack) (name : ℕ) → s .depth < maxOpen → Above s (pushed s name .stack)
-pushed-above s name room i h =
-    let e = push-stack s name room in
-    let d : s .depth + 1 ≤ i = rw (← ap (λ (t : Stack). t .depth) e) h in
-    ap (λ (t : Stack). getD (t .names) i 0) e ∙ getD-set-other (s .names) (s .depth) i name 0 (λ z. omega arith)
-
 -- Work memory v behind an event that leaves r.
 pub record Cells (w v : List ℕ) (st : State) (r : learning.Grown) : Type 0 where
-  pub refused : r .ok ≡ false → v ≡ w
   pub clear : r .ok ≡ true → {text : List ℕ} → Clear w text st → Clear v text (r .state)
   pub behind : (k : ℕ) → tableCells ≤ k → getD v k 0 ≡ getD w k 0
-  pub above : Above (st .stack) (r .state .stack)
 
 record Turns (w v : List ℕ) (st : State) (r : learning.Grown) : Type 0 where
   cells : Cells w v st r
@@ -57,20 +42,11 @@ restacked-clear mode stack c =
     refl
 
 module _ (w : List ℕ) (st : State) where
-  stays-cells : (mode : ℕ) (stack : Stack) → Above (st .stack) stack
-      → Turns w w st (record { ok = true; state = regrown st (st .learned) (st .grammars) mode stack })
-  stays-cells mode stack a =
-      record {
-        cells = record { refused = λ e. refl; clear = λ _ c. restacked-clear mode stack c; behind = λ k h. refl; above = a };
-        learned = refl;
-      }
+  stays-cells : (mode : ℕ) (stack : Stack) → Turns w w st (record { ok = true; state = regrown st (st .learned) (st .grammars) mode stack })
+  stays-cells mode stack = record { cells = record { clear = λ _ c. restacked-clear mode stack c; behind = λ k h. refl }; learned = refl }
 
-  no-cells : {v : List ℕ} → v ≡ w → Turns w v st (record { ok = false; state = st })
-  no-cells e =
-      record {
-        cells = record { refused = λ _. e; clear = λ t. absurd (true≢false (sym t)); behind = λ k h. rw e; above = λ i h. refl };
-        learned = refl;
-      }
+  no-cells : Turns w w st (record { ok = false; state = st })
+  no-cells = record { cells = record { clear = λ t. absurd (true≢false (sym t)); behind = λ k h. refl }; learned = refl }
 
   module _ (name : ℕ) where
     grammar-behind : st .grammars < maxGrammars → (k : ℕ) → tableCells ≤ k
@@ -83,37 +59,35 @@ module _ (w : List ℕ) (st : State) where
     enter-cells =
         split (ltb (st .stack .depth) maxOpen)
         (λ d. split (hasKey name (rows w grammarsAt (st .grammars)))
-        (λ k. let z : st .grammars + 0 ≡ st .grammars = omega arith in rw (d, k, z) (stays-cells 4 (pushed (st .stack) name .stack) (pushed-above (st .stack) name (ltb-true (st .stack .depth) maxOpen d))))
+        (λ k. let z : st .grammars + 0 ≡ st .grammars = omega arith in rw (d, k, z) (stays-cells 4 (pushed (st .stack) name .stack)))
         (λ k. split (ltb (st .grammars) maxGrammars)
         (λ f. rw (d, k, f) (record {
           cells = record {
-            refused = λ e. absurd (true≢false e);
             clear = λ _ c.
                 clear-row c (c .store)
                 (record { uris = omega arith; names = omega arith; values = omega arith; learned = omega arith; grammars = omega arith })
                 grammarsAt (st .grammars) (inr (grammarRowOf name, refl)) (omega (arith, ltb-true (st .grammars) maxGrammars f));
             behind = grammar-behind (ltb-true (st .grammars) maxGrammars f);
-            above = pushed-above (st .stack) name (ltb-true (st .stack .depth) maxOpen d);
           };
           learned = refl;
         }))
-        (λ f. rw (d, k, f) (no-cells refl))))
-        (λ d. rw d (no-cells refl))
+        (λ f. rw (d, k, f) no-cells)))
+        (λ d. rw d no-cells)
 
     turn-cells : (kind : ℕ) → Turns w (withTurn w st kind name) st (turned st kind name (hasKey name (rows w grammarsAt (st .grammars))))
     unfolding turned withTurn left contentBegun popped
     turn-cells kind =
         split (eqb kind 0)
-        (λ e. let z : kind ≡ 0 = eqb-true kind 0 e in rw z (stays-cells 1 (st .stack) (λ i h. refl)))
+        (λ e. let z : kind ≡ 0 = eqb-true kind 0 e in rw z (stays-cells 1 (st .stack)))
         (λ a. split (eqb kind 1)
-        (λ e. let z : kind ≡ 1 = eqb-true kind 1 e in rw z (stays-cells 3 (st .stack) (λ i h. refl)))
+        (λ e. let z : kind ≡ 1 = eqb-true kind 1 e in rw z (stays-cells 3 (st .stack)))
         (λ b. split (eqb kind 2)
         (λ e. rw (a, b, e) enter-cells)
         (λ c. split (eqb kind 3)
-        (λ e. rw (a, b, c, e) (stays-cells (st .mode) (st .stack) (λ i h. refl)))
+        (λ e. rw (a, b, c, e) (stays-cells (st .mode) (st .stack)))
         (λ d. split (eqb kind 4)
-        (λ e. rw (a, b, c, d, e) (stays-cells (cond (eqb (st .stack .depth) 1) 2 5) (popped (st .stack)) (λ i h. refl)))
-        (λ e. rw (a, b, c, d, e) (stays-cells (cond (eqb (st .mode) 4) 5 (st .mode)) (st .stack) (λ i h. refl)))))))
+        (λ e. rw (a, b, c, d, e) (stays-cells (cond (eqb (st .stack .depth) 1) 2 5) (popped (st .stack))))
+        (λ e. rw (a, b, c, d, e) (stays-cells (cond (eqb (st .mode) 4) 5 (st .mode)) (st .stack)))))))
 
 -- ---- learning
 
@@ -123,7 +97,6 @@ unfolding alsoLearnt withLearnt grammarsAt learnedAt valuesAt namesAt urisAt max
 learnt-cells {w} {v} {st} kind name t few x =
     split (t .ok)
     (λ e. rw e (record {
-      refused = λ z. absurd (true≢false z);
       clear = λ _ c.
           let d = x .cells .clear e c in
           clear-row d (d .store)
@@ -132,14 +105,8 @@ learnt-cells {w} {v} {st} kind name t few x =
       behind = λ k h.
           withRow-other v learnedAt (st .learned) (learnedRowOf st kind name) k (inl (omega (arith, few, learnedAt-is, tableCells-is)))
           ∙ x .cells .behind k h;
-      above = x .cells .above;
     }))
-    (λ e. rw e (record {
-      refused = λ _. x .cells .refused e;
-      clear = λ z. absurd (true≢false (sym z));
-      behind = x .cells .behind;
-      above = x .cells .above;
-    }))
+    (λ e. rw e (record { clear = λ z. absurd (true≢false (sym z)); behind = x .cells .behind }))
 
 pub growth-cells : (w : List ℕ) (st : State) (kind : ℕ) (teaches : Bool) (name : ℕ)
     → Cells w (withGrowth w st kind teaches name) st (grown st kind teaches name (hasKey name (rows w grammarsAt (st .grammars))))
@@ -148,5 +115,5 @@ growth-cells w st kind teaches name =
     split teaches
     (λ e. split (ltb (st .learned) maxLearned)
     (λ f. rw (e, f) (learnt-cells kind name (turned st kind name (hasKey name (rows w grammarsAt (st .grammars)))) (ltb-true (st .learned) maxLearned f) (turn-cells w st name kind)))
-    (λ f. rw (e, f) (no-cells w st refl .cells)))
+    (λ f. rw (e, f) (no-cells w st .cells)))
     (λ e. rw e (turn-cells w st name kind .cells))

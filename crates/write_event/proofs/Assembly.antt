@@ -22,6 +22,7 @@ use Rattle.format.specs.Writer.{firstFailed, contentTests, faultOf}
 use Rattle.layout.specs.Meaning.{Memory, contextIn}
 use Rattle.layout.specs.Writer.{writerMemory}
 use Rattle.productions.proofs.Known.{Numbered}
+use Rattle.state.specs.declared.Stack.{Stack}
 use Rattle.state.specs.declared.State as state
 use Rattle.standing.specs.Standing.{countsOf, contextOf, Standing}
 use Rattle.standing.proofs.Kept.{kept-standing, kept-context}
@@ -36,6 +37,7 @@ use Rattle.sending.proofs.Items.{some-refusal, sent-wrote}
 use Rattle.write_items.specs.Items.{productionOf, ItemsFit, ItemsSent}
 use Rattle.learning.specs.declared.Grown.{Grown}
 use Rattle.learning.specs.Growth.{grownContext, Grows, Growth}
+use Rattle.learning.proofs.Kept.{Above}
 use Rattle.write_code.specs.Coding.{Encoded, CodeSent}
 use Rattle.write_code.specs.declared.Coding.{Coding}
 use Rattle.write_event.specs.Step.{StepReady, eventPassed, Done, Step}
@@ -148,15 +150,17 @@ module _ {s : Settings} {w : List ℕ} {st : state.State} {ev : Event Text} {str
         grammars-within : withinGrammars (next s (contextOf (writerMemory w) st) ev) ≡ g .ok
         grammars-within = sym (grew .within ∙ ap withinGrammars next-grown)
 
-        event-done : Put stream (st .at) (eventBits s (contextOf (writerMemory w) st) ev) stream₂ (r .state .at) → g .ok ≡ true
-            → Done s ev stream w st stream₂ w₃ (g .state)
-        event-done put ok =
+        event-done : Put stream (st .at) (eventBits s (contextOf (writerMemory w) st) ev) stream₂ (r .state .at)
+            → Above (r .state .stack) (g .state .stack) → g .ok ≡ true → Done s ev stream w st stream₂ w₃ (g .state)
+        event-done put above ok =
             record {
               put = rw (grew .at) put;
               near = omega (arith, grew .at, wrote .near, enc .near, items-few (contextOf (writerMemory w) st .state) (enc .code .production) ev);
               context = grew .context ok ∙ next-grown;
               standing = grew .standing ok;
               events = grew .events ∙ wrote .kept .sameEvents ∙ ap (λ (t : state.State). t .events) (enc .moved-is);
+              above = λ i h.
+                  above i h ∙ ap (λ (x : Stack). getD (x .names) i 0) (wrote .kept .sameStack ∙ ap (λ (t : state.State). t .stack) (enc .moved-is));
             }
 
 -- ---- the step: refused at one of its parts, or done
@@ -215,8 +219,9 @@ module _ {s : Settings} (store : Text) (e : Event Span) {stream w : List ℕ} {s
             refl (event-put .octets) (grew .work ∙ sent .sent .wrote .kept .size) (rw still (old-context enc sent stand))
 
         -- No refusal.
-        pub done-step : g .ok ≡ true → Step s store e stream w st stream₂ w₃ (record { number = 0; state = g .state })
-        done-step f =
+        pub done-step : Above (r .state .stack) (g .state .stack) → g .ok ≡ true
+            → Step s store e stream w st stream₂ w₃ (record { number = 0; state = g .state })
+        done-step above f =
             let c : Context = contextOf (writerMemory w) st in
             let fine : faultOf s c store e ≡ none =
             fault-none-of s c store e (enc .code) (enc .is) h (content-passed enc sent stand zero) (grammars-within enc sent stand zero grew ∙ f) in
@@ -224,6 +229,6 @@ module _ {s : Settings} (store : Text) (e : Event Span) {stream w : List ℕ} {s
               fault = rw fine (sym none-fault);
               octets = event-put .octets;
               size = grew .work ∙ sent .sent .wrote .kept .size;
-              done = λ z. event-done enc sent stand zero grew (rw (event-whole s c store e fine) at event-put) f;
+              done = λ z. event-done enc sent stand zero grew (rw (event-whole s c store e fine) at event-put) above f;
               refused = λ l. absurd (omega arith);
             }

@@ -2,24 +2,17 @@
 use Prim.Native.Nat.{ℕ, zero, suc, _+_, _≤_}
 use native.Mathlib.Omega.{arith}
 use mathlib.Core.Path.{_≡_, refl, sym, ap, _∙_}
-use mathlib.Core.Bool.{Bool, true, false, true≢false}
 use mathlib.Core.List.{List, [], _∷_, _++_, map, append-nil, append-assoc}
 use lib.ListN.{length, take, length-map, length-append}
 use lib.Seq.{take-take, take-at}
-use lib.Dec.{eqb, ltb}
-use borrow.Author.Tests.{eqb-true}
 use Rattle.fields.specs.Field.{Alignment}
 use Rattle.fields.proofs.Tests.{split}
 use Rattle.text.specs.Text.{Text}
-use Rattle.format.specs.Event.{Event}
-use Rattle.format.specs.Sizes.{maxOpen, maxLearned, maxGrammars}
 use Rattle.format.specs.Tables.{Tables, Role, Form, hit, literal, added, tablesAfter, formOf, partitionsOf}
 use Rattle.format.specs.Context.{Context, Item, afterItem, afterItems}
 use Rattle.rows.specs.declared.Row.{Row}
-use Rattle.rows.specs.Rows.{rows, withRowBelow}
+use Rattle.rows.specs.Rows.{rows}
 use Rattle.rows.proofs.Laws.{rows-length}
-use Rattle.productions.specs.Locate.{hasKey}
-use Rattle.layout.specs.Layout.{grammarsAt}
 use Rattle.layout.specs.Meaning.{tablesIn, contextIn, placedAt, nameEntry, valueEntry}
 use Rattle.layout.specs.Writer.{writerMemory}
 use Rattle.layout.proofs.Sizes.{length-text}
@@ -27,9 +20,6 @@ use Rattle.state.specs.declared.State.{State}
 use Rattle.standing.specs.Standing.{countsOf, contextOf, Standing}
 use Rattle.standing.proofs.Kept.{kept-context}
 use Rattle.sending.specs.Sending.{tablesOf, Wrote}
-use Rattle.learning.specs.declared.Grown.{Grown}
-use Rattle.learning.specs.Growth.{Grows}
-use Rattle.learning.specs.Learning.{entered, withGrammarRow, turned, withTurn, alsoLearnt, grown, withLearnt, withGrowth}
 
 -- ---- tables
 
@@ -104,37 +94,3 @@ module _ {a : Alignment} {is : List Item} {s w s′ w′ : List ℕ} {st st′ :
   context-back =
       let same = ap (λ (c : Context). c .state) (kept-context h (p .kept)) in
       rw (tables-back, p .kept .learned, p .kept .grammars, rw (p .kept .sameMode, p .kept .sameStack) at same)
-
--- ---- the grammars
-
-module _ (w : List ℕ) (st : State) (kind name : ℕ) where
-  turn-refused : turned st kind name (hasKey name (rows w grammarsAt (st .grammars))) .ok ≡ false → withTurn w st kind name ≡ w
-  unfolding turned entered withTurn withGrammarRow withRowBelow
-  turn-refused e =
-      split (eqb kind 2)
-      (λ k. split (ltb (st .stack .depth) maxOpen)
-      (λ d. split (hasKey name (rows w grammarsAt (st .grammars)))
-      (λ g. rw (k, d, g))
-      (λ g. split (ltb (st .grammars) maxGrammars)
-      (λ f. absurd (true≢false (rw (eqb-true kind 2 k, d, g, f) at e)))
-      (λ f. rw (k, d, g, f))))
-      (λ d. rw (k, d)))
-      (λ k. rw k)
-
-  growth-refused : (teaches : Bool) → grown st kind teaches name (hasKey name (rows w grammarsAt (st .grammars))) .ok ≡ false
-      → withGrowth w st kind teaches name ≡ w
-  unfolding grown alsoLearnt withGrowth withLearnt
-  growth-refused false e = turn-refused e
-  growth-refused true e =
-      split (ltb (st .learned) maxLearned)
-      (λ f. split (turned st kind name (hasKey name (rows w grammarsAt (st .grammars))) .ok)
-      (λ t. absurd (true≢false (rw (f, t) at e)))
-      (λ t. rw (f, t) (turn-refused t)))
-      (λ f. rw f)
-
--- `grow` refuses, and writes nothing.
-pub grow-refused : {w w′ : List ℕ} {st : State} {e : Event Text} {kind name : ℕ} {teaches : Bool} {r : Grown}
-    → Grows (writerMemory w) st e kind teaches name → r ≡ grown st kind teaches name (hasKey name (rows w grammarsAt (st .grammars)))
-    → w′ ≡ withGrowth w st kind teaches name → r .ok ≡ false → w′ ≡ w
-grow-refused {w} {st} {kind = kind} {name} {teaches} x is z f =
-    z ∙ growth-refused w st kind name teaches (sym (ap (λ (g : Grown). g .ok) is) ∙ f)

@@ -4,7 +4,7 @@ use mathlib.Core.Path.{_≡_}
 use mathlib.Core.Bool.{cond}
 use mathlib.Core.List.{List, [], _++_}
 use mathlib.Core.Option.{Option, none, some}
-use lib.ListN.{length}
+use lib.ListN.{length, getD}
 use lib.Dec.{T}
 use Rattle.fields.specs.Bits.{Bits}
 use Rattle.text.specs.Text.{Text, Span, inside, part}
@@ -48,6 +48,8 @@ pub record Done (s : Settings) (e : Event Text) (stream w : List ℕ) (st : Stat
   pub context : contextOf (writerMemory w′) st′ ≡ next s (contextOf (writerMemory w) st) e
   pub standing : Standing (writerMemory w′) st′
   pub events : st′ .events ≡ st .events
+  -- The open elements' array from the depth on is as it was.
+  pub above : (i : ℕ) → st′ .stack .depth ≤ i → getD (st′ .stack .names) i 0 ≡ getD (st .stack .names) i 0
 
 -- What is written of an event: its code, where a production fits; behind it, where all its strings lie inside the store, those before the first that is
 -- refused.

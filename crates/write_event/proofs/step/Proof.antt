@@ -4,10 +4,10 @@ use mathlib.Core.Path.{sym, ap, _∙_}
 use borrow.Author.Tests.{not-true, not-false}
 use borrow.Author.Needs.{needs}
 use Rattle.learning.proofs.Growth.{grow-writer, grow-asks}
+use Rattle.learning.proofs.Kept.{grown-above, grown-refused}
 use Rattle.settings.specs.Meant.{settingsFrom}
 use Rattle.format.specs.Grammar.{kindNumber}
 use Rattle.write_event.proofs.Assembly.{shape-step, place-step, content-step, limit-step, done-step, items-ask, items-grow}
-use Rattle.write_event.proofs.Back.{grow-refused}
 use Rattle.write_event.proofs.Events.{same-kind}
 use Rattle.write_event.proofs.step.Statement.{statement}
 use Rattle.write_event.proofs.step.Tie as tie
@@ -96,7 +96,7 @@ returns-4 c =
     limit-step _ _ enc stand (sym (inside .before .all-inside .ensures) ∙ not-false _ (inside .if2 .left)) (sent .put-items .ensures) (whole .if3 .left)
     (grow-writer grows (grown .grow .ensures .0) (grown .grow .ensures .1))
     (not-true _ (c .if4 .taken))
-    (grow-refused grows (grown .grow .ensures .0) (grown .grow .ensures .1) (not-true _ (c .if4 .taken)))
+    (grown-refused _ _ _ _ _ (grown .grow .ensures .0) (grown .grow .ensures .1) (not-true _ (c .if4 .taken)))
 
 same-length-9 : tie.Need-same-length-9
 same-length-9 c = let sent = c .before .before .before .before .before .before .before .before .before .before .before .before .before .before .before in sent .put-items .kept .1 .0 ∙ sent .before .before .before .before .before .before .before .before .before .before .put-event-code .kept .1 .0
@@ -118,7 +118,7 @@ returns-5 c =
     done-step _ _ enc stand (sym (inside .before .all-inside .ensures) ∙ not-false _ (inside .if2 .left)) (sent .put-items .ensures) (whole .if3 .left)
     (grow-writer (items-grow enc (sent .put-items .ensures) stand (whole .if3 .left) (grown .before .before .kind-of .ensures ∙ sym (ap kindNumber (same-kind _ _))))
     (grown .grow .ensures .0) (grown .grow .ensures .1))
-    (not-false _ (c .before .if4 .left))
+    (grown-above _ _ _ _ _ (grown .grow .ensures .0)) (not-false _ (c .before .if4 .left))
 
 pub step-spec : {M : Type 1} → statement M
 step-spec =
