@@ -9,12 +9,13 @@ use lib.Dec.{ltb}
 use Rattle.text.specs.Text.{Text}
 use Rattle.format.specs.Event.{QName, Event, kindOf}
 use Rattle.format.specs.Sizes.{maxLearned}
+use Rattle.format.specs.Tables.{namesOf, indexOf}
 use Rattle.format.specs.Grammar.{Production, kindNumber, productionFor, firstFit, learnedIn}
 use Rattle.rows.specs.declared.Found.{Found}
 use Rattle.rows.specs.declared.Found.the-variants.{At, Nothing}
 use Rattle.rows.specs.Rows.{Room, rows, countOf, findThat, found}
 use Rattle.layout.specs.Layout.{learnedAt}
-use Rattle.layout.specs.Meaning.{Memory, nameAt, learnedFrom}
+use Rattle.layout.specs.Meaning.{Memory, nameAt, tablesIn, learnedFrom}
 use Rattle.productions.specs.Locate.{hasCells}
 use Rattle.productions.specs.Numbered.{Numbered}
 use Rattle.state.specs.declared.State.{State}
@@ -25,10 +26,11 @@ use Rattle.fitting.specs.declared.Newer.{Newer}
 
 -- ---- what an event is sought by
 
--- The row of the name q, where it is in the tables. (The number in At is free.)
+-- The row of the name q, where it is in the tables, and its number among the names of its URI.
 pub record NameFound (m : Memory) (st : State) (q : QName Text) (r : Found) : Type 0 where
   pub below : {number row : ℕ} → r ≡ At number row → row < st .names
   pub is : {number row : ℕ} → r ≡ At number row → nameAt m row ≡ q
+  pub index : {number row : ℕ} → r ≡ At number row → indexOf (namesOf (tablesIn m (countsOf st)) (q .uri)) (q .local) ≡ some number
   pub missing : r ≡ Nothing → (n : ℕ) → n < st .names → nameAt m n ≡ q → ⊥
 
 -- The event has this kind; in an element, a learned production of it would carry the name with this row, or none fits it.

@@ -14,6 +14,7 @@ use Rattle.rows.proofs.Answers.{find-hit, find-miss}
 use Rattle.layout.specs.Layout.{urisAt, namesAt}
 use Rattle.layout.specs.Meaning.{Memory, uriText, nameAt}
 use Rattle.layout.specs.Tidy.{Tidy}
+use Rattle.layout.proofs.Strings.{numberOf, find-answer, names-listed}
 use Rattle.state.specs.declared.State.{State}
 use Rattle.standing.specs.Standing.{countsOf}
 use Rattle.fitting.specs.Fitting.{NameFound}
@@ -43,6 +44,7 @@ module _ {m : Memory} {st : State} (t : Tidy m (countsOf st)) (q : QName Text) w
         record {
           below = λ z. absurd (apart (sym z));
           is = λ z. absurd (apart (sym z));
+          index = λ z. absurd (apart (sym z));
           missing = λ _ n b z.
               let u : ℕ = rowAt (m .work) namesAt n .key in
               same-text (textOf (m .cells) (rowAt (m .work) urisAt u)) (q .uri) (ap (λ p. p .uri) z)
@@ -63,6 +65,9 @@ module _ {m : Memory} {st : State} (t : Tidy m (countsOf st)) (q : QName Text) w
               let l : textOf (m .cells) (rowAt (m .work) namesAt row) ≡ q .local =
               eqText-eq (textOf (m .cells) (rowAt (m .work) namesAt row)) (q .local) (is-T _ z) in
               λ i. record { uri = k i; local = l i };
+          index = λ e.
+              rw (← is .is)
+              (find-answer (names-listed m (countsOf st) (t .distinct) (t .strings) u (is .below)) (q .local) answer ∙ ap numberOf e);
           missing = λ e n b z.
               let k : rowAt (m .work) namesAt n .key ≡ u =
               t .distinct .uris (rowAt (m .work) namesAt n .key) u (t .strings .nameKeys n b) (is .below) (ap (λ p. p .uri) z ∙ sym (is .is)) in
