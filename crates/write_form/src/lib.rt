@@ -8,8 +8,7 @@ ghost use Rattle.write_form.specs.Form.{HitFits, LiteralFits, Laid, Entr
 use layout::STORE;
 use state::State;
 
-// What a string that was sent leaves: the number of its refusal or 0, the row of a URI or a name, and 0 for other
-// strings, and the state behind it.
+// What a string that was sent leaves: the number of its refusal or 0; the row of an entry that was found or added, or 0; and the state behind it.
 pub struct Sent {
     pub number: u32,
     pub row: u32,
