@@ -132,6 +132,12 @@ fn put_event_code(
     }
 }
 
+fn refused(number: u32, st: State) -> Stepped
+    ensures { λ r. ⌜ r ≡ record { number = number; state = st } ⌝ }
+{
+    Stepped { number, state: st }
+}
+
 // Writes one event behind the state.
 pub fn step(
     o: Settings,
@@ -146,16 +152,10 @@ pub fn step(
 {
     let code = put_event_code(o, stream, st, text, e, work);
     if !code.fits {
-        return Stepped {
-            number: SHAPE,
-            state: st,
-        };
+        return refused(SHAPE, st);
     }
     if !all_inside(text, e) {
-        return Stepped {
-            number: PLACE,
-            state: st,
-        };
+        return refused(PLACE, st);
     }
     let coded = code.state;
     let sent = write_items::put_items(
@@ -169,18 +169,12 @@ pub fn step(
         work,
     );
     if sent.number != 0 {
-        return Stepped {
-            number: sent.number,
-            state: st,
-        };
+        return refused(sent.number, st);
     }
     let behind = sent.state;
     let grown = learning::grow(behind, kind_of(e), code.teaches, sent.row, work);
     if !grown.ok {
-        return Stepped {
-            number: LIMIT,
-            state: st,
-        };
+        return refused(LIMIT, st);
     }
     let state = grown.state;
     Stepped { number: 0, state }
