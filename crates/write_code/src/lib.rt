@@ -23,7 +23,7 @@ pub struct Coding {
     pub state: State,
 }
 
-// The row of a name.
+// The row of a name, and its number among the names of its URI.
 pub fn name_of(st: State, uri: &[u32], local: &[u32], work: &[u32]) -> Found
     requires { ⌜ Tidy (writerMemory (now work)) (countsOf st) ⌝ }
     ensures { λ r. ⌜ NameFound (writerMemory (now (work .entry))) st (record { uri = now (uri .entry); local = now (local .entry) }) r ⌝ }
