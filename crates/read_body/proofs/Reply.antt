@@ -1,9 +1,9 @@
 -- The reply to an answer.
-use mathlib.Core.Path.{_≡_, refl, ap, _∙_}
+use mathlib.Core.Path.{_≡_, refl, ap}
 use mathlib.Core.List.{List}
 use Prim.Native.Nat.{ℕ, _<_}
 use native.Mathlib.Omega.{arith}
-use lib.ListN.{length, replicate}
+use lib.ListN.{replicate}
 use Rattle.fields.specs.Refusal.{Refusal, numberOf, Answer, refused, accepted}
 use Rattle.fields.proofs.Refusal.{refusal-number}
 use Rattle.format.specs.Reader.{Reading, readReply}
@@ -33,13 +33,3 @@ module _ {events text events′ text′ : List ℕ} {r : declared.ReadReply} whe
     unfolding textFilled
     refused-text (refused k i) a h = refl
     refused-text (accepted v) a h = absurd (h (accepted-number v a))
-
--- The same answer, for parts of the same lengths.
-pub attempted-as : {x y : Answer Reading} {events text events₀ text₀ events′ text′ : List ℕ} {r : declared.ReadReply} → x ≡ y → length events ≡ length events₀
-    → length text ≡ length text₀ → Attempted x events text events′ text′ r → Attempted y events₀ text₀ events′ text′ r
-attempted-as e m n a =
-    record {
-      reply = a .reply ∙ ap readReply e;
-      cells = λ z. rw (← e, ← m) (a .cells z);
-      store = λ z. rw (← e, ← n) (a .store z);
-    }

@@ -29,7 +29,7 @@ unfoldable pub textFilled : ℕ → Answer Reading → List ℕ
 textFilled n (refused k i) = replicate n 0
 textFilled n (accepted r) = r .store ++ replicate (n - length (r .store)) 0
 
--- ---- before the clearing: after a refusal nothing is said of the cells
+-- ---- the loop, before the clearing: after a refusal nothing is said of the cells
 
 -- The reply to an answer, and the cells where it is accepted.
 pub record Attempted (x : Answer Reading) (events text events′ text′ : List ℕ) (r : declared.ReadReply) : Type 0 where

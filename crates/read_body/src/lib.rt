@@ -1,10 +1,11 @@
 // The events of a stream and the pad bits behind them, read. What the functions ask and leave is in specs/Body.antt, the reply in specs/Reply.antt.
 ghost use mathlib.Core.Path.{_≡_};
 ghost use Prim.Native.Nat.{_≤_};
-ghost use lib.ListN.{drop};
+ghost use lib.ListN.{length, drop, replicate};
 ghost use Rattle.fields.specs.Bits.{unpack, isPadding};
+ghost use Rattle.format.specs.Reader.{readReply};
 ghost use Rattle.settings.specs.Meant.{settingsFrom};
-ghost use Rattle.read_body.specs.Reply.{refusalOf, Attempted};
+ghost use Rattle.read_body.specs.Reply.{refusalOf, Attempted, replyOf, eventsFilled, textFilled};
 ghost use Rattle.read_body.specs.Body.{PlaceIn, RunReady, answerFrom};
 use read_field::Field;
 use refusal::LIMIT;
@@ -49,8 +50,8 @@ fn is_padding(stream: &[u8], at: usize) -> bool
     }
 }
 
-// The events, one behind the other, and the padding.
-pub fn read_events(
+// The events, one behind the other, and the padding. After a refusal the cells of the events before it are left.
+fn run(
     o: Settings,
     stream: &[u8],
     st: State,
@@ -81,4 +82,29 @@ pub fn read_events(
         }
     }
     refused(LIMIT, t.events)
+}
+
+// Reads the events and the padding: their cells and the text store, and zeros behind them; after a refusal zeros alone. Work memory is left zero.
+pub fn read_events(
+    o: Settings,
+    stream: &[u8],
+    st: State,
+    events: &mut [u32],
+    text: &mut [u32],
+    work: &mut [u32],
+) -> ReadReply
+    requires { ⌜ RunReady (now stream) (now events) (now text) (now work) st ⌝ }
+    ensures { λ r. ⌜ replyOf r ≡ readReply (answerFrom (settingsFrom o) (now (stream .entry)) (now (text .entry)) (now (work .entry)) st) ⌝ }
+    ensures { λ r. ⌜ now (events .exit) ≡ eventsFilled (length (now (events .entry))) (answerFrom (settingsFrom o) (now (stream .entry)) (now (text .entry)) (now (work .entry)) st) ⌝ }
+    ensures { λ r. ⌜ now (text .exit) ≡ textFilled (length (now (text .entry))) (answerFrom (settingsFrom o) (now (stream .entry)) (now (text .entry)) (now (work .entry)) st) ⌝ }
+    ensures { λ r. ⌜ now (work .exit) ≡ replicate (length (now (work .entry))) 0 ⌝ }
+{
+    let reply = run(o, stream, st, events, text, work);
+    clear::cells(work);
+    if reply.number != 0 {
+        clear::cells(events);
+        clear::cells(text);
+        return reply;
+    }
+    reply
 }

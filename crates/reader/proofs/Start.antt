@@ -115,6 +115,3 @@ module _ {stream events text work : List ℕ} (h : StreamReady stream events tex
     pub position : st .at ≡ at
     unfolding started
     position = rw begins
-
-    pub laid-length : length text′ ≡ length text
-    laid-length = rw laid (withText-length text 0 text-fits)

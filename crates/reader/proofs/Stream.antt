@@ -8,13 +8,13 @@ use lib.ListN.{length, drop, replicate, length-replicate}
 use lib.Dec.{leb, ltb}
 use borrow.Author.Tests.{le-leb, lt-leb, ltb-true, ltb-false}
 use Rattle.fields.specs.Bits.{unpack}
-use Rattle.fields.specs.Refusal.{numberOf, room, settings, long}
+use Rattle.fields.specs.Refusal.{Refusal, numberOf, room, settings, long, Answer, refused}
 use Rattle.fields.proofs.Tests.{split}
 use Rattle.format.specs.Settings.{meaningful, settingsOf, headerOf}
 use Rattle.format.specs.Settings as format
 use Rattle.format.specs.Sizes.{maxStream, maxEvents, maxStore, cellsPerEvent, eventCells, readerWork}
 use Rattle.format.specs.Context.{start}
-use Rattle.format.specs.Reader.{readEvents, readBody, readStream, enoughToRead}
+use Rattle.format.specs.Reader.{Reading, readReply, readEvents, readBody, readStream, enoughToRead}
 use Rattle.format.specs.Reader as format-reader
 use Rattle.state.specs.declared.State.{State}
 use Rattle.standing.specs.Standing.{contextOf}
@@ -24,34 +24,50 @@ use Rattle.settings.specs.declared.SettingNumbers.{SettingNumbers}
 use Rattle.settings.specs.declared.Settings.{Settings}
 use Rattle.outcome.specs.Memory.{readerMemory}
 use Rattle.read_header.specs.Header.{Passes}
-use Rattle.read_body.specs.Reply.{Attempted, refusalOf}
+use Rattle.read_body.specs.Reply.{replyOf, eventsFilled, textFilled, refusalOf}
 use Rattle.read_body.specs.Body.{answerFrom}
 use Rattle.reader.specs.Read.{answerOf, StreamReady}
 use Rattle.read_header.specs.declared.Passed.{Passed}
 use Rattle.read_body.specs.declared.ReadReply as declared
-use Rattle.read_body.proofs.Reply.{attempted-refused, attempted-as}
+
+-- ---- the reply to an answer, and what is left in event cells, text store and work memory of these lengths
+
+abbrev Answered : Answer Reading → ℕ → ℕ → ℕ → List ℕ → List ℕ → List ℕ → declared.ReadReply → Type 0
+Answered x l m n events text work r =
+    (replyOf r ≡ readReply x) × ((events ≡ eventsFilled l x) × ((text ≡ textFilled m x) × (work ≡ replicate n 0)))
+
+module _ {x : Answer Reading} (l m n : ℕ) {events text work : List ℕ} {r : declared.ReadReply} where
+  answered-refused : (k : Refusal) (number : ℕ) → x ≡ refused k 0 → number ≡ numberOf k → r ≡ refusalOf number 0
+      → events ≡ replicate l 0 → text ≡ replicate m 0 → work ≡ replicate n 0 → Answered x l m n events text work r
+  unfolding replyOf readReply refusalOf eventsFilled textFilled
+  answered-refused k number e a is no-events no-text no-work = (rw (is, e, a), (rw e no-events, (rw e no-text, no-work)))
+
+-- The same answer, for the same lengths.
+pub answered-as : {x y : Answer Reading} {l m n l₀ m₀ n₀ : ℕ} {events text work : List ℕ} (r : declared.ReadReply)
+    → x ≡ y → l ≡ l₀ → m ≡ m₀ → n ≡ n₀ → Answered x l m n events text work r → Answered y l₀ m₀ n₀ events text work r
+answered-as r e a b c h = rw (← e, ← a, ← b, ← c) h
 
 -- ---- the header, then the events
 
 module _ (s : format.Settings) {stream : List ℕ} {p : Passed} (passes : Passes (headerOf s) stream p) where
-  pub header-refused : (p .number ≡ 0 → ⊥) → {events text events′ text′ : List ℕ} {r : declared.ReadReply} → r ≡ refusalOf (p .number) 0
-      → Attempted (readStream s stream) events text events′ text′ r
+  pub header-refused : {events text work : List ℕ} → StreamReady stream events text work → (p .number ≡ 0 → ⊥) → {r : declared.ReadReply} → r ≡ refusalOf (p .number) 0
+      → Answered (readStream s stream) (length events) (length text) (length work) events text work r
   unfolding readStream readBody
-  header-refused some is =
-      let d = passes .outcome .refused (omega (arith, some)) in attempted-refused (d .refusal) 0 (p .number) 0 (rw (d .result)) (d .is) refl is
+  header-refused {events} {text} {work} h some is =
+      let d = passes .outcome .refused (omega (arith, some)) in
+      answered-refused _ _ (length work) (d .refusal) (p .number) (rw (d .result)) (d .is) is (h .noEvents) (h .noText) (h .noWork)
 
   module _ (none : p .number ≡ 0) where
     pub header-inside : p .at ≤ 8 * length stream
     header-inside = passes .outcome .read none .inside
 
-    pub header-passed : (work text : List ℕ) {text₀ : List ℕ} (st : State) → st .at ≡ p .at → contextOf (readerMemory work text) st ≡ start → length text ≡ length text₀
-        → {events events′ text′ : List ℕ} {r : declared.ReadReply} → Attempted (answerFrom s stream text work st) events text events′ text′ r
-        → Attempted (readStream s stream) events text₀ events′ text′ r
+    pub header-passed : (work text : List ℕ) (st : State) → st .at ≡ p .at → contextOf (readerMemory work text) st ≡ start
+        → answerFrom s stream text work st ≡ readStream s stream
     unfolding readStream readBody
-    header-passed work text st place begins same a =
+    header-passed work text st place begins =
         let answer : answerFrom s stream text work st ≡ readEvents maxEvents s start (drop (p .at) (unpack stream)) =
         ap₂ (λ c n. readEvents maxEvents s c (drop n (unpack stream))) begins place in
-        attempted-as (answer ∙ rw (passes .outcome .read none .result)) refl same a
+        answer ∙ rw (passes .outcome .read none .result)
 
 -- ---- what is lent
 
@@ -69,50 +85,63 @@ fits a b c k m n e =
     (λ f. split (ltb b m) (λ g. absurd (true≢false (rw (f, g) at e)))
     (λ g. (ltb-false a k f, ltb-false b m g, ltb-false c n (rw (f, g) at e))))
 
-module _ (s : SettingNumbers) (stream events text work : List ℕ) where
-  abbrev short : Bool
-  short = ltb (length events) 28672 || ltb (length text) 16384 || ltb (length work) 4096
+abbrev short : List ℕ → List ℕ → List ℕ → Bool
+short events text work = ltb (length events) 28672 || ltb (length text) 16384 || ltb (length work) 4096
 
-  pub no-room : short ≡ true → {events′ text′ : List ℕ} {r : declared.ReadReply} → r ≡ refusalOf 1 0 → Attempted (answerOf s stream events text work) events text events′ text′ r
+-- Everything that is lent is cleared, and tested then.
+module _ (s : SettingNumbers) (stream events text work : List ℕ) {events₁ text₁ work₁ : List ℕ}
+    (e : events₁ ≡ replicate (length events) 0) (t : text₁ ≡ replicate (length text) 0) (w : work₁ ≡ replicate (length work) 0) where
+  same-events : length events₁ ≡ length events
+  same-events = ap length e ∙ length-replicate {A = ℕ} (length events) 0
+
+  same-text : length text₁ ≡ length text
+  same-text = ap length t ∙ length-replicate {A = ℕ} (length text) 0
+
+  same-work : length work₁ ≡ length work
+  same-work = ap length w ∙ length-replicate {A = ℕ} (length work) 0
+
+  lent : (leb 28672 (length events) && leb 16384 (length text) && leb 4096 (length work)) ≡ not (short events₁ text₁ work₁)
+  lent = rw (← same-events, ← same-text, ← same-work) (enough (length events₁) (length text₁) (length work₁) 28672 16384 4096)
+
+  pub no-room : short events₁ text₁ work₁ ≡ true → {r : declared.ReadReply} → r ≡ refusalOf 1 0
+      → Answered (answerOf s stream events text work) (length events) (length text) (length work) events₁ text₁ work₁ r
   unfolding answerOf format-reader.read enoughToRead eventCells cellsPerEvent maxEvents maxStore readerWork numberOf
-  no-room e is = attempted-refused room 0 1 0 (rw (enough (length events) (length text) (length work) 28672 16384 4096, e)) refl refl is
+  no-room f is = answered-refused _ _ (length work) room 1 (rw (lent, f)) refl is e t w
 
-  module _ (few : short ≡ false) {asked : Bool} (meant : asked ≡ meaningful (numbersOf s)) where
-    pub no-meaning : not asked ≡ true → {events′ text′ : List ℕ} {r : declared.ReadReply} → r ≡ refusalOf 2 0 → Attempted (answerOf s stream events text work) events text events′ text′ r
+  module _ (few : short events₁ text₁ work₁ ≡ false) {asked : Bool} (meant : asked ≡ meaningful (numbersOf s)) where
+    pub no-meaning : not asked ≡ true → {r : declared.ReadReply} → r ≡ refusalOf 2 0
+        → Answered (answerOf s stream events text work) (length events) (length text) (length work) events₁ text₁ work₁ r
     unfolding answerOf format-reader.read enoughToRead eventCells cellsPerEvent maxEvents maxStore readerWork numberOf
-    no-meaning e is =
-        attempted-refused settings 0 2 0 (rw (enough (length events) (length text) (length work) 28672 16384 4096, few, ← meant, e)) refl refl is
+    no-meaning f is = answered-refused _ _ (length work) settings 2 (rw (lent, few, ← meant, f)) refl is e t w
 
     module _ (fine : not asked ≡ false) where
-      pub too-long : 16384 < length stream → {events′ text′ : List ℕ} {r : declared.ReadReply} → r ≡ refusalOf 3 0 → Attempted (answerOf s stream events text work) events text events′ text′ r
+      pub too-long : 16384 < length stream → {r : declared.ReadReply} → r ≡ refusalOf 3 0
+          → Answered (answerOf s stream events text work) (length events) (length text) (length work) events₁ text₁ work₁ r
       unfolding answerOf format-reader.read enoughToRead eventCells cellsPerEvent maxEvents maxStore readerWork maxStream numberOf
-      too-long l is =
-          attempted-refused long 0 3 0
-          (rw (enough (length events) (length text) (length work) 28672 16384 4096, few, ← meant, fine, lt-leb (length stream) 16384 l)) refl refl is
+      too-long l is = answered-refused _ _ (length work) long 3 (rw (lent, few, ← meant, fine, lt-leb (length stream) 16384 l)) refl is e t w
 
-      module _ (small : length stream ≤ 16384) {events₁ text₁ work₁ : List ℕ} (e : events₁ ≡ replicate (length events) 0) (t : text₁ ≡ replicate (length text) 0)
-          (w : work₁ ≡ replicate (length work) 0) where
+      module _ (small : length stream ≤ 16384) where
         pub stream-asks : StreamReady stream events₁ text₁ work₁
         unfolding eventCells cellsPerEvent maxEvents maxStore readerWork maxStream
         stream-asks =
-            let (a, b, c) = fits (length events) (length text) (length work) 28672 16384 4096 few in
-            rw (e, t, w)
-            (record {
+            let (a, b, c) = fits (length events₁) (length text₁) (length work₁) 28672 16384 4096 few in
+            record {
               size = small;
-              cells = rw (length-replicate {A = ℕ} (length events) 0) a;
-              room = rw (length-replicate {A = ℕ} (length text) 0) b;
-              rows = rw (length-replicate {A = ℕ} (length work) 0) c;
-              noEvents = rw (length-replicate {A = ℕ} (length events) 0);
-              noText = rw (length-replicate {A = ℕ} (length text) 0);
-              noWork = rw (length-replicate {A = ℕ} (length work) 0);
-            })
+              cells = a;
+              room = b;
+              rows = c;
+              noEvents = rw same-events e;
+              noText = rw same-text t;
+              noWork = rw same-work w;
+            }
 
         answer-stream : answerOf s stream events text work ≡ readStream (settingsOf (numbersOf s)) stream
         unfolding answerOf format-reader.read enoughToRead eventCells cellsPerEvent maxEvents maxStore readerWork maxStream
-        answer-stream = rw (enough (length events) (length text) (length work) 28672 16384 4096, few, ← meant, fine, le-leb (length stream) 16384 small)
+        answer-stream = rw (lent, few, ← meant, fine, le-leb (length stream) 16384 small)
 
-        pub stream-answered : {o : Settings} {events′ text′ : List ℕ} {r : declared.ReadReply} → o ≡ settingsMeant s
-            → Attempted (readStream (settingsFrom o) stream) events₁ text₁ events′ text′ r → Attempted (answerOf s stream events text work) events text events′ text′ r
-        stream-answered o-is a =
-            attempted-as (ap (λ o. readStream (settingsFrom o) stream) o-is ∙ ap (λ x. readStream x stream) (settings-from s) ∙ sym answer-stream)
-            (ap length e ∙ length-replicate {A = ℕ} (length events) 0) (ap length t ∙ length-replicate {A = ℕ} (length text) 0) a
+        pub stream-answered : {o : Settings} {events′ text′ work′ : List ℕ} (r : declared.ReadReply) → o ≡ settingsMeant s
+            → Answered (readStream (settingsFrom o) stream) (length events₁) (length text₁) (length work₁) events′ text′ work′ r
+            → Answered (answerOf s stream events text work) (length events) (length text) (length work) events′ text′ work′ r
+        stream-answered r o-is a =
+            answered-as r (ap (λ o. readStream (settingsFrom o) stream) o-is ∙ ap (λ x. readStream x stream) (settings-from s) ∙ sym answer-stream)
+            same-events same-text same-work a

@@ -4,7 +4,7 @@ ghost use mathlib.Core.Path.{_≡_};
 ghost use lib.ListN.{length, replicate};
 ghost use Rattle.format.specs.Reader.{readStream, readReply};
 ghost use Rattle.settings.specs.Meant.{settingsFrom};
-ghost use Rattle.read_body.specs.Reply.{Attempted, replyOf, eventsFilled, textFilled};
+ghost use Rattle.read_body.specs.Reply.{replyOf, eventsFilled, textFilled};
 ghost use Rattle.reader.specs.Read.{StreamReady, answerOf};
 use read_body::ReadReply;
 use refusal::LONG;
@@ -13,7 +13,7 @@ use refusal::SETTINGS;
 use settings::SettingNumbers;
 use settings::Settings;
 
-// The header and the events, with the initial entries in tables and store.
+// The header and the events, with the initial entries in tables and store. Where the header is refused, everything is left as it was: zero.
 fn read_stream(
     o: Settings,
     stream: &[u8],
@@ -22,7 +22,10 @@ fn read_stream(
     work: &mut [u32],
 ) -> ReadReply
     requires { ⌜ StreamReady (now stream) (now events) (now text) (now work) ⌝ }
-    ensures { λ r. ⌜ Attempted (readStream (settingsFrom o) (now (stream .entry))) (now (events .entry)) (now (text .entry)) (now (events .exit)) (now (text .exit)) r ⌝ }
+    ensures { λ r. ⌜ replyOf r ≡ readReply (readStream (settingsFrom o) (now (stream .entry))) ⌝ }
+    ensures { λ r. ⌜ now (events .exit) ≡ eventsFilled (length (now (events .entry))) (readStream (settingsFrom o) (now (stream .entry))) ⌝ }
+    ensures { λ r. ⌜ now (text .exit) ≡ textFilled (length (now (text .entry))) (readStream (settingsFrom o) (now (stream .entry))) ⌝ }
+    ensures { λ r. ⌜ now (work .exit) ≡ replicate (length (now (work .entry))) 0 ⌝ }
 {
     let h = read_header::read_header(o, stream);
     if h.number != 0 {
@@ -33,32 +36,8 @@ fn read_stream(
     read_body::read_events(o, stream, state::start(h.at, 99, 3, 6), events, text, work)
 }
 
-// First tests the lent lengths, the numbers of the settings and the length of the stream.
-fn attempt(
-    s: SettingNumbers,
-    stream: &[u8],
-    events: &mut [u32],
-    text: &mut [u32],
-    work: &mut [u32],
-) -> ReadReply
-    ensures { λ r. ⌜ Attempted (answerOf s (now (stream .entry)) (now (events .entry)) (now (text .entry)) (now (work .entry))) (now (events .entry)) (now (text .entry)) (now (events .exit)) (now (text .exit)) r ⌝ }
-{
-    if (events.len() < 28672) | (text.len() < 16384) | (work.len() < 4096) {
-        return read_body::refused(ROOM, 0);
-    }
-    if !settings::are_meaningful(s) {
-        return read_body::refused(SETTINGS, 0);
-    }
-    if 16384 < stream.len() {
-        return read_body::refused(LONG, 0);
-    }
-    clear::cells(events);
-    clear::cells(text);
-    clear::cells(work);
-    read_stream(settings::settings_of(s), stream, events, text, work)
-}
-
 // Reads the stream: the cells of its events and its text store, and zeros behind them; after a refusal zeros alone. Work memory is left zero.
+// All that is lent is cleared first; then come the tests of its lengths, of the settings' numbers and of the stream's length.
 pub fn read(
     s: SettingNumbers,
     stream: &[u8],
@@ -71,12 +50,17 @@ pub fn read(
     ensures { λ r. ⌜ now (text .exit) ≡ textFilled (length (now (text .entry))) (answerOf s (now (stream .entry)) (now (events .entry)) (now (text .entry)) (now (work .entry))) ⌝ }
     ensures { λ r. ⌜ now (work .exit) ≡ replicate (length (now (work .entry))) 0 ⌝ }
 {
-    let reply = attempt(s, stream, events, text, work);
+    clear::cells(events);
+    clear::cells(text);
     clear::cells(work);
-    if reply.number != 0 {
-        clear::cells(events);
-        clear::cells(text);
-        return reply;
+    if (events.len() < 28672) | (text.len() < 16384) | (work.len() < 4096) {
+        return read_body::refused(ROOM, 0);
     }
-    reply
+    if !settings::are_meaningful(s) {
+        return read_body::refused(SETTINGS, 0);
+    }
+    if 16384 < stream.len() {
+        return read_body::refused(LONG, 0);
+    }
+    read_stream(settings::settings_of(s), stream, events, text, work)
 }

@@ -1,9 +1,10 @@
 -- `read_stream` meets its contract.
+use mathlib.Core.Path.{refl}
 use native.Mathlib.Omega.{arith}
 use borrow.Author.Needs.{needs}
 use Rattle.settings.specs.Meant.{settingsFrom}
-use Rattle.reader.proofs.Stream.{header-refused, header-inside, header-passed}
-use Rattle.reader.proofs.Start.{rows-fit, text-fits, events-ask, context-starts, position, laid-length}
+use Rattle.reader.proofs.Stream.{header-refused, header-inside, header-passed, answered-as}
+use Rattle.reader.proofs.Start.{rows-fit, text-fits, events-ask, context-starts, position}
 use Rattle.reader.proofs.read_stream.Statement.{statement}
 use Rattle.reader.proofs.read_stream.Tie as tie
 
@@ -15,7 +16,8 @@ refused-requires c κs = search needs
 
 returns : tie.Need-returns
 returns c = let h = c .before .before .before in
-    header-refused (settingsFrom (h .before .before .before .before .before .args .o)) (h .read-header .ensures) (c .before .if1 .taken) (c .refused .ensures)
+    let a = h .before .before .before .before .before in
+    header-refused (settingsFrom (a .args .o)) (h .read-header .ensures) (a .pre) (c .before .if1 .taken) (c .refused .ensures)
 
 lay-rows-requires : tie.Need-lay-rows-requires
 lay-rows-requires c κs = (rows-fit (c .before .before .before .before .before .before .before .before .pre), omega arith)
@@ -50,10 +52,11 @@ returns-2 c = let e = c .before .before .before .before .before .before in
     let a = h .before .before .before .before .before in
     let b = e .before .before .before .before in
     let p = h .read-header .result .at in
-    header-passed (settingsFrom (a .args .o)) (h .read-header .ensures) (r .before .before .if1 .left) _ _ _
+    answered-as _
+    (header-passed (settingsFrom (a .args .o)) (h .read-header .ensures) (r .before .before .if1 .left) _ _ _
     (position (a .pre) p (r .lay-rows .ensures) (t .lay-text .ensures) (b .start .ensures))
-    (context-starts (a .pre) p (r .lay-rows .ensures) (t .lay-text .ensures) (b .start .ensures))
-    (laid-length (a .pre) p (r .lay-rows .ensures) (t .lay-text .ensures) (b .start .ensures)) (e .read-events .ensures)
+    (context-starts (a .pre) p (r .lay-rows .ensures) (t .lay-text .ensures) (b .start .ensures)))
+    refl (e .before .before .before .before .before .before .text .given) (t .before .before .before .work .given) (e .read-events .ensures)
 
 pub read-stream-spec : {M : Type 1} → statement M
 read-stream-spec =
