@@ -2,3 +2,4 @@ pub mod Cells
 pub mod Events
 pub mod Padding
 pub mod Reply
+pub mod Claims
