@@ -19,12 +19,12 @@ unfoldable pub cellsOfAll : List (Event Placed) → List ℕ
 cellsOfAll [] = []
 cellsOfAll (e ∷ es) = cellsOf (mapEvent spanOf e) ++ cellsOfAll es
 
--- n cells: the answered events, and zeros behind them.
+-- n cells: the answered events, and zeros behind them; after a refusal zeros alone (scope, "Refusal numbers").
 unfoldable pub eventsFilled : ℕ → Answer Reading → List ℕ
 eventsFilled n (refused k i) = replicate n 0
 eventsFilled n (accepted r) = cellsOfAll (r .events) ++ replicate (n - length (cellsOfAll (r .events))) 0
 
--- n cells: the answered text store, and zeros behind it.
+-- n cells: the answered text store, and zeros behind it; after a refusal zeros alone.
 unfoldable pub textFilled : ℕ → Answer Reading → List ℕ
 textFilled n (refused k i) = replicate n 0
 textFilled n (accepted r) = r .store ++ replicate (n - length (r .store)) 0

@@ -15,7 +15,7 @@ unfoldable pub answerOf : SettingNumbers → List ℕ → List ℕ → List ℕ 
 answerOf s stream events text work =
     format.read (record { events = length events; text = length text; work = length work }) (numbersOf s) stream
 
--- Zeros, and enough of them.
+-- A stream that is not too long; zeros, and enough of them.
 pub record StreamReady (stream events text work : List ℕ) : Type 0 where
   pub size : length stream ≤ maxStream
   pub cells : eventCells ≤ length events
