@@ -28,7 +28,7 @@ use Rattle.format.proofs.Body.{not-accepted, accepted-same}
 use Rattle.format.proofs.Stream.{stream-fit, stream-found, prefix-free}
 use Rattle.format.proofs.Step.{sane-start}
 use Rattle.format.proofs.Places.{settled-start, read-places, read-store}
-use Rattle.format.proofs.Examples.{K-holds, further-examples as others-hold, laid-out-examples as laid-out}
+use Rattle.format.proofs.Examples.{K-holds, further-examples as others-hold, laid-out-examples as laid-out, order-examples, writing-examples}
 use Rattle.format.proofs.Writes.{write-sound, write-complete}
 
 -- ---- good lists are those that may come after the start
@@ -314,4 +314,4 @@ demand-2 =
 -- ---- the worked examples
 
 pub worked-examples : WorkedExamples
-worked-examples = record { scope = K-holds; further = others-hold; layouts = laid-out }
+worked-examples = record { scope = K-holds; further = others-hold; layouts = laid-out; order = order-examples; writing = writing-examples }

@@ -19,7 +19,7 @@ use Rattle.format.specs.Lists.{every, withinTables, withinGrammars, shor
 use Rattle.format.specs.Reader.{readCharacter, readLiteral, readHit, readIn, readByLiterals, readEntry, readForm, readString, entryOf, carried, nameText, readName, readContent, readPart, readCode, sameCode, eventText, step, following, ending, onward, readEvents, readHeader, readBody, readStream, enoughToRead, read, listOf, readReply}
 use Rattle.fields.specs.Refusal.{numberOf}
 use Rattle.format.specs.Writer.{write, writeList, asOctets, writeEvents, unless, prepended, faultOf, eventTests, contentTests, stringTests, placeTests, firstFailed, enoughToWrite, writeReply}
-use Rattle.format.specs.Examples.{inUri, storeWith, Example, Hold, Lie, full, layoutOf, at, named, laidOut, answerFor, strictFor, inOctets, numbers, inBits, begin, attr, chars, end, whole, example, K, hex, digit, beginIn, attrIn, remark, instruct, others}
+use Rattle.format.specs.Examples.{inUri, storeWith, Example, Hold, Lie, full, layoutOf, at, named, laidOut, answerFor, strictFor, inOctets, numbers, inBits, begin, attr, chars, end, whole, example, K, hex, digit, beginIn, attrIn, remark, instruct, others, orders, Written, writes, listed, fullToWrite}
 
 -- Streams that a test finds equal are equal. (The test computes each stream once.)
 same-streams : (xs : List Example) → T (every (λ x. eqText (strictFor x) (x .stream)) xs) → map strictFor xs ≡ map (λ x. x .stream) xs
@@ -31,7 +31,7 @@ same-streams (x ∷ xs) t =
     cc (eqText-eq (strictFor x) (x .stream) (left test others t), same-streams xs (right test others t))
 
 -- Together, since all unfold the same definitions.
-computed : Hold K × Hold others × Lie laidOut
+computed : Hold K × Hold others × Lie laidOut × Hold orders × Written writes
 unfolding bitsOf valueOf each unpack octetsFrom octetsFor pack allZero isPadding return fail present need andThen _>>=_ _>>_ times bit
     octet littleEndian littleValue numberBits numberField widthFrom width choiceBits choice maxOctets maxUnsigned groups unsignedBits
     grouped unsigned text eqText isEmpty isChar maxStream maxEvents maxOpen maxUris maxNames maxValues maxGrammars maxLearned maxString
@@ -46,9 +46,15 @@ unfolding bitsOf valueOf each unpack octetsFrom octetsFor pack allZero isPadding
     inOctets numbers inBits begin attr chars end whole example K hex digit beginIn attrIn remark
     instruct others every full layoutOf at named laidOut spanOf inUri storeWith
     numberOf readReply inside part allChars stringsOf writerWork short write writeList asOctets writeEvents unless prepended faultOf eventTests contentTests stringTests
-    placeTests firstFailed enoughToWrite writeReply
+    placeTests firstFailed enoughToWrite writeReply orders writes listed fullToWrite
 computed =
-    (record { answers = refl; strictForms = same-streams K tt }, record { answers = refl; strictForms = same-streams others tt }, record { layouts = refl })
+    (
+      record { answers = refl; strictForms = same-streams K tt },
+      record { answers = refl; strictForms = same-streams others tt },
+      record { layouts = refl },
+      record { answers = refl; strictForms = same-streams orders tt },
+      record { answers = refl },
+    )
 
 pub K-holds : Hold K
 K-holds = computed .0
@@ -58,3 +64,9 @@ further-examples = computed .1
 
 pub laid-out-examples : Lie laidOut
 laid-out-examples = computed .2
+
+pub order-examples : Hold orders
+order-examples = computed .3
+
+pub writing-examples : Written writes
+writing-examples = computed .4

@@ -19,7 +19,7 @@ use Rattle.format.specs.Lists.{every, WellFormed, InsideLimits}
 use Rattle.fields.specs.Refusal.{accepted}
 use Rattle.format.specs.Reader.{Reading, ReaderRoom, enoughToRead, read, readReply, eventText}
 use Rattle.format.specs.Writer.{Stored, WriterRoom, enoughToWrite, write, writeReply}
-use Rattle.format.specs.Examples.{Hold, K, others, Lie, laidOut}
+use Rattle.format.specs.Examples.{Hold, K, others, Lie, laidOut, orders, Written, writes}
 
 abbrev pub AreOctets : List ℕ → Type 0
 AreOctets stream = T (every (λ b. ltb b 256) stream)
@@ -90,9 +90,11 @@ pub record Demand2 : Type 0 where
       → T (enoughToWrite r) → AreOctets stream → read p o stream ≡ accepted x
       → write r o (map storedOf (x .events)) (x .store) ≡ accepted stream
 
--- ---- the worked examples: K1 to K12; others; where strings lie
+-- ---- the worked examples: K1 to K12; others; where strings lie; the order of the tests, of the reader and of the writer
 
 pub record WorkedExamples : Type 0 where
   pub scope : Hold K
   pub further : Hold others
   pub layouts : Lie laidOut
+  pub order : Hold orders
+  pub writing : Written writes

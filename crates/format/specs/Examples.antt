@@ -1,19 +1,22 @@
--- Worked examples: streams with what the reader answers for them. K is the scope's own list of those to be proved; the others
--- show each of the scope's "mistakes that look right", and the settings.
+-- Worked examples: streams with what the reader answers for them, and lists with what the writer does. K is the scope's own list of those to be
+-- proved; the others show each of the scope's "mistakes that look right", the settings, where strings lie, and the order of the tests.
 use Prim.Native.Nat.{ℕ, _+_, _*_, _-_}
 use mathlib.Core.Bool.{cond}
 use Prim.Native.String.{String}
 use mathlib.Core.Path.{_≡_}
 use mathlib.Core.List.{List, [], _∷_, _++_, map}
-use Rattle.fields.specs.Refusal.{code, number, reference, loose, tail, Answer, refused, accepted}
+use mathlib.Core.Option.{none, some}
+use lib.ListN.{replicate}
 use lib.Dec.{ltb}
+use Rattle.fields.specs.Refusal.{settings, header, ended, code, number, character, reference, loose, name, limit, tail, shape, place, Answer, refused, accepted}
 use Rattle.text.specs.Text.{Span, Text, text}
 use Rattle.format.specs.Event.{QName, Event, mapEvent, startDocument, endDocument, endElement, startElement, attribute, characters, comment, instruction}
 use Rattle.format.specs.Settings.{SettingNumbers, settingsOf}
-use Rattle.format.specs.Sizes.{eventCells, maxStore, readerWork}
+use Rattle.format.specs.Sizes.{maxStream, eventCells, maxStore, readerWork, writerWork}
 use Rattle.format.specs.Tables.{spanOf, xmlUri}
 use Rattle.format.specs.Strict.{strict}
 use Rattle.format.specs.Reader.{Reading, ReaderRoom, read, listOf}
+use Rattle.format.specs.Writer.{Stored, WriterRoom, write}
 
 -- A stream under these settings, and the answer for it: the list, or a refusal with its index.
 pub record Example : Type 0 where
@@ -175,13 +178,13 @@ pub record Lie (xs : List LaidOut) : Type 0 where
   pub layouts : map (λ x. layoutOf (read full inOctets (hex (text (x .stream))))) xs ≡ map (λ x. (x .events, storeWith (x .literals))) xs
 
 unfoldable pub at : ℕ → ℕ → Span
-at place size = record { place = place; size = size }
+at p n = record { place = p; size = n }
 
 unfoldable pub inUri : ℕ → ℕ → ℕ → ℕ → QName Span
-inUri place size p n = record { uri = at place size; local = at p n }
+inUri q m p n = record { uri = at q m; local = at p n }
 
 unfoldable pub named : ℕ → ℕ → QName Span
-named place size = inUri 0 0 place size
+named p n = inUri 0 0 p n
 
 unfoldable pub laidOut : List LaidOut
 laidOut =
@@ -201,4 +204,67 @@ laidOut =
           ∷ endDocument ∷ [];
       literals = "xtypek";
     }
+    ∷ []
+
+-- ---- the order of the tests (scope, "Refusal numbers", "Order"): where two tests fail, the first is answered
+
+unfoldable pub orders : List Example
+orders =
+    -- The header: ENDED at each octet, then HEADER.
+    example inOctets "" (refused ended 0)
+    ∷ example (numbers 1 1 0 0) "24 45 58" (refused ended 0)
+    ∷ example (numbers 1 1 0 0) "24 45 59" (refused header 0)
+    ∷ example inOctets "A0" (refused header 0)
+    ∷ example inOctets "80" (refused ended 1)
+    -- A URI number past the table: REFERENCE.
+    ∷ example inOctets "80 04" (refused reference 1)
+    -- 1,025 code points, and the first is no Char: LIMIT.
+    ∷ example inOctets "80 01 82 08 00" (refused limit 1)
+    -- Two code points, of which the first is no Char and the second is not there: CHARACTER.
+    ∷ example inOctets "80 01 03 00" (refused character 1)
+    -- Attribute type of XMLSchema-instance as a literal: LOOSE. As the hit that it should be: NAME.
+    ∷ example inOctets "80 01 02 61 01 03 05 74 79 70 65" (refused loose 2)
+    ∷ example inOctets "80 01 02 61 01 03 00 01" (refused name 2)
+    -- <a><a><a>, the last by SE(*) where SE(a) is learned: LOOSE, but behind its content.
+    ∷ example inOctets "80 01 02 61 02 01 00 01 02 01" (refused ended 3)
+    ∷ example inOctets "80 01 02 61 02 01 00 01 02 01 00" (refused loose 3)
+    ∷ []
+
+-- A list lent to the writer, and the answer for it.
+pub record WriteExample : Type 0 where
+  pub numbers : SettingNumbers
+  pub events : List Stored
+  pub store : Text
+  pub answer : Answer (List ℕ)
+
+unfoldable pub fullToWrite : WriterRoom
+fullToWrite = record { octets = maxStream; work = writerWork }
+
+-- The writer answers for each as it says.
+pub record Written (xs : List WriteExample) : Type 0 where
+  pub answers : map (λ x. write fullToWrite (x .numbers) (x .events) (x .store)) xs ≡ map (λ x. x .answer) xs
+
+-- A list of byte-aligned settings.
+unfoldable pub listed : List Stored → Text → Answer (List ℕ) → WriteExample
+listed xs store a = record { numbers = inOctets; events = xs; store = store; answer = a }
+
+unfoldable pub writes : List WriteExample
+writes =
+    -- K1
+    listed (some startDocument ∷ some (startElement (named 0 1)) ∷ some endElement ∷ some endDocument ∷ []) (text "a") (accepted (hex (text "80 01 02 61 00")))
+    -- A settings number without meaning, and a list without events: SETTINGS.
+    ∷ record { numbers = numbers 2 0 0 0; events = []; store = []; answer = refused settings 0 }
+    -- A list that ends early: SHAPE at its length.
+    ∷ listed (some startDocument ∷ []) [] (refused shape 1)
+    -- A stored event that is SHAPE by itself.
+    ∷ listed (some startDocument ∷ none ∷ []) [] (refused shape 1)
+    -- Characters outside an element, and outside the store: SHAPE.
+    ∷ listed (some startDocument ∷ some (characters (at 9 9)) ∷ []) [] (refused shape 1)
+    -- A local name outside the store, which looked up is empty: PLACE.
+    ∷ listed (some startDocument ∷ some (startElement (named 9 9)) ∷ []) [] (refused place 1)
+    -- An empty one inside: NAME.
+    ∷ listed (some startDocument ∷ some (startElement (named 0 0)) ∷ []) [] (refused name 1)
+    -- 1,025 code points that are no Chars: LIMIT. One: CHARACTER.
+    ∷ listed (some startDocument ∷ some (startElement (named 0 1025)) ∷ []) (replicate 1025 0) (refused limit 1)
+    ∷ listed (some startDocument ∷ some (startElement (named 0 1)) ∷ []) (0 ∷ []) (refused character 1)
     ∷ []
