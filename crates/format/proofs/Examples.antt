@@ -47,14 +47,13 @@ unfolding bitsOf valueOf each unpack octetsFrom octetsFor pack allZero isPadding
     instruct others every full layoutOf at named laidOut spanOf inUri storeWith
     numberOf readReply inside part allChars stringsOf writerWork short write writeList asOctets writeEvents unless prepended faultOf eventTests contentTests stringTests
     placeTests firstFailed enoughToWrite writeReply orders writes listed fullToWrite
-computed =
-    (
-      record { answers = refl; strictForms = same-streams K tt },
-      record { answers = refl; strictForms = same-streams others tt },
-      record { layouts = refl },
-      record { answers = refl; strictForms = same-streams orders tt },
-      record { answers = refl },
-    )
+computed = (
+  record { answers = refl; strictForms = same-streams K tt },
+  record { answers = refl; strictForms = same-streams others tt },
+  record { layouts = refl },
+  record { answers = refl; strictForms = same-streams orders tt },
+  record { answers = refl },
+)
 
 pub K-holds : Hold K
 K-holds = computed .0
