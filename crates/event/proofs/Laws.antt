@@ -10,12 +10,12 @@ use lib.ListN.{length, set, getD, take, drop, replicate, length-append, length-d
 use lib.Dec.{eqb}
 use lib.Seq.{length-take-le, drop-cons, take-append-le, drop-append-le, take-at, drop-at, take-all, drop-drop, sets-eq}
 use borrow.Author.Tests.{eqb-true}
-use Rattle.fields.proofs.Tests.{split}
+use Rattle.spec_fields.proofs.Tests.{split}
 use Rattle.text.specs.Text.{Span}
-use Rattle.format.specs.Event.{Event, startDocument, endDocument, endElement}
-use Rattle.format.specs.Event.{startElement, attribute, characters, comment, instruction}
-use Rattle.format.specs.Sizes.{cellsPerEvent}
-use Rattle.format.specs.Writer.{Stored}
+use Rattle.spec_exi.specs.Event.{Event, startDocument, endDocument, endElement}
+use Rattle.spec_exi.specs.Event.{startElement, attribute, characters, comment, instruction}
+use Rattle.spec_exi.specs.Sizes.{cellsPerEvent}
+use Rattle.spec_exi.specs.Writer.{Stored}
 use Rattle.event.specs.declared.Event as declared
 use Rattle.event.specs.declared.Event.the-variants.{StartDocument, EndDocument, StartElement, Attribute}
 use Rattle.event.specs.declared.Event.the-variants.{EndElement, Characters, Comment, Instruction}

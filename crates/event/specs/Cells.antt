@@ -6,9 +6,9 @@ use mathlib.Core.Option.{none, some}
 use lib.ListN.{getD}
 use lib.Dec.{eqb}
 use Rattle.text.specs.Text.{Span}
-use Rattle.format.specs.Event.{QName, Event, startDocument, endDocument, endElement}
-use Rattle.format.specs.Event.{startElement, attribute, characters, comment, instruction}
-use Rattle.format.specs.Writer.{Stored}
+use Rattle.spec_exi.specs.Event.{QName, Event, startDocument, endDocument, endElement}
+use Rattle.spec_exi.specs.Event.{startElement, attribute, characters, comment, instruction}
+use Rattle.spec_exi.specs.Writer.{Stored}
 use Rattle.event.specs.declared.Part.{Part}
 use Rattle.event.specs.declared.Row.{Row}
 use Rattle.event.specs.declared.Event as declared

@@ -6,13 +6,13 @@ use mathlib.Core.Bool.{Bool, true, false, cond}
 use mathlib.Core.List.{List, [], _∷_, _++_, map, tail, zip}
 use mathlib.Core.Option.{Option, none, some, Option·map, Option·none-ne-some, map-eq-none-iff, map-eq-some-iff}
 use lib.ListN.{length, length-append, length-map}
-use Rattle.fields.specs.Bits.{each}
-use Rattle.fields.specs.Field.{Alignment, choiceBits}
-use Rattle.fields.proofs.Tests.{split}
+use Rattle.spec_fields.specs.Bits.{each}
+use Rattle.spec_fields.specs.Field.{Alignment, choiceBits}
+use Rattle.spec_fields.proofs.Tests.{split}
 use Rattle.text.specs.Text.{Text}
-use Rattle.format.specs.Event.{QName, Event, startDocument, endDocument, endElement, startElement, attribute, characters, comment, instruction, EE, kindOf, nameOf}
-use Rattle.format.specs.Settings.{Settings}
-use Rattle.format.specs.Grammar.{Production, unnamed, kindNumber, isWildcard, fitsName, fits, State, document, docContent, docEnd, finished, startTag, elementContent, Learned, learnedIn, kept, levels, allEmpty, choices, Code, atLevel, below, codeBits, raised, firstFit, codeOr, codeOf, teaches, productionFor, taught, learn, learnedAfter}
+use Rattle.spec_exi.specs.Event.{QName, Event, startDocument, endDocument, endElement, startElement, attribute, characters, comment, instruction, EE, kindOf, nameOf}
+use Rattle.spec_exi.specs.Settings.{Settings}
+use Rattle.spec_exi.specs.Grammar.{Production, unnamed, kindNumber, isWildcard, fitsName, fits, State, document, docContent, docEnd, finished, startTag, elementContent, Learned, learnedIn, kept, levels, allEmpty, choices, Code, atLevel, below, codeBits, raised, firstFit, codeOr, codeOf, teaches, productionFor, taught, learn, learnedAfter}
 use Rattle.event_code.specs.Parts.{partsBits, under, one, keptParts, documentParts, tagParts, contentParts, fixedParts, learnedPart, teachesIn, modeOf, learnedOf}
 
 -- The event's code here: its parts, the production that has it, and what is learned after the event.

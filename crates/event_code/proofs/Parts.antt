@@ -8,8 +8,8 @@ use mathlib.Core.Logic.{inl, inr}
 use lib.Dec.{T, eqb, leb}
 use borrow.Author.Tests.{eqb-true, ne-eqb, leb-true}
 use lib.ListN.{length}
-use Rattle.fields.proofs.Tests.{split}
-use Rattle.format.specs.Sizes.{maxLearned}
+use Rattle.spec_fields.proofs.Tests.{split}
+use Rattle.spec_exi.specs.Sizes.{maxLearned}
 use types.Run.{OneOf}
 use denote.Enum.Declared.{tagOf}
 use Rattle.event_code.proofs.Code.{the-type}

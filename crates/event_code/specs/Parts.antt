@@ -6,9 +6,9 @@ use Prim.Native.Nat.{ℕ, _+_, _≤_, _<_}
 use mathlib.Core.Bool.{Bool, true, false, cond, _&&_, _||_}
 use mathlib.Core.List.{List, [], _∷_}
 use lib.Dec.{eqb, leb}
-use Rattle.fields.specs.Bits.{Bits, each}
-use Rattle.fields.specs.Field.{Alignment, choiceBits}
-use Rattle.format.specs.Grammar.{Production, Learned, learnedIn, State, document, docContent, docEnd, finished, startTag, elementContent}
+use Rattle.spec_fields.specs.Bits.{Bits, each}
+use Rattle.spec_fields.specs.Field.{Alignment, choiceBits}
+use Rattle.spec_exi.specs.Grammar.{Production, Learned, learnedIn, State, document, docContent, docEnd, finished, startTag, elementContent}
 use Rattle.event_code.specs.declared.Code.{Code}
 use Rattle.event_code.specs.declared.Code.the-variants.{None, One, Two, Three}
 

@@ -4,7 +4,7 @@ ghost use mathlib.Core.Path.{_≡_};
 ghost use mathlib.Core.Bool.{cond};
 ghost use mathlib.Core.List.{[], _∷_};
 ghost use Prim.Native.Nat.{_≤_};
-ghost use Rattle.format.specs.Sizes.{maxLearned};
+ghost use Rattle.spec_exi.specs.Sizes.{maxLearned};
 ghost use Rattle.event_code.specs.Parts.{partsOf, keptParts, under, documentParts, tagParts, contentParts, fixedParts, learnedPart, teachesIn};
 
 // A part of a code: a value among so many.

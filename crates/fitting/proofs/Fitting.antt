@@ -8,11 +8,11 @@ use mathlib.Core.Option.{none}
 use lib.ListN.{length}
 use lib.Dec.{eqb, ltb}
 use borrow.Author.Tests.{lt-ltb, le-ltb, ltb-true, ltb-false}
-use Rattle.fields.proofs.Tests.{split}
+use Rattle.spec_fields.proofs.Tests.{split}
 use Rattle.text.specs.Text.{Text}
-use Rattle.format.specs.Event.{QName, Event}
-use Rattle.format.specs.Sizes.{maxLearned}
-use Rattle.format.specs.Grammar.{Learned, learnedIn, firstFit}
+use Rattle.spec_exi.specs.Event.{QName, Event}
+use Rattle.spec_exi.specs.Sizes.{maxLearned}
+use Rattle.spec_exi.specs.Grammar.{Learned, learnedIn, firstFit}
 use Rattle.rows.specs.declared.Found.{Found}
 use Rattle.rows.specs.declared.Found.the-variants.{At, Nothing}
 use Rattle.rows.specs.Rows.{rows, countOf, findThat, found}

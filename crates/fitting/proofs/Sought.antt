@@ -7,11 +7,11 @@ use mathlib.Core.List.{List, [], _∷_}
 use mathlib.Core.Option.{none, some}
 use lib.Dec.{eqb, ltb}
 use borrow.Author.Tests.{eqb-true, eqb-false, ne-eqb, ltb-true, ltb-false}
-use Rattle.fields.proofs.Tests.{split, is-T}
+use Rattle.spec_fields.proofs.Tests.{split, is-T}
 use Rattle.text.specs.Text.{Text}
-use Rattle.format.specs.Event.{QName, Event, startElement, attribute, endElement, characters, Kind, SD, ED, SE, AT, EE, CH, CM, PI, kindOf, nameOf, eqName}
-use Rattle.format.specs.Grammar.{kindNumber, fitsName, fits, learnedIn, firstFit}
-use Rattle.format.proofs.Codes.{eqName-eq}
+use Rattle.spec_exi.specs.Event.{QName, Event, startElement, attribute, endElement, characters, Kind, SD, ED, SE, AT, EE, CH, CM, PI, kindOf, nameOf, eqName}
+use Rattle.spec_exi.specs.Grammar.{kindNumber, fitsName, fits, learnedIn, firstFit}
+use Rattle.spec_exi.proofs.Codes.{eqName-eq}
 use Rattle.rows.specs.declared.Row.{Row}
 use Rattle.rows.specs.declared.Found.{Found}
 use Rattle.rows.specs.declared.Found.the-variants.{At, Nothing}

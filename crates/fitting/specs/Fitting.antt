@@ -7,10 +7,10 @@ use mathlib.Core.Option.{none, some}
 use lib.ListN.{length}
 use lib.Dec.{ltb}
 use Rattle.text.specs.Text.{Text}
-use Rattle.format.specs.Event.{QName, Event, kindOf}
-use Rattle.format.specs.Sizes.{maxLearned}
-use Rattle.format.specs.Tables.{namesOf, indexOf}
-use Rattle.format.specs.Grammar.{Production, kindNumber, productionFor, firstFit, learnedIn}
+use Rattle.spec_exi.specs.Event.{QName, Event, kindOf}
+use Rattle.spec_exi.specs.Sizes.{maxLearned}
+use Rattle.spec_exi.specs.Tables.{namesOf, indexOf}
+use Rattle.spec_exi.specs.Grammar.{Production, kindNumber, productionFor, firstFit, learnedIn}
 use Rattle.rows.specs.declared.Found.{Found}
 use Rattle.rows.specs.declared.Found.the-variants.{At, Nothing}
 use Rattle.rows.specs.Rows.{Room, rows, countOf, findThat, found}

@@ -8,8 +8,8 @@ use lib.ListN.{length, getD, getElem?, take, drop, length-append, length-take, l
 use lib.Seq.{length-take-le, drop-at, drop-append-le, take-append-le, take-at, getD-take, getD-drop, drop-drop}
 use Rattle.text.specs.Text.{Text, text, eqText}
 use Rattle.text.proofs.Parts.{part-inside}
-use Rattle.format.specs.Sizes.{maxUris, maxNames, maxValues, maxLearned, maxGrammars, maxStore}
-use Rattle.format.specs.Tables.{Placed, Entry, indexOf, startTables, addedAll, initialEntries, added, newUri, newName, newEntry, newValue, laid, xmlUri, xsiUri}
+use Rattle.spec_exi.specs.Sizes.{maxUris, maxNames, maxValues, maxLearned, maxGrammars, maxStore}
+use Rattle.spec_exi.specs.Tables.{Placed, Entry, indexOf, startTables, addedAll, initialEntries, added, newUri, newName, newEntry, newValue, laid, xmlUri, xsiUri}
 use Rattle.rows.specs.declared.Row.{Row}
 use Rattle.rows.specs.Rows.{rowAt, rows, textOf}
 use Rattle.rows.proofs.Laws.{rows-at, rows-same}

@@ -6,10 +6,10 @@ use mathlib.Core.Bool.{Bool, _&&_}
 use mathlib.Core.List.{List, [], _∷_, map}
 use lib.Dec.{T, leb, ltb, leb→le, ltb→lt}
 use lib.ListN.{length, getD, List·getD-map}
-use Rattle.fields.proofs.Tests.{left, right}
+use Rattle.spec_fields.proofs.Tests.{left, right}
 use Rattle.text.specs.Text.{text}
-use Rattle.format.specs.Tables.{startTables, addedAll, initialEntries, added, newUri, newName, newEntry, newValue, laid, xmlUri, xsiUri}
-use Rattle.format.specs.Sizes.{maxUris, maxNames, maxValues, maxLearned, maxGrammars}
+use Rattle.spec_exi.specs.Tables.{startTables, addedAll, initialEntries, added, newUri, newName, newEntry, newValue, laid, xmlUri, xsiUri}
+use Rattle.spec_exi.specs.Sizes.{maxUris, maxNames, maxValues, maxLearned, maxGrammars}
 use Rattle.rows.specs.declared.Row.{Row}
 use Rattle.layout.specs.Layout.{urisAt, namesAt, valuesAt, learnedAt, grammarsAt, tableCells}
 use Rattle.initial.specs.Initial.{initialText, row, initialRows, moved}

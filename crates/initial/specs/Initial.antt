@@ -3,7 +3,7 @@ use Prim.Native.Nat.{ℕ, suc, _+_}
 use mathlib.Core.List.{List, [], _∷_, _++_, map}
 use lib.ListN.{take, drop}
 use Rattle.text.specs.Text.{Text}
-use Rattle.format.specs.Tables.{startTables}
+use Rattle.spec_exi.specs.Tables.{startTables}
 use Rattle.rows.specs.declared.Row.{Row}
 use Rattle.rows.specs.Rows.{withRow}
 use Rattle.layout.specs.Layout.{urisAt, namesAt}

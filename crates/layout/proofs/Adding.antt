@@ -14,9 +14,9 @@ use lib.Seq.{length-take-le, take-length, take-add, take-at, drop-at, drop-appen
 use borrow.Author.Tests.{eq-eqb}
 use Rattle.text.specs.Text.{Text, Span, isEmpty}
 use Rattle.text.proofs.Parts.{part-inside, part-longer}
-use Rattle.format.specs.Event.{QName}
-use Rattle.format.specs.Tables.{Placed, Entry, namesOf, allValues, indexOf, Role, uri, local, value, target, plain, newUri, newName, newEntry, newValue, laid, added}
-use Rattle.format.specs.Sizes.{maxUris, maxNames, maxValues, maxLearned, maxGrammars, maxStore}
+use Rattle.spec_exi.specs.Event.{QName}
+use Rattle.spec_exi.specs.Tables.{Placed, Entry, namesOf, allValues, indexOf, Role, uri, local, value, target, plain, newUri, newName, newEntry, newValue, laid, added}
+use Rattle.spec_exi.specs.Sizes.{maxUris, maxNames, maxValues, maxLearned, maxGrammars, maxStore}
 use Rattle.rows.specs.declared.Row.{Row}
 use Rattle.rows.specs.Rows.{rowAt, rows, withRow, textOf, selected}
 use Rattle.rows.proofs.Laws.{withRow-length, withRow-other}

@@ -5,9 +5,9 @@ use mathlib.Core.Bool.{Bool, false}
 use mathlib.Core.List.{[], _∷_, _++_}
 use mathlib.Core.Option.{some}
 use lib.ListN.{length}
-use Rattle.format.specs.Event.{Kind}
-use Rattle.format.specs.Grammar.{learn}
-use Rattle.format.specs.Sizes.{maxLearned, maxGrammars}
+use Rattle.spec_exi.specs.Event.{Kind}
+use Rattle.spec_exi.specs.Grammar.{learn}
+use Rattle.spec_exi.specs.Sizes.{maxLearned, maxGrammars}
 use Rattle.rows.specs.declared.Row.{Row}
 use Rattle.rows.specs.Rows.{rowAt}
 use Rattle.rows.proofs.Laws.{withRow-length}

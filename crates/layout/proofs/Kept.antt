@@ -8,7 +8,7 @@ use lib.ListN.{length, take, drop, length-drop}
 use lib.Seq.{length-take-le, drop-drop}
 use Rattle.text.specs.Text.{Text, part}
 use Rattle.text.proofs.Parts.{part-inside, part-take}
-use Rattle.format.specs.Event.{Kind, SD, ED, SE, AT, EE, CH, CM, PI}
+use Rattle.spec_exi.specs.Event.{Kind, SD, ED, SE, AT, EE, CH, CM, PI}
 use Rattle.rows.specs.declared.Row.{Row}
 use Rattle.rows.specs.Rows.{rowAt, rows, textOf}
 use Rattle.rows.proofs.Laws.{rows-more, rows-at}

@@ -13,11 +13,11 @@ use mathlib.Core.Option.{some, Option·none-ne-some}
 use lib.ListN.{length, take, drop, getElem?, length-append}
 use lib.Dec.{eqb}
 use borrow.Author.Tests.{eqb-true, eqb-false, eq-eqb, ne-eqb}
-use Rattle.fields.proofs.Tests.{split, T-is, is-T}
-use Rattle.format.specs.Event.{Kind, SD, ED, SE, AT, EE, CH, CM, PI, eqName}
-use Rattle.format.specs.Grammar.{learnedIn, kindNumber, fitsName, learn}
-use Rattle.format.specs.Sizes.{maxLearned, maxGrammars}
-use Rattle.format.proofs.Codes.{eqName-refl, eqName-eq}
+use Rattle.spec_fields.proofs.Tests.{split, T-is, is-T}
+use Rattle.spec_exi.specs.Event.{Kind, SD, ED, SE, AT, EE, CH, CM, PI, eqName}
+use Rattle.spec_exi.specs.Grammar.{learnedIn, kindNumber, fitsName, learn}
+use Rattle.spec_exi.specs.Sizes.{maxLearned, maxGrammars}
+use Rattle.spec_exi.proofs.Codes.{eqName-refl, eqName-eq}
 use Rattle.rows.specs.declared.Row.{Row}
 use Rattle.rows.specs.Rows.{rowAt, rows, textOf, selected, keep, numbered, countOf, foundAt, withRow}
 use Rattle.rows.proofs.Laws.{rows-more, rows-with, rows-apart, withRow-row, withRow-length}

@@ -8,12 +8,12 @@ use mathlib.Core.List.{[]}
 use lib.ListN.{length, length-append, length-map}
 use lib.Dec.{T, leb, ltb, leb→le}
 use borrow.Author.Tests.{le-leb}
-use Rattle.fields.proofs.Tests.{is-T, left, right}
+use Rattle.spec_fields.proofs.Tests.{is-T, left, right}
 use Rattle.text.specs.Text.{Text, isEmpty}
-use Rattle.format.specs.Event.{QName}
-use Rattle.format.specs.Tables.{Tables, Role, uri, local, value, target, plain, newUri, newName, newEntry, newValue, laid, added}
-use Rattle.format.specs.Lists.{withinTables}
-use Rattle.format.specs.Sizes.{maxUris, maxNames, maxValues, maxLearned, maxGrammars, maxStore}
+use Rattle.spec_exi.specs.Event.{QName}
+use Rattle.spec_exi.specs.Tables.{Tables, Role, uri, local, value, target, plain, newUri, newName, newEntry, newValue, laid, added}
+use Rattle.spec_exi.specs.Lists.{withinTables}
+use Rattle.spec_exi.specs.Sizes.{maxUris, maxNames, maxValues, maxLearned, maxGrammars, maxStore}
 use Rattle.rows.specs.Rows.{Room}
 use Rattle.rows.proofs.Laws.{rows-length}
 use Rattle.layout.specs.Layout.{urisAt, namesAt, valuesAt, learnedAt, grammarsAt, tableCells}

@@ -10,13 +10,13 @@ use mathlib.Core.Option.{Option, none, some, Option·map, Option·none-ne-some}
 use lib.ListN.{length, take, getElem?, length-map}
 use lib.Dec.{T, eqb}
 use borrow.Author.Tests.{eqb-true, eq-eqb, ne-eqb}
-use Rattle.fields.proofs.Tests.{split, T-is, is-T}
-use Rattle.fields.proofs.Number.{member-below}
+use Rattle.spec_fields.proofs.Tests.{split, T-is, is-T}
+use Rattle.spec_fields.proofs.Number.{member-below}
 use Rattle.text.specs.Text.{Text, eqText}
 use Rattle.text.proofs.Equal.{eqText-refl, eqText-eq, eqText-no}
-use Rattle.format.specs.Event.{QName, eqName}
-use Rattle.format.specs.Tables.{Placed, Tables, partition, namesOf, valuesOf, allValues, indexOf, uri, local, value, partitionsOf, hit, literal, hitOr, firstHit, formOf}
-use Rattle.format.proofs.Codes.{eqName-refl, eqName-eq}
+use Rattle.spec_exi.specs.Event.{QName, eqName}
+use Rattle.spec_exi.specs.Tables.{Placed, Tables, partition, namesOf, valuesOf, allValues, indexOf, uri, local, value, partitionsOf, hit, literal, hitOr, firstHit, formOf}
+use Rattle.spec_exi.proofs.Codes.{eqName-refl, eqName-eq}
 use Rattle.rows.specs.declared.Row.{Row}
 use Rattle.rows.specs.declared.Found.{Found}
 use Rattle.rows.specs.declared.Found.the-variants.{At, Nothing}

@@ -1,6 +1,6 @@
 -- Where each table begins in work memory: rows of three cells, one table behind the other, each with room for its size.
 use Prim.Native.Nat.{ℕ, _+_, _*_}
-use Rattle.format.specs.Sizes.{maxUris, maxNames, maxValues, maxLearned, maxGrammars}
+use Rattle.spec_exi.specs.Sizes.{maxUris, maxNames, maxValues, maxLearned, maxGrammars}
 
 unfoldable pub urisAt : ℕ
 urisAt = 0

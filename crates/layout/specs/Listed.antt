@@ -6,7 +6,7 @@ use mathlib.Core.List.{List}
 use mathlib.Core.Option.{some, Option·map}
 use lib.ListN.{length, getElem?}
 use Rattle.text.specs.Text.{Text}
-use Rattle.format.specs.Tables.{Placed, indexOf}
+use Rattle.spec_exi.specs.Tables.{Placed, indexOf}
 use Rattle.rows.specs.Rows.{rowAt, rows, textOf, countOf, nthOf, hasText, findThat}
 use Rattle.rows.specs.Hit.{Hit}
 use Rattle.layout.specs.Meaning.{Memory, placedAt}

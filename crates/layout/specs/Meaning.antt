@@ -15,10 +15,10 @@ use mathlib.Core.Option.{Option, none, some}
 use lib.ListN.{getD, take, drop}
 use lib.Dec.{eqb}
 use Rattle.text.specs.Text.{Text}
-use Rattle.format.specs.Event.{QName, Kind, SD, ED, SE, AT, EE, CH, CM, PI}
-use Rattle.format.specs.Tables.{Placed, Entry, Tables}
-use Rattle.format.specs.Grammar.{Learned, State, document, docContent, docEnd, finished, startTag, elementContent}
-use Rattle.format.specs.Context.{Context}
+use Rattle.spec_exi.specs.Event.{QName, Kind, SD, ED, SE, AT, EE, CH, CM, PI}
+use Rattle.spec_exi.specs.Tables.{Placed, Entry, Tables}
+use Rattle.spec_exi.specs.Grammar.{Learned, State, document, docContent, docEnd, finished, startTag, elementContent}
+use Rattle.spec_exi.specs.Context.{Context}
 use Rattle.rows.specs.declared.Row.{Row}
 use Rattle.rows.specs.Rows.{rowAt, rows, textOf}
 use Rattle.layout.specs.Layout.{urisAt, namesAt, valuesAt, learnedAt, grammarsAt}

@@ -11,15 +11,15 @@ use mathlib.Core.Option.{Option, none, some, Option·none-ne-some}
 use lib.ListN.{length, getD, take, drop, length-append}
 use lib.Dec.{eqb, ltb}
 use borrow.Author.Tests.{eqb-true, eqb-false, ltb-true, ltb-false, lt-leb}
-use Rattle.fields.proofs.Tests.{split, T-is}
+use Rattle.spec_fields.proofs.Tests.{split, T-is}
 use Rattle.text.specs.Text.{Text}
-use Rattle.format.specs.Sizes.{maxOpen, maxLearned, maxGrammars}
-use Rattle.format.specs.Event.{Event, startDocument, endDocument, endElement, startElement, attribute, characters, comment, instruction, kindOf, nameOf}
-use Rattle.format.specs.Grammar as grammar
-use Rattle.format.specs.Grammar.{Production, kindNumber, productionFor, document, docContent, docEnd, finished, startTag, elementContent, Learned, learnedIn, learn, learnedAfter, withGrammar, grammarsAfter, hasName, stateAfter, openElements, firstFit, inContent}
-use Rattle.format.specs.Context.{Context}
-use Rattle.format.specs.Lists.{withinGrammars}
-use Rattle.format.specs.Tables.{Tables, added, newUri, newName, newValue, plain}
+use Rattle.spec_exi.specs.Sizes.{maxOpen, maxLearned, maxGrammars}
+use Rattle.spec_exi.specs.Event.{Event, startDocument, endDocument, endElement, startElement, attribute, characters, comment, instruction, kindOf, nameOf}
+use Rattle.spec_exi.specs.Grammar as grammar
+use Rattle.spec_exi.specs.Grammar.{Production, kindNumber, productionFor, document, docContent, docEnd, finished, startTag, elementContent, Learned, learnedIn, learn, learnedAfter, withGrammar, grammarsAfter, hasName, stateAfter, openElements, firstFit, inContent}
+use Rattle.spec_exi.specs.Context.{Context}
+use Rattle.spec_exi.specs.Lists.{withinGrammars}
+use Rattle.spec_exi.specs.Tables.{Tables, added, newUri, newName, newValue, plain}
 use Rattle.rows.specs.declared.Row.{Row}
 use Rattle.rows.specs.Rows.{rowAt, rows, withRow, withRowBelow, countOf, findThat, found}
 use Rattle.rows.specs.declared.Found.{Found}

@@ -8,8 +8,8 @@ use lib.ListN.{getD}
 use lib.Seq.{getD-set-other}
 use lib.Dec.{eqb, leb, ltb}
 use borrow.Author.Tests.{eqb-true}
-use Rattle.fields.proofs.Tests.{split}
-use Rattle.format.specs.Sizes.{maxOpen, maxLearned, maxGrammars}
+use Rattle.spec_fields.proofs.Tests.{split}
+use Rattle.spec_exi.specs.Sizes.{maxOpen, maxLearned, maxGrammars}
 use Rattle.rows.specs.Rows.{rows, withRowBelow}
 use Rattle.productions.specs.Locate.{hasKey}
 use Rattle.layout.specs.Layout.{grammarsAt}

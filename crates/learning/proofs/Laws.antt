@@ -7,8 +7,8 @@ use mathlib.Core.List.{List}
 use lib.ListN.{length}
 use lib.Dec.{eqb, leb, ltb}
 use borrow.Author.Tests.{leb-true, leb-false, lt-ltb, le-ltb, eq-eqb, ne-eqb, not-true, not-false}
-use Rattle.fields.proofs.Tests.{split}
-use Rattle.format.specs.Sizes.{maxOpen, maxLearned, maxGrammars}
+use Rattle.spec_fields.proofs.Tests.{split}
+use Rattle.spec_exi.specs.Sizes.{maxOpen, maxLearned, maxGrammars}
 use Rattle.rows.specs.Rows.{Room, rows, withRow, withRowBelow}
 use Rattle.rows.proofs.Laws.{withRow-length}
 use Rattle.productions.specs.Locate.{hasKey}

@@ -5,10 +5,10 @@ use mathlib.Core.Bool.{Bool, true, cond}
 use mathlib.Core.Option.{none, some}
 use lib.ListN.{length, take, drop}
 use Rattle.text.specs.Text.{Text}
-use Rattle.format.specs.Event.{Event, kindOf}
-use Rattle.format.specs.Grammar.{kindNumber, productionFor, firstFit, learnedAfter, grammarsAfter, stateAfter}
-use Rattle.format.specs.Context.{Context}
-use Rattle.format.specs.Lists.{withinGrammars}
+use Rattle.spec_exi.specs.Event.{Event, kindOf}
+use Rattle.spec_exi.specs.Grammar.{kindNumber, productionFor, firstFit, learnedAfter, grammarsAfter, stateAfter}
+use Rattle.spec_exi.specs.Context.{Context}
+use Rattle.spec_exi.specs.Lists.{withinGrammars}
 use Rattle.layout.specs.Meaning.{Memory}
 use Rattle.productions.specs.Numbered.{Numbered}
 use Rattle.state.specs.declared.State.{State}

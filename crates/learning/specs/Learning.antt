@@ -4,7 +4,7 @@ use mathlib.Core.Bool.{Bool, true, false, cond, _&&_, _||_, not}
 use mathlib.Core.Path.{_≡_}
 use mathlib.Core.List.{List}
 use lib.Dec.{eqb, ltb}
-use Rattle.format.specs.Sizes.{maxOpen, maxLearned, maxGrammars}
+use Rattle.spec_exi.specs.Sizes.{maxOpen, maxLearned, maxGrammars}
 use Rattle.rows.specs.declared.Row.{Row}
 use Rattle.rows.specs.Rows.{Room, rows, withRow, withRowBelow}
 use Rattle.productions.specs.Locate.{hasKey}

@@ -6,12 +6,12 @@ use mathlib.Core.List.{[], _∷_}
 use lib.ListN.{length}
 use lib.Dec.{leb, ltb}
 use borrow.Author.Tests.{ltb-true, ltb-false, le-leb, lt-leb, not-true, not-false}
-use Rattle.fields.specs.Refusal.{numberOf, character, name, limit}
-use Rattle.fields.proofs.Tests.{split}
+use Rattle.spec_fields.specs.Refusal.{numberOf, character, name, limit}
+use Rattle.spec_fields.proofs.Tests.{split}
 use Rattle.text.specs.Text.{Text, allChars}
-use Rattle.format.specs.Sizes.{maxString, maxStore}
-use Rattle.format.specs.Lists.{short}
-use Rattle.format.specs.Writer.{firstFailed}
+use Rattle.spec_exi.specs.Sizes.{maxString, maxStore}
+use Rattle.spec_exi.specs.Lists.{short}
+use Rattle.spec_exi.specs.Writer.{firstFailed}
 use Rattle.literal.specs.Fault.{faultNumber, stringFault}
 
 not-over : (m n : ℕ) → leb n m ≡ not (ltb m n)

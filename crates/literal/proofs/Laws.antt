@@ -8,17 +8,17 @@ use native.Mathlib.Omega.{arith}
 use lib.ListN.{length, length-append}
 use lib.Dec.{T, leb}
 use borrow.Author.Tests.{leb-true}
-use Rattle.fields.specs.Field.{Alignment}
-use Rattle.fields.specs.Refusal.{Refusal, numberOf, character, name, limit}
-use Rattle.fields.proofs.Refusal.{refusal-number}
-use Rattle.fields.proofs.Tests.{split, T-is, is-T, right}
+use Rattle.spec_fields.specs.Field.{Alignment}
+use Rattle.spec_fields.specs.Refusal.{Refusal, numberOf, character, name, limit}
+use Rattle.spec_fields.proofs.Refusal.{refusal-number}
+use Rattle.spec_fields.proofs.Tests.{split, T-is, is-T, right}
 use Rattle.text.specs.Text.{Text, allChars}
-use Rattle.format.specs.Sizes.{maxUris, maxNames, maxValues, maxString, maxStore}
-use Rattle.format.specs.Tables.{Tables, Role, added, nameAllowed}
-use Rattle.format.specs.Context.{Item, afterItem, afterItems}
-use Rattle.format.specs.Strict.{itemsBits}
-use Rattle.format.specs.Lists.{short, withinTables}
-use Rattle.format.specs.Writer.{Test, firstFailed, stringTests, contentTests}
+use Rattle.spec_exi.specs.Sizes.{maxUris, maxNames, maxValues, maxString, maxStore}
+use Rattle.spec_exi.specs.Tables.{Tables, Role, added, nameAllowed}
+use Rattle.spec_exi.specs.Context.{Item, afterItem, afterItems}
+use Rattle.spec_exi.specs.Strict.{itemsBits}
+use Rattle.spec_exi.specs.Lists.{short, withinTables}
+use Rattle.spec_exi.specs.Writer.{Test, firstFailed, stringTests, contentTests}
 use Rattle.literal.specs.Fault.{faultNumber, stringFault}
 
 -- ---- the number

@@ -5,11 +5,11 @@ use mathlib.Core.List.{[], _∷_}
 use mathlib.Core.Option.{Option, none, some}
 use lib.ListN.{length}
 use lib.Dec.{leb}
-use Rattle.fields.specs.Refusal.{Refusal, numberOf, character, name, limit}
+use Rattle.spec_fields.specs.Refusal.{Refusal, numberOf, character, name, limit}
 use Rattle.text.specs.Text.{Text, allChars}
-use Rattle.format.specs.Sizes.{maxStore}
-use Rattle.format.specs.Lists.{short}
-use Rattle.format.specs.Writer.{firstFailed}
+use Rattle.spec_exi.specs.Sizes.{maxStore}
+use Rattle.spec_exi.specs.Lists.{short}
+use Rattle.spec_exi.specs.Writer.{firstFailed}
 
 -- The number of a refusal; 0 is none.
 unfoldable pub faultNumber : Option Refusal → ℕ

@@ -7,7 +7,7 @@ use lib.ListN.{length}
 use lib.Dec.{eqb, eqb·suc-zero}
 use borrow.Author.Tests.{not-true, not-false}
 use Rattle.text.specs.Text.{Text, text, eqText, isEmpty}
-use Rattle.format.specs.Tables.{nameAllowed, local, target, xsiUri}
+use Rattle.spec_exi.specs.Tables.{nameAllowed, local, target, xsiUri}
 
 pub is-empty : (x : Text) → isEmpty x ≡ eqb (length x) 0
 unfolding isEmpty

@@ -1,6 +1,6 @@
 // Which names are refused: an empty local name or target; attribute nil or type in the XMLSchema-instance URI.
 ghost use mathlib.Core.Path.{_≡_};
-ghost use Rattle.format.specs.Tables.{nameAllowed, local, target};
+ghost use Rattle.spec_exi.specs.Tables.{nameAllowed, local, target};
 
 // "http://www.w3.org/2001/XMLSchema-instance"
 const INSTANCE: [u32; 41] = [

@@ -7,13 +7,13 @@ use mathlib.Core.Option.{some, none}
 use native.Mathlib.Nat.{le-refl, le-trans, zero-add, suc-add}
 use native.Mathlib.Omega.{arith}
 use lib.ListN.{length, drop, getElem?}
-use Rattle.fields.specs.Bits.{Bits, unpack}
-use Rattle.fields.specs.Refusal.{Refusal, numberOf}
-use Rattle.fields.specs.Parser.{Result, bad, got, Parser, return, fail, present, need, times, andThen, _>>=_, _>>_}
-use Rattle.fields.specs.Field.{Alignment, octet, numberField, width, choice, unsigned}
-use Rattle.fields.proofs.Refusal.{refusal-number}
-use Rattle.fields.proofs.Exact.{Reads, not-got, got-value, got-rest}
-use Rattle.fields.proofs.Number.{octet-reads, number-reads, unsigned-reads}
+use Rattle.spec_fields.specs.Bits.{Bits, unpack}
+use Rattle.spec_fields.specs.Refusal.{Refusal, numberOf}
+use Rattle.spec_fields.specs.Parser.{Result, bad, got, Parser, return, fail, present, need, times, andThen, _>>=_, _>>_}
+use Rattle.spec_fields.specs.Field.{Alignment, octet, numberField, width, choice, unsigned}
+use Rattle.spec_fields.proofs.Refusal.{refusal-number}
+use Rattle.spec_fields.proofs.Exact.{Reads, not-got, got-value, got-rest}
+use Rattle.spec_fields.proofs.Number.{octet-reads, number-reads, unsigned-reads}
 use Rattle.read_field.specs.declared.Field.the-variants.{Value, Refused}
 use Rattle.read_field.specs.View.{fieldAt}
 use Rattle.read_field.proofs.View as view

@@ -4,8 +4,8 @@ use mathlib.Core.Path.{_≡_}
 use mathlib.Core.Logic.{_⊎_}
 use mathlib.Core.List.{List}
 use lib.ListN.{length, getD, take}
-use Rattle.format.specs.Sizes.{maxUris, maxNames, maxValues, maxLearned, maxGrammars, maxStore, maxStream}
-use Rattle.format.specs.Tables.{Tables}
+use Rattle.spec_exi.specs.Sizes.{maxUris, maxNames, maxValues, maxLearned, maxGrammars, maxStore, maxStream}
+use Rattle.spec_exi.specs.Tables.{Tables}
 use Rattle.rows.specs.declared.Row.{Row}
 use Rattle.rows.specs.Rows.{withRow}
 use Rattle.layout.specs.Layout.{urisAt, namesAt, valuesAt, learnedAt, grammarsAt}

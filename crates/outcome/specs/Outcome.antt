@@ -4,9 +4,9 @@ use Prim.Native.Nat.{ℕ, _*_, _≤_, _<_}
 use mathlib.Core.Path.{_≡_}
 use mathlib.Core.List.{List}
 use lib.ListN.{length, drop}
-use Rattle.fields.specs.Bits.{unpack}
-use Rattle.fields.specs.Refusal.{Refusal, numberOf}
-use Rattle.fields.specs.Parser.{bad, got, Parser}
+use Rattle.spec_fields.specs.Bits.{unpack}
+use Rattle.spec_fields.specs.Refusal.{Refusal, numberOf}
+use Rattle.spec_fields.specs.Parser.{bad, got, Parser}
 
 module _ {A : Type 0} where
   -- The parser refuses at bit `at`, with this number.

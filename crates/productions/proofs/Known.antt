@@ -8,11 +8,11 @@ use mathlib.Core.Option.{Option, none, some, Option·map, Option·none-ne-some}
 use lib.ListN.{length, take, getElem?}
 use lib.Dec.{eqb}
 use borrow.Author.Tests.{eqb-true}
-use Rattle.fields.proofs.Tests.{split}
-use Rattle.fields.proofs.Number.{member-below}
+use Rattle.spec_fields.proofs.Tests.{split}
+use Rattle.spec_fields.proofs.Number.{member-below}
 use Rattle.text.specs.Text.{Text}
-use Rattle.format.specs.Event.{Event, startElement, attribute, endElement, characters, Kind, kindOf, nameOf}
-use Rattle.format.specs.Grammar.{Production, kindNumber, fits, learnedIn, raised, firstFit, productionFor, hasName}
+use Rattle.spec_exi.specs.Event.{Event, startElement, attribute, endElement, characters, Kind, kindOf, nameOf}
+use Rattle.spec_exi.specs.Grammar.{Production, kindNumber, fits, learnedIn, raised, firstFit, productionFor, hasName}
 use Rattle.rows.specs.declared.Row.{Row}
 use Rattle.rows.specs.declared.Found.{Found}
 use Rattle.rows.specs.declared.Found.the-variants.{At, Nothing}

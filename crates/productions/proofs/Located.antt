@@ -7,8 +7,8 @@ use mathlib.Core.Bool.{true, false, not, _||_, true≢false}
 use mathlib.Core.List.{List, [], _∷_}
 use lib.Dec.{eqb}
 use borrow.Author.Tests.{eqb-true, eq-eqb, ne-eqb}
-use Rattle.fields.proofs.Tests.{split}
-use Rattle.fields.proofs.Number.{member-below}
+use Rattle.spec_fields.proofs.Tests.{split}
+use Rattle.spec_fields.proofs.Number.{member-below}
 use Rattle.rows.specs.declared.Row.{Row}
 use Rattle.rows.specs.declared.Found.{Found}
 use Rattle.rows.specs.declared.Found.the-variants.{At, Nothing}

@@ -3,8 +3,8 @@ use Prim.Native.Nat.{ℕ, _<_}
 use mathlib.Core.Path.{_≡_}
 use mathlib.Core.Bool.{false}
 use Rattle.text.specs.Text.{Text}
-use Rattle.format.specs.Event.{Event, kindOf, nameOf}
-use Rattle.format.specs.Grammar.{kindNumber}
+use Rattle.spec_exi.specs.Event.{Event, kindOf, nameOf}
+use Rattle.spec_exi.specs.Grammar.{kindNumber}
 use Rattle.layout.specs.Meaning.{Memory, Counts, carries, carriedName}
 
 -- i is the number of the event's name, or 0 where it has none. (Instructions, kind 7, are never learned.)

@@ -5,8 +5,8 @@ use Prim.Native.Nat.{ℕ, _+_, _*_, _-_}
 use native.Mathlib.Omega.{arith}
 use lib.ListN.{length, getD, take, drop, replicate, length-append, length-replicate}
 use lib.Seq.{take-at, drop-at, drop-drop}
-use Rattle.format.specs.Event.{Event, mapEvent}
-use Rattle.format.specs.Tables.{Placed, spanOf}
+use Rattle.spec_exi.specs.Event.{Event, mapEvent}
+use Rattle.spec_exi.specs.Tables.{Placed, spanOf}
 use Rattle.event.specs.Cells.{cellsOf}
 use Rattle.event.proofs.Laws.{cells-length}
 use Rattle.state.specs.declared.State.{State}

@@ -8,16 +8,16 @@ use lib.ListN.{length, replicate}
 use lib.Dec.{T}
 use lib.Seq.{take-at}
 use Rattle.text.specs.Text.{Text}
-use Rattle.fields.specs.Refusal.{Answer, refused, accepted}
-use Rattle.fields.proofs.Refusal.{refusal-number}
-use Rattle.format.specs.Event.{Event, mapEvent}
-use Rattle.format.specs.Settings.{SettingNumbers}
-use Rattle.format.specs.Sizes.{cellsPerEvent}
-use Rattle.format.specs.Tables.{Placed, spanOf}
-use Rattle.format.specs.Reader.{Reading, ReaderRoom, read, readReply}
-use Rattle.format.specs.Writer.{Stored, WriterRoom, enoughToWrite, write}
-use Rattle.format.specs.Claims.{AreOctets, storedOf, meant}
-use Rattle.format.proofs.Claims.{demand-2}
+use Rattle.spec_fields.specs.Refusal.{Answer, refused, accepted}
+use Rattle.spec_fields.proofs.Refusal.{refusal-number}
+use Rattle.spec_exi.specs.Event.{Event, mapEvent}
+use Rattle.spec_exi.specs.Settings.{SettingNumbers}
+use Rattle.spec_exi.specs.Sizes.{cellsPerEvent}
+use Rattle.spec_exi.specs.Tables.{Placed, spanOf}
+use Rattle.spec_exi.specs.Reader.{Reading, ReaderRoom, read, readReply}
+use Rattle.spec_exi.specs.Writer.{Stored, WriterRoom, enoughToWrite, write}
+use Rattle.spec_exi.specs.Claims.{AreOctets, storedOf, meant}
+use Rattle.spec_exi.proofs.Claims.{demand-2}
 use Rattle.event.specs.Cells.{eventsOf}
 use Rattle.event.proofs.Laws.{events-cells}
 use Rattle.read_body.specs.Reply.{cellsOfAll, eventsFilled, textFilled}

@@ -6,16 +6,16 @@ use mathlib.Core.Bool.{Bool, true, false, cond}
 use mathlib.Core.List.{List, [], _∷_, _++_, append-assoc, append-nil}
 use lib.ListN.{length, drop, take, replicate, length-append, length-replicate}
 use lib.Seq.{length-take-le}
-use Rattle.fields.specs.Bits.{Bits, unpack, isPadding}
-use Rattle.fields.specs.Refusal.{Refusal, numberOf, limit, tail, Answer, refused, accepted}
-use Rattle.fields.specs.Parser.{bad, got}
-use Rattle.format.specs.Event.{Event}
-use Rattle.format.specs.Settings.{Settings}
-use Rattle.format.specs.Sizes.{maxEvents, eventCells, cellsPerEvent}
-use Rattle.format.specs.Tables.{Placed}
-use Rattle.format.specs.Grammar.{isFinished}
-use Rattle.format.specs.Context.{Context, next}
-use Rattle.format.specs.Reader.{Reading, step, eventText, following, ending, onward, readEvents, readReply}
+use Rattle.spec_fields.specs.Bits.{Bits, unpack, isPadding}
+use Rattle.spec_fields.specs.Refusal.{Refusal, numberOf, limit, tail, Answer, refused, accepted}
+use Rattle.spec_fields.specs.Parser.{bad, got}
+use Rattle.spec_exi.specs.Event.{Event}
+use Rattle.spec_exi.specs.Settings.{Settings}
+use Rattle.spec_exi.specs.Sizes.{maxEvents, eventCells, cellsPerEvent}
+use Rattle.spec_exi.specs.Tables.{Placed}
+use Rattle.spec_exi.specs.Grammar.{isFinished}
+use Rattle.spec_exi.specs.Context.{Context, next}
+use Rattle.spec_exi.specs.Reader.{Reading, step, eventText, following, ending, onward, readEvents, readReply}
 use Rattle.layout.specs.Meaning.{Memory, tablesIn, contextIn}
 use Rattle.state.specs.declared.State.{State}
 use Rattle.standing.specs.Standing.{contextOf, Standing}

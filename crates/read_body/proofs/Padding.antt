@@ -8,11 +8,11 @@ use lib.ListN.{length, drop, length-drop}
 use lib.Dec.{eqb}
 use lib.Pow.{pow-pos}
 use borrow.Author.Tests.{le-leb, lt-leb, ne-eqb}
-use Rattle.fields.specs.Bits.{Bits, valueOf, unpack, allZero, isPadding}
-use Rattle.fields.specs.Parser.{got}
-use Rattle.fields.specs.Field.{bitPacked, numberBits, numberField}
-use Rattle.fields.proofs.Number.{value-bound, bits-of-value, number-reads}
-use Rattle.fields.proofs.Pack.{length-unpack}
+use Rattle.spec_fields.specs.Bits.{Bits, valueOf, unpack, allZero, isPadding}
+use Rattle.spec_fields.specs.Parser.{got}
+use Rattle.spec_fields.specs.Field.{bitPacked, numberBits, numberField}
+use Rattle.spec_fields.proofs.Number.{value-bound, bits-of-value, number-reads}
+use Rattle.spec_fields.proofs.Pack.{length-unpack}
 use Rattle.read_field.specs.declared.Field.the-variants.{Value, Refused}
 use Rattle.read_field.specs.View.{viewOf, fieldAt}
 

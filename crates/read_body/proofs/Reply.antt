@@ -4,9 +4,9 @@ use mathlib.Core.List.{List}
 use Prim.Native.Nat.{ℕ, _<_}
 use native.Mathlib.Omega.{arith}
 use lib.ListN.{replicate}
-use Rattle.fields.specs.Refusal.{Refusal, numberOf, Answer, refused, accepted}
-use Rattle.fields.proofs.Refusal.{refusal-number}
-use Rattle.format.specs.Reader.{Reading, readReply}
+use Rattle.spec_fields.specs.Refusal.{Refusal, numberOf, Answer, refused, accepted}
+use Rattle.spec_fields.proofs.Refusal.{refusal-number}
+use Rattle.spec_exi.specs.Reader.{Reading, readReply}
 use Rattle.read_body.specs.Reply.{replyOf, eventsFilled, textFilled, Attempted, refusalOf}
 use Rattle.read_body.specs.declared.ReadReply as declared
 

@@ -3,11 +3,11 @@ use Prim.Native.Nat.{ℕ, _*_, _≤_}
 use mathlib.Core.Path.{_≡_}
 use mathlib.Core.List.{List}
 use lib.ListN.{length, drop, replicate}
-use Rattle.fields.specs.Bits.{unpack}
-use Rattle.fields.specs.Refusal.{Answer}
-use Rattle.format.specs.Settings.{Settings}
-use Rattle.format.specs.Sizes.{maxStream, maxEvents, maxStore, eventCells}
-use Rattle.format.specs.Reader.{Reading, readEvents}
+use Rattle.spec_fields.specs.Bits.{unpack}
+use Rattle.spec_fields.specs.Refusal.{Answer}
+use Rattle.spec_exi.specs.Settings.{Settings}
+use Rattle.spec_exi.specs.Sizes.{maxStream, maxEvents, maxStore, eventCells}
+use Rattle.spec_exi.specs.Reader.{Reading, readEvents}
 use Rattle.state.specs.declared.State.{State}
 use Rattle.standing.specs.Standing.{contextOf, Standing}
 use Rattle.outcome.specs.Memory.{readerMemory, Clear}

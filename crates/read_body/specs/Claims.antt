@@ -1,4 +1,4 @@
--- What is claimed of the cells that the reader leaves and the writer takes: demand 2 of crates/format/specs/Claims.antt over them.
+-- What is claimed of the cells that the reader leaves and the writer takes: demand 2 of crates/spec_exi/specs/Claims.antt over them.
 --
 -- Throughout, o is settings' numbers, r and p are lengths of lent parts, and a stream is a list of octets.
 use Prim.Native.Nat.{ℕ, _*_}
@@ -8,14 +8,14 @@ use mathlib.Core.Option.{some}
 use lib.ListN.{take}
 use lib.Dec.{T}
 use Rattle.text.specs.Text.{Text}
-use Rattle.fields.specs.Refusal.{Answer, accepted}
-use Rattle.format.specs.Event.{Event}
-use Rattle.format.specs.Settings.{SettingNumbers}
-use Rattle.format.specs.Sizes.{cellsPerEvent}
-use Rattle.format.specs.Tables.{Placed}
-use Rattle.format.specs.Reader.{Reading, ReaderRoom, enoughToRead, read, readReply}
-use Rattle.format.specs.Writer.{Stored, WriterRoom, enoughToWrite, write}
-use Rattle.format.specs.Claims.{AreOctets, storedOf, meant}
+use Rattle.spec_fields.specs.Refusal.{Answer, accepted}
+use Rattle.spec_exi.specs.Event.{Event}
+use Rattle.spec_exi.specs.Settings.{SettingNumbers}
+use Rattle.spec_exi.specs.Sizes.{cellsPerEvent}
+use Rattle.spec_exi.specs.Tables.{Placed}
+use Rattle.spec_exi.specs.Reader.{Reading, ReaderRoom, enoughToRead, read, readReply}
+use Rattle.spec_exi.specs.Writer.{Stored, WriterRoom, enoughToWrite, write}
+use Rattle.spec_exi.specs.Claims.{AreOctets, storedOf, meant}
 use Rattle.event.specs.Cells.{eventsOf}
 use Rattle.read_body.specs.Reply.{cellsOfAll, eventsFilled, textFilled}
 

@@ -3,10 +3,10 @@ use Prim.Native.Nat.{ℕ, _-_}
 use mathlib.Core.Path.{_≡_}
 use mathlib.Core.List.{List, [], _∷_, _++_}
 use lib.ListN.{length, replicate}
-use Rattle.fields.specs.Refusal.{Answer, refused, accepted}
-use Rattle.format.specs.Event.{Event, mapEvent}
-use Rattle.format.specs.Tables.{Placed, spanOf}
-use Rattle.format.specs.Reader.{Reading, ReadReply, readReply}
+use Rattle.spec_fields.specs.Refusal.{Answer, refused, accepted}
+use Rattle.spec_exi.specs.Event.{Event, mapEvent}
+use Rattle.spec_exi.specs.Tables.{Placed, spanOf}
+use Rattle.spec_exi.specs.Reader.{Reading, ReadReply, readReply}
 use Rattle.event.specs.Cells.{cellsOf}
 use Rattle.read_body.specs.declared.ReadReply as declared
 

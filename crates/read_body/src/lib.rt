@@ -2,8 +2,8 @@
 ghost use mathlib.Core.Path.{_≡_};
 ghost use Prim.Native.Nat.{_≤_};
 ghost use lib.ListN.{length, drop, replicate};
-ghost use Rattle.fields.specs.Bits.{unpack, isPadding};
-ghost use Rattle.format.specs.Reader.{readReply};
+ghost use Rattle.spec_fields.specs.Bits.{unpack, isPadding};
+ghost use Rattle.spec_exi.specs.Reader.{readReply};
 ghost use Rattle.settings.specs.Meant.{settingsFrom};
 ghost use Rattle.read_body.specs.Reply.{refusalOf, Attempted, replyOf, eventsFilled, textFilled};
 ghost use Rattle.read_body.specs.Body.{PlaceIn, RunReady, answerFrom};

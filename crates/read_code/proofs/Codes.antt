@@ -9,18 +9,18 @@ use mathlib.Core.Option.{none, some, Option·none-ne-some}
 use lib.ListN.{length, getElem?, drop}
 use lib.Dec.{T, eqb}
 use borrow.Author.Tests.{eqb-true, eqb-false, eq-eqb, le-ltb, lt-ltb}
-use Rattle.fields.specs.Bits.{Bits, valueOf, octetsFor, unpack}
-use Rattle.fields.specs.Refusal.{numberOf, code}
-use Rattle.fields.specs.Parser.{got, return, present, times, andThen, _>>=_}
-use Rattle.fields.specs.Field.{Alignment, bitPacked, byteAligned, littleValue, numberField, widthFrom, width, choice}
-use Rattle.fields.proofs.Tests.{split, T-is, is-T, right}
+use Rattle.spec_fields.specs.Bits.{Bits, valueOf, octetsFor, unpack}
+use Rattle.spec_fields.specs.Refusal.{numberOf, code}
+use Rattle.spec_fields.specs.Parser.{got, return, present, times, andThen, _>>=_}
+use Rattle.spec_fields.specs.Field.{Alignment, bitPacked, byteAligned, littleValue, numberField, widthFrom, width, choice}
+use Rattle.spec_fields.proofs.Tests.{split, T-is, is-T, right}
 use Rattle.text.specs.Text.{Text}
-use Rattle.format.specs.Event.{Event, startDocument, endDocument, endElement, startElement, attribute, characters, comment, instruction, SD, kindOf, nameOf}
-use Rattle.format.specs.Settings.{Settings}
-use Rattle.format.specs.Grammar.{Production, Code, unnamed, kindNumber, fitsName, fits, State, document, docContent, docEnd, finished, startTag, elementContent, Learned, levels, allEmpty, choices, atLevel, below, firstFit, codeOr, codeOf, productionFor, taught, learn, learnedAfter}
-use Rattle.format.specs.Context.{levelsIn}
-use Rattle.format.specs.Reader.{readPart, readCode, sameCode}
-use Rattle.format.proofs.Codes.{code-same, fits-kind, eqName-eq}
+use Rattle.spec_exi.specs.Event.{Event, startDocument, endDocument, endElement, startElement, attribute, characters, comment, instruction, SD, kindOf, nameOf}
+use Rattle.spec_exi.specs.Settings.{Settings}
+use Rattle.spec_exi.specs.Grammar.{Production, Code, unnamed, kindNumber, fitsName, fits, State, document, docContent, docEnd, finished, startTag, elementContent, Learned, levels, allEmpty, choices, atLevel, below, firstFit, codeOr, codeOf, productionFor, taught, learn, learnedAfter}
+use Rattle.spec_exi.specs.Context.{levelsIn}
+use Rattle.spec_exi.specs.Reader.{readPart, readCode, sameCode}
+use Rattle.spec_exi.proofs.Codes.{code-same, fits-kind, eqName-eq}
 use Rattle.rows.specs.declared.Row.{Row}
 use Rattle.rows.specs.Rows.{rowAt, foundAt}
 use Rattle.rows.specs.Hit.{Hit}

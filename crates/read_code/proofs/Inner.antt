@@ -9,13 +9,13 @@ use mathlib.Core.Option.{Option, none, some, Option·map, Option·none-ne-some}
 use lib.ListN.{length, getElem?, length-append}
 use lib.Dec.{eqb}
 use borrow.Author.Tests.{eqb-true, eqb-false, ne-eqb}
-use Rattle.fields.proofs.Tests.{split}
+use Rattle.spec_fields.proofs.Tests.{split}
 use Rattle.text.specs.Text.{Text}
 use Rattle.text.proofs.Equal.{eqText-no}
-use Rattle.format.specs.Event.{Event, EE, kindOf}
-use Rattle.format.specs.Settings.{Settings}
-use Rattle.format.specs.Grammar.{Production, Code, unnamed, kindNumber, fitsName, fits, allEmpty, choices, atLevel, below, raised, firstFit, codeOr, codeOf}
-use Rattle.format.specs.Reader.{sameCode}
+use Rattle.spec_exi.specs.Event.{Event, EE, kindOf}
+use Rattle.spec_exi.specs.Settings.{Settings}
+use Rattle.spec_exi.specs.Grammar.{Production, Code, unnamed, kindNumber, fitsName, fits, allEmpty, choices, atLevel, below, raised, firstFit, codeOr, codeOf}
+use Rattle.spec_exi.specs.Reader.{sameCode}
 use Rattle.productions.proofs.Known.{fit-left, fit-right}
 use Rattle.read_code.specs.Levels.{kindsIn, lower}
 use Rattle.read_code.proofs.Levels.{at-front, at-seam, choices-here, choices-more, choices-on}

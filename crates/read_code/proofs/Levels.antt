@@ -5,10 +5,10 @@ use mathlib.Core.Bool.{true, false}
 use mathlib.Core.List.{List, [], _∷_, _++_}
 use mathlib.Core.Option.{Option, none, some, Option·none-ne-some}
 use lib.ListN.{length, getElem?}
-use Rattle.fields.specs.Refusal.{code}
-use Rattle.fields.specs.Field.{Alignment, choice}
-use Rattle.format.specs.Grammar.{Production, Code, allEmpty, choices, atLevel, below}
-use Rattle.format.specs.Reader.{readPart, readCode}
+use Rattle.spec_fields.specs.Refusal.{code}
+use Rattle.spec_fields.specs.Field.{Alignment, choice}
+use Rattle.spec_exi.specs.Grammar.{Production, Code, allEmpty, choices, atLevel, below}
+use Rattle.spec_exi.specs.Reader.{readPart, readCode}
 use Rattle.outcome.specs.Outcome.{Gotten, Outcome}
 use Rattle.outcome.proofs.Outcome.{declined-outcome, outcome-then, outcome-map, return-outcome}
 use Rattle.read_code.specs.declared.Part.{Part}

@@ -9,12 +9,12 @@ use mathlib.Core.Option.{none, some}
 use lib.ListN.{length, getD, getElem?, length-map}
 use lib.Dec.{eqb}
 use borrow.Author.Tests.{ne-eqb}
-use Rattle.fields.proofs.Tests.{split}
-use Rattle.fields.specs.Field.{Alignment}
+use Rattle.spec_fields.proofs.Tests.{split}
+use Rattle.spec_fields.specs.Field.{Alignment}
 use Rattle.text.specs.Text.{Text}
-use Rattle.format.specs.Event.{Event, kindOf}
-use Rattle.format.specs.Settings.{Settings}
-use Rattle.format.specs.Grammar.{Code, unnamed, kindNumber, fitsName, fits, kept, allEmpty, choices, atLevel, below, raised, firstFit, codeOr, codeOf}
+use Rattle.spec_exi.specs.Event.{Event, kindOf}
+use Rattle.spec_exi.specs.Settings.{Settings}
+use Rattle.spec_exi.specs.Grammar.{Code, unnamed, kindNumber, fitsName, fits, kept, allEmpty, choices, atLevel, below, raised, firstFit, codeOr, codeOf}
 use Rattle.layout.specs.Meaning.{kindAt}
 use Rattle.read_code.specs.declared.Part.{Part}
 use Rattle.read_code.specs.declared.Decoded.{Decoded}

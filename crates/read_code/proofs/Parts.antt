@@ -4,10 +4,10 @@ use native.Mathlib.Omega.{arith}
 use mathlib.Core.Path.{_≡_}
 use mathlib.Core.List.{List}
 use lib.ListN.{length}
-use Rattle.fields.specs.Refusal.{numberOf, code}
-use Rattle.fields.specs.Field.{Alignment, numberField, width}
+use Rattle.spec_fields.specs.Refusal.{numberOf, code}
+use Rattle.spec_fields.specs.Field.{Alignment, numberField, width}
 use Rattle.read_field.specs.declared.Field.the-variants.{Value, Refused}
-use Rattle.format.specs.Sizes.{maxStream}
+use Rattle.spec_exi.specs.Sizes.{maxStream}
 use Rattle.layout.specs.Meaning.{Memory}
 use Rattle.state.specs.declared.State.{State}
 use Rattle.read_field.specs.View.{fieldAt, InStream}

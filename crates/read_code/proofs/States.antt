@@ -7,11 +7,11 @@ use mathlib.Core.List.{[], append-nil}
 use lib.ListN.{length}
 use lib.Dec.{eqb}
 use borrow.Author.Tests.{eqb-true, eqb-false}
-use Rattle.fields.proofs.Tests.{split}
-use Rattle.format.specs.Settings.{Settings}
-use Rattle.format.specs.Sizes.{maxLearned}
-use Rattle.format.specs.Grammar.{levels, learnedIn}
-use Rattle.format.specs.Context.{levelsIn}
+use Rattle.spec_fields.proofs.Tests.{split}
+use Rattle.spec_exi.specs.Settings.{Settings}
+use Rattle.spec_exi.specs.Sizes.{maxLearned}
+use Rattle.spec_exi.specs.Grammar.{levels, learnedIn}
+use Rattle.spec_exi.specs.Context.{levelsIn}
 use Rattle.rows.specs.Rows.{rows}
 use Rattle.rows.proofs.Laws.{rows-length}
 use Rattle.rows.proofs.Selection.{count-most}

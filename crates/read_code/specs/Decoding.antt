@@ -7,12 +7,12 @@ use mathlib.Core.Option.{none, some}
 use lib.ListN.{length}
 use lib.Dec.{ltb}
 use Rattle.text.specs.Text.{Text}
-use Rattle.format.specs.Event.{Event, kindOf}
-use Rattle.format.specs.Sizes.{maxStream}
-use Rattle.format.specs.Settings.{Settings}
-use Rattle.format.specs.Grammar.{Production, Code, codeOf, kindNumber, fits, firstFit, productionFor, taught, learnedAfter}
-use Rattle.format.specs.Context.{levelsIn}
-use Rattle.format.specs.Reader.{readCode, sameCode}
+use Rattle.spec_exi.specs.Event.{Event, kindOf}
+use Rattle.spec_exi.specs.Sizes.{maxStream}
+use Rattle.spec_exi.specs.Settings.{Settings}
+use Rattle.spec_exi.specs.Grammar.{Production, Code, codeOf, kindNumber, fits, firstFit, productionFor, taught, learnedAfter}
+use Rattle.spec_exi.specs.Context.{levelsIn}
+use Rattle.spec_exi.specs.Reader.{readCode, sameCode}
 use Rattle.layout.specs.Meaning.{Memory, kindAt, carries, carriedName}
 use Rattle.state.specs.declared.State.{State}
 use Rattle.productions.specs.Numbered.{Numbered}

@@ -6,15 +6,15 @@ use mathlib.Core.List.{List, [], _∷_, map}
 use mathlib.Core.Option.{Option, some}
 use lib.ListN.{length, getElem?, drop}
 use lib.Dec.{eqb}
-use Rattle.fields.specs.Bits.{unpack}
-use Rattle.fields.specs.Refusal.{code}
-use Rattle.fields.specs.Parser.{got}
-use Rattle.fields.specs.Field.{Alignment, choice}
+use Rattle.spec_fields.specs.Bits.{unpack}
+use Rattle.spec_fields.specs.Refusal.{code}
+use Rattle.spec_fields.specs.Parser.{got}
+use Rattle.spec_fields.specs.Field.{Alignment, choice}
 use Rattle.text.specs.Text.{Text}
-use Rattle.format.specs.Event.{Event, kindOf}
-use Rattle.format.specs.Settings.{Settings}
-use Rattle.format.specs.Grammar.{Production, Code, unnamed, kept, codeOf, kindNumber}
-use Rattle.format.specs.Reader.{readCode}
+use Rattle.spec_exi.specs.Event.{Event, kindOf}
+use Rattle.spec_exi.specs.Settings.{Settings}
+use Rattle.spec_exi.specs.Grammar.{Production, Code, unnamed, kept, codeOf, kindNumber}
+use Rattle.spec_exi.specs.Reader.{readCode}
 use Rattle.rows.specs.declared.Row.{Row}
 use Rattle.rows.specs.Rows.{Room, rowAt, rows, countOf, nthOf}
 use Rattle.layout.specs.Layout.{learnedAt}

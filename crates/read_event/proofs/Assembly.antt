@@ -9,17 +9,17 @@ use mathlib.Core.Option.{none, some}
 use lib.ListN.{length, getD, take, drop}
 use lib.Dec.{ltb}
 use borrow.Author.Tests.{ltb-true, ltb-false}
-use Rattle.fields.specs.Refusal.{numberOf, loose, limit}
-use Rattle.fields.proofs.Tests.{split, is-T}
+use Rattle.spec_fields.specs.Refusal.{numberOf, loose, limit}
+use Rattle.spec_fields.proofs.Tests.{split, is-T}
 use Rattle.text.specs.Text.{Text}
-use Rattle.format.specs.Event.{Event, kindOf}
-use Rattle.format.specs.Settings.{Settings}
-use Rattle.format.specs.Sizes.{maxEvents, maxUris, maxNames, maxValues, cellsPerEvent, eventCells}
-use Rattle.format.specs.Grammar.{Production, kindNumber, firstFit, codeOf}
-use Rattle.format.specs.Context.{levelsIn, items, afterItems, after, afterCode, next}
-use Rattle.format.specs.Lists.{withinGrammars}
-use Rattle.format.specs.Reader.{readContent, sameCode, eventText, step}
-use Rattle.format.proofs.Codes.{fits-kind}
+use Rattle.spec_exi.specs.Event.{Event, kindOf}
+use Rattle.spec_exi.specs.Settings.{Settings}
+use Rattle.spec_exi.specs.Sizes.{maxEvents, maxUris, maxNames, maxValues, cellsPerEvent, eventCells}
+use Rattle.spec_exi.specs.Grammar.{Production, kindNumber, firstFit, codeOf}
+use Rattle.spec_exi.specs.Context.{levelsIn, items, afterItems, after, afterCode, next}
+use Rattle.spec_exi.specs.Lists.{withinGrammars}
+use Rattle.spec_exi.specs.Reader.{readContent, sameCode, eventText, step}
+use Rattle.spec_exi.proofs.Codes.{fits-kind}
 use Rattle.event.specs.Cells.{meaning, cellsOf}
 use Rattle.rows.specs.declared.Found.the-variants.{At}
 use Rattle.rows.specs.Rows.{rows}

@@ -8,8 +8,8 @@ use mathlib.Core.List.{List}
 use lib.ListN.{getD}
 use lib.Dec.{eqb, ltb}
 use borrow.Author.Tests.{eqb-true, ltb-true}
-use Rattle.fields.proofs.Tests.{split}
-use Rattle.format.specs.Sizes.{maxUris, maxNames, maxValues, maxLearned, maxGrammars, maxOpen}
+use Rattle.spec_fields.proofs.Tests.{split}
+use Rattle.spec_exi.specs.Sizes.{maxUris, maxNames, maxValues, maxLearned, maxGrammars, maxOpen}
 use Rattle.rows.specs.Rows.{rows, withRow, withRowBelow}
 use Rattle.rows.proofs.Laws.{withRow-other}
 use Rattle.productions.specs.Locate.{hasKey}

@@ -5,12 +5,12 @@ use mathlib.Core.Bool.{Bool, false, cond, not, _&&_, _||_}
 use mathlib.Core.List.{List, _++_}
 use lib.ListN.{length, getD, take, drop}
 use lib.Dec.{ltb}
-use Rattle.format.specs.Event.{Event, mapEvent}
-use Rattle.format.specs.Sizes.{maxStream, maxStore, maxEvents, eventCells}
-use Rattle.format.specs.Settings.{Settings}
-use Rattle.format.specs.Tables.{Placed, spanOf}
-use Rattle.format.specs.Context.{next}
-use Rattle.format.specs.Reader.{step, eventText}
+use Rattle.spec_exi.specs.Event.{Event, mapEvent}
+use Rattle.spec_exi.specs.Sizes.{maxStream, maxStore, maxEvents, eventCells}
+use Rattle.spec_exi.specs.Settings.{Settings}
+use Rattle.spec_exi.specs.Tables.{Placed, spanOf}
+use Rattle.spec_exi.specs.Context.{next}
+use Rattle.spec_exi.specs.Reader.{step, eventText}
 use Rattle.event.specs.Cells.{cellsOf}
 use Rattle.rows.specs.declared.Found.the-variants.{At}
 use Rattle.rows.specs.Rows.{rows}

@@ -8,8 +8,8 @@ use native.Mathlib.Omega.{arith}
 use lib.ListN.{length, take, drop, replicate, getD, length-append}
 use lib.Seq.{drop-nil, drop-drop, getD-drop}
 use lib.Pow.{pow-add, high, low}
-use Rattle.fields.specs.Bits.{Bits, bitsOf, valueOf, each, unpack}
-use Rattle.fields.proofs.Number.{value-bound, value-of-bits}
+use Rattle.spec_fields.specs.Bits.{Bits, bitsOf, valueOf, each, unpack}
+use Rattle.spec_fields.proofs.Number.{value-bound, value-of-bits}
 use Rattle.read_field.specs.Parts.{ahead, Octet, Peeked}
 
 -- The next n bits, zeros standing for bits past the end.

@@ -7,9 +7,9 @@ use native.Mathlib.Omega.{arith}
 use lib.Pow.{pow-mono}
 use lib.Dec.{leb}
 use borrow.Author.Tests.{leb-true, leb-false}
-use Rattle.fields.specs.Field.{width}
-use Rattle.fields.proofs.Tests.{split}
-use Rattle.fields.proofs.Number.{width-enough, width-least}
+use Rattle.spec_fields.specs.Field.{width}
+use Rattle.spec_fields.proofs.Tests.{split}
+use Rattle.spec_fields.proofs.Number.{width-enough, width-least}
 
 -- A power found so far, not above the first that is enough.
 pub record Doubling (m n reach : ℕ) : Type 0 where

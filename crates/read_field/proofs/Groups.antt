@@ -8,11 +8,11 @@ use native.Mathlib.Nat.{pow-suc, one-le-pow, mul-le-mul, mul-le-mul-left}
 use lib.ListN.{length, drop}
 use lib.Dec.{leb, ltb}
 use borrow.Author.Tests.{lt-ltb, le-ltb, le-leb, lt-leb, ltb-true}
-use Rattle.fields.specs.Bits.{Bits, unpack}
-use Rattle.fields.specs.Refusal.{ended, number, numberOf}
-use Rattle.fields.specs.Parser.{Result, Parser, bad, got, return, fail, need, andThen, _>>=_, _>>_}
-use Rattle.fields.specs.Field.{octet, maxOctets, maxUnsigned, grouped, unsigned}
-use Rattle.fields.proofs.Tests.{split}
+use Rattle.spec_fields.specs.Bits.{Bits, unpack}
+use Rattle.spec_fields.specs.Refusal.{ended, number, numberOf}
+use Rattle.spec_fields.specs.Parser.{Result, Parser, bad, got, return, fail, need, andThen, _>>=_, _>>_}
+use Rattle.spec_fields.specs.Field.{octet, maxOctets, maxUnsigned, grouped, unsigned}
+use Rattle.spec_fields.proofs.Tests.{split}
 use Rattle.read_field.specs.declared.Field.the-variants.{Value, Refused}
 use Rattle.read_field.specs.View.{fieldAt, InStream}
 use Rattle.read_field.specs.Parts.{Peeked, onward}

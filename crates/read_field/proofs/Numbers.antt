@@ -8,12 +8,12 @@ use lib.ListN.{length, take, drop, length-drop}
 use lib.Seq.{drop-drop}
 use lib.Dec.{leb}
 use borrow.Author.Tests.{leb-true, leb-false}
-use Rattle.fields.specs.Bits.{Bits, unpack, octetsFrom, octetsFor}
-use Rattle.fields.specs.Refusal.{ended, numberOf}
-use Rattle.fields.specs.Parser.{bad, got, return, andThen, _>>=_, times}
-use Rattle.fields.specs.Field.{bitPacked, byteAligned, bit, octet, littleValue, numberField}
-use Rattle.fields.proofs.Tests.{split}
-use Rattle.fields.proofs.Pack.{length-unpack}
+use Rattle.spec_fields.specs.Bits.{Bits, unpack, octetsFrom, octetsFor}
+use Rattle.spec_fields.specs.Refusal.{ended, numberOf}
+use Rattle.spec_fields.specs.Parser.{bad, got, return, andThen, _>>=_, times}
+use Rattle.spec_fields.specs.Field.{bitPacked, byteAligned, bit, octet, littleValue, numberField}
+use Rattle.spec_fields.proofs.Tests.{split}
+use Rattle.spec_fields.proofs.Pack.{length-unpack}
 use Rattle.read_field.specs.declared.Field.the-variants.{Value, Refused}
 use Rattle.read_field.specs.View.{fieldAt, InStream}
 use Rattle.read_field.specs.Parts.{ahead, Peeked}

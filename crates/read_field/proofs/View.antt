@@ -5,11 +5,11 @@ use Prim.Native.Nat.{ℕ, _+_, _*_, _-_, _≤_}
 use native.Mathlib.Omega.{arith}
 use lib.ListN.{length, drop, length-drop, length-append}
 use lib.Seq.{drop-drop, drop-append-seam}
-use Rattle.fields.specs.Bits.{Bits, unpack}
-use Rattle.fields.specs.Refusal.{Refusal, numberOf}
-use Rattle.fields.specs.Parser.{Result, bad, got, Parser}
-use Rattle.fields.proofs.Exact.{Reads}
-use Rattle.fields.proofs.Pack.{length-unpack}
+use Rattle.spec_fields.specs.Bits.{Bits, unpack}
+use Rattle.spec_fields.specs.Refusal.{Refusal, numberOf}
+use Rattle.spec_fields.specs.Parser.{Result, bad, got, Parser}
+use Rattle.spec_fields.proofs.Exact.{Reads}
+use Rattle.spec_fields.proofs.Pack.{length-unpack}
 use Rattle.read_field.specs.declared.Field.the-variants.{Value, Refused}
 use Rattle.read_field.specs.View.{viewOf, fieldAt}
 

@@ -5,10 +5,10 @@ use mathlib.Core.Bool.{false}
 use mathlib.Core.List.{List, _++_}
 use lib.ListN.{take, drop, replicate, getD}
 use lib.Dec.{leb, ltb}
-use Rattle.fields.specs.Bits.{Bits, valueOf, unpack}
-use Rattle.fields.specs.Refusal.{number}
-use Rattle.fields.specs.Parser.{Parser, return, need, _>>=_, _>>_}
-use Rattle.fields.specs.Field.{grouped, maxUnsigned}
+use Rattle.spec_fields.specs.Bits.{Bits, valueOf, unpack}
+use Rattle.spec_fields.specs.Refusal.{number}
+use Rattle.spec_fields.specs.Parser.{Parser, return, need, _>>=_, _>>_}
+use Rattle.spec_fields.specs.Field.{grouped, maxUnsigned}
 
 -- The number of the next n bits, zeros standing for bits past the end.
 unfoldable pub ahead : ℕ → Bits → ℕ

@@ -3,10 +3,10 @@ use Prim.Native.Nat.{ℕ, _*_, _-_, _≤_}
 use mathlib.Core.Bool.{Bool, true, false}
 use mathlib.Core.List.{List}
 use lib.ListN.{length, drop}
-use Rattle.fields.specs.Bits.{unpack}
-use Rattle.fields.specs.Refusal.{numberOf}
-use Rattle.fields.specs.Parser.{Result, bad, got, Parser}
-use Rattle.fields.specs.Field.{Alignment, bitPacked, byteAligned}
+use Rattle.spec_fields.specs.Bits.{unpack}
+use Rattle.spec_fields.specs.Refusal.{numberOf}
+use Rattle.spec_fields.specs.Parser.{Result, bad, got, Parser}
+use Rattle.spec_fields.specs.Field.{Alignment, bitPacked, byteAligned}
 use Rattle.read_field.specs.declared.Field.{Field}
 use Rattle.read_field.specs.declared.Field.the-variants.{Value, Refused}
 

@@ -1,7 +1,7 @@
 // The fields of a stream, read at a bit position.
 ghost use mathlib.Core.Path.{_≡_};
 ghost use Prim.Native.Nat.{_≤_};
-ghost use Rattle.fields.specs.Field.{bitPacked, byteAligned, octet, numberField, width, unsigned};
+ghost use Rattle.spec_fields.specs.Field.{bitPacked, byteAligned, octet, numberField, width, unsigned};
 ghost use Rattle.read_field.specs.View.{fieldAt, alignmentOf, InStream, NumberIn};
 ghost use Rattle.read_field.specs.Parts.{Octet, Peeked, onward};
 

@@ -5,17 +5,17 @@ use mathlib.Core.Path.{_≡_, refl, sym, ap, subst, _∙_}
 use mathlib.Core.Bool.{Bool, true, false}
 use mathlib.Core.List.{List, _++_}
 use lib.ListN.{length, take, drop, replicate}
-use Rattle.fields.specs.Bits.{Bits, unpack}
-use Rattle.fields.specs.Refusal.{loose}
-use Rattle.fields.specs.Parser.{Result, bad, got, return, need, fail, andThen, _>>=_, _>>_}
-use Rattle.fields.specs.Field.{unsigned}
-use Rattle.fields.proofs.Exact.{not-got, got-value}
-use Rattle.fields.proofs.Tests.{split}
+use Rattle.spec_fields.specs.Bits.{Bits, unpack}
+use Rattle.spec_fields.specs.Refusal.{loose}
+use Rattle.spec_fields.specs.Parser.{Result, bad, got, return, need, fail, andThen, _>>=_, _>>_}
+use Rattle.spec_fields.specs.Field.{unsigned}
+use Rattle.spec_fields.proofs.Exact.{not-got, got-value}
+use Rattle.spec_fields.proofs.Tests.{split}
 use Rattle.text.specs.Text.{Text, part}
-use Rattle.format.specs.Sizes.{maxStream, maxStore}
-use Rattle.format.specs.Tables.{Placed, Tables, Role, Partitions, partitionsOf, Form, literal, eqForm, formOf, added, tablesAfter, nameAllowed}
-use Rattle.format.specs.Lists.{withinTables}
-use Rattle.format.specs.Reader.{readLiteral}
+use Rattle.spec_exi.specs.Sizes.{maxStream, maxStore}
+use Rattle.spec_exi.specs.Tables.{Placed, Tables, Role, Partitions, partitionsOf, Form, literal, eqForm, formOf, added, tablesAfter, nameAllowed}
+use Rattle.spec_exi.specs.Lists.{withinTables}
+use Rattle.spec_exi.specs.Reader.{readLiteral}
 use Rattle.rows.specs.Rows.{Room}
 use Rattle.layout.proofs.Sizes.{length-text}
 use Rattle.layout.proofs.Adding.{After, countsAfter}

@@ -9,16 +9,16 @@ use mathlib.Core.List.{List}
 use mathlib.Core.Option.{none, some}
 use lib.ListN.{length, drop, getElem?}
 use borrow.Author.Tests.{eq-eqb}
-use Rattle.fields.specs.Bits.{Bits, unpack}
-use Rattle.fields.specs.Refusal.{numberOf, reference}
-use Rattle.fields.specs.Parser.{return, andThen, _>>=_}
-use Rattle.fields.specs.Field.{Alignment, numberField, width, choice}
-use Rattle.fields.proofs.Tests.{T-is}
+use Rattle.spec_fields.specs.Bits.{Bits, unpack}
+use Rattle.spec_fields.specs.Refusal.{numberOf, reference}
+use Rattle.spec_fields.specs.Parser.{return, andThen, _>>=_}
+use Rattle.spec_fields.specs.Field.{Alignment, numberField, width, choice}
+use Rattle.spec_fields.proofs.Tests.{T-is}
 use Rattle.text.specs.Text.{Text}
 use Rattle.text.proofs.Parts.{part-length}
-use Rattle.format.specs.Sizes.{maxStream}
-use Rattle.format.specs.Tables.{Placed, Tables, Role, partitionsOf, Form, hit, eqForm, formOf, tablesAfter, nameAllowed}
-use Rattle.format.specs.Reader.{readHit}
+use Rattle.spec_exi.specs.Sizes.{maxStream}
+use Rattle.spec_exi.specs.Tables.{Placed, Tables, Role, partitionsOf, Form, hit, eqForm, formOf, tablesAfter, nameAllowed}
+use Rattle.spec_exi.specs.Reader.{readHit}
 use Rattle.rows.specs.declared.Row.{Row}
 use Rattle.rows.specs.declared.Found.{Found}
 use Rattle.rows.specs.declared.Found.the-variants.{At, Nothing}

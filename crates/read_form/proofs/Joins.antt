@@ -9,8 +9,8 @@ use lib.ListN.{length, drop}
 use lib.Dec.{ltb}
 use borrow.Author.Tests.{ltb-true}
 use Rattle.text.specs.Text.{Text}
-use Rattle.format.specs.Sizes.{maxStore}
-use Rattle.format.specs.Tables.{Placed, Tables, indexOf, Role, target, Form, literal, eqForm, hitOr, newUri, newName, newValue, added}
+use Rattle.spec_exi.specs.Sizes.{maxStore}
+use Rattle.spec_exi.specs.Tables.{Placed, Tables, indexOf, Role, target, Form, literal, eqForm, hitOr, newUri, newName, newValue, added}
 use Rattle.rows.specs.declared.Row.{Row}
 use Rattle.rows.specs.declared.Found.{Found}
 use Rattle.rows.specs.declared.Found.the-variants.{At, Nothing}

@@ -6,15 +6,15 @@ use mathlib.Core.Bool.{Bool}
 use mathlib.Core.List.{List, [], _++_, append-assoc}
 use lib.ListN.{length, take, drop, replicate}
 use lib.Seq.{drop-at, take-at, length-take-le}
-use Rattle.fields.specs.Bits.{Bits}
-use Rattle.fields.specs.Refusal.{numberOf, loose}
-use Rattle.fields.specs.Parser.{Result, bad, got, return, need, fail, andThen, _>>=_, _>>_}
-use Rattle.fields.proofs.Tests.{split}
+use Rattle.spec_fields.specs.Bits.{Bits}
+use Rattle.spec_fields.specs.Refusal.{numberOf, loose}
+use Rattle.spec_fields.specs.Parser.{Result, bad, got, return, need, fail, andThen, _>>=_, _>>_}
+use Rattle.spec_fields.proofs.Tests.{split}
 use Rattle.text.specs.Text.{Text, part}
 use Rattle.text.proofs.Parts.{part-inside}
-use Rattle.format.specs.Sizes.{maxStore}
-use Rattle.format.specs.Tables.{Placed, Tables, Role, Partitions, partitionsOf, Form, literal, eqForm, formOf}
-use Rattle.format.specs.Reader.{readLiteral}
+use Rattle.spec_exi.specs.Sizes.{maxStore}
+use Rattle.spec_exi.specs.Tables.{Placed, Tables, Role, Partitions, partitionsOf, Form, literal, eqForm, formOf}
+use Rattle.spec_exi.specs.Reader.{readLiteral}
 use Rattle.rows.specs.declared.Found.{Found}
 use Rattle.rows.specs.declared.Found.the-variants.{At, Nothing}
 use Rattle.rows.specs.Rows.{rows, hasText, findThat, found}

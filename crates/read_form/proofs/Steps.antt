@@ -8,13 +8,13 @@ use mathlib.Core.Bool.{Bool, true, false, not}
 use mathlib.Core.List.{List, [], _∷_}
 use mathlib.Core.Option.{none, some}
 use lib.ListN.{length, drop, getElem?}
-use Rattle.fields.specs.Bits.{Bits, unpack}
-use Rattle.fields.specs.Refusal.{numberOf, loose, name, limit}
-use Rattle.fields.specs.Parser.{Result, bad, got, Parser, andThen, _>>=_}
-use Rattle.fields.specs.Field.{Alignment, unsigned}
-use Rattle.format.specs.Tables.{Placed, Tables, Role, literals, partitionsOf, Form, eqForm, formOf, tablesAfter, nameAllowed}
-use Rattle.format.specs.Lists.{withinTables}
-use Rattle.format.specs.Reader.{readIn, readByLiterals, readForm, readString}
+use Rattle.spec_fields.specs.Bits.{Bits, unpack}
+use Rattle.spec_fields.specs.Refusal.{numberOf, loose, name, limit}
+use Rattle.spec_fields.specs.Parser.{Result, bad, got, Parser, andThen, _>>=_}
+use Rattle.spec_fields.specs.Field.{Alignment, unsigned}
+use Rattle.spec_exi.specs.Tables.{Placed, Tables, Role, literals, partitionsOf, Form, eqForm, formOf, tablesAfter, nameAllowed}
+use Rattle.spec_exi.specs.Lists.{withinTables}
+use Rattle.spec_exi.specs.Reader.{readIn, readByLiterals, readForm, readString}
 use Rattle.read_field.specs.declared.Field.{Field}
 use Rattle.read_field.specs.declared.Field.the-variants.{Value, Refused}
 use Rattle.read_field.specs.View.{fieldAt}

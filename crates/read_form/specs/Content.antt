@@ -4,11 +4,11 @@ use mathlib.Core.Path.{_≡_}
 use mathlib.Core.Logic.{_⊎_}
 use mathlib.Core.List.{List}
 use lib.ListN.{length}
-use Rattle.fields.specs.Parser.{Parser}
-use Rattle.fields.specs.Field.{Alignment}
+use Rattle.spec_fields.specs.Parser.{Parser}
+use Rattle.spec_fields.specs.Field.{Alignment}
 use Rattle.text.specs.Text.{part}
-use Rattle.format.specs.Tables.{Placed, Tables, Role}
-use Rattle.format.specs.Reader.{readString}
+use Rattle.spec_exi.specs.Tables.{Placed, Tables, Role}
+use Rattle.spec_exi.specs.Reader.{readString}
 use Rattle.state.specs.declared.State.{State}
 use Rattle.standing.specs.Standing.{Kept}
 use Rattle.outcome.specs.Outcome.{Outcome}

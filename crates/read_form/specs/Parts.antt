@@ -4,14 +4,14 @@ use mathlib.Core.Path.{_≡_}
 use mathlib.Core.Bool.{Bool, true, false}
 use mathlib.Core.List.{List}
 use lib.ListN.{length}
-use Rattle.fields.specs.Refusal.{numberOf, loose, name, limit, reference}
-use Rattle.fields.specs.Parser.{Parser, return, need, _>>=_, _>>_}
-use Rattle.fields.specs.Field.{Alignment, choice}
+use Rattle.spec_fields.specs.Refusal.{numberOf, loose, name, limit, reference}
+use Rattle.spec_fields.specs.Parser.{Parser, return, need, _>>=_, _>>_}
+use Rattle.spec_fields.specs.Field.{Alignment, choice}
 use Rattle.text.specs.Text.{Text}
-use Rattle.format.specs.Sizes.{maxStream, maxStore}
-use Rattle.format.specs.Tables.{Placed, Tables, Role, Partitions, partitionsOf, Form, literal, eqForm, formOf, tablesAfter, nameAllowed}
-use Rattle.format.specs.Lists.{withinTables}
-use Rattle.format.specs.Reader.{readLiteral, readHit}
+use Rattle.spec_exi.specs.Sizes.{maxStream, maxStore}
+use Rattle.spec_exi.specs.Tables.{Placed, Tables, Role, Partitions, partitionsOf, Form, literal, eqForm, formOf, tablesAfter, nameAllowed}
+use Rattle.spec_exi.specs.Lists.{withinTables}
+use Rattle.spec_exi.specs.Reader.{readLiteral, readHit}
 use Rattle.rows.specs.declared.Found.{Found}
 use Rattle.rows.specs.declared.Found.the-variants.{At, Nothing}
 use Rattle.rows.specs.Rows.{Room, rowAt, rows, countOf, findThat, found, hasText}

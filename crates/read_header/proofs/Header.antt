@@ -9,12 +9,12 @@ use lib.ListN.{length, getD, drop}
 use lib.Seq.{drop-cons}
 use lib.Dec.{eqb}
 use borrow.Author.Tests.{eq-eqb, ne-eqb}
-use Rattle.fields.specs.Bits.{unpack}
-use Rattle.fields.specs.Refusal.{numberOf, header}
-use Rattle.fields.specs.Parser.{Parser, need, _>>_}
-use Rattle.fields.specs.Field.{octet}
-use Rattle.format.specs.Settings.{Settings, headerOf}
-use Rattle.format.specs.Reader.{readHeader}
+use Rattle.spec_fields.specs.Bits.{unpack}
+use Rattle.spec_fields.specs.Refusal.{numberOf, header}
+use Rattle.spec_fields.specs.Parser.{Parser, need, _>>_}
+use Rattle.spec_fields.specs.Field.{octet}
+use Rattle.spec_exi.specs.Settings.{Settings, headerOf}
+use Rattle.spec_exi.specs.Reader.{readHeader}
 use Rattle.read_field.specs.declared.Field.the-variants.{Value, Refused}
 use Rattle.read_field.specs.View.{fieldAt}
 use Rattle.outcome.specs.Outcome.{Declined, Gotten}

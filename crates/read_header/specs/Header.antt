@@ -3,8 +3,8 @@ use Prim.Native.Nat.{ℕ, _≤_, _<_}
 use mathlib.Core.Path.{_≡_}
 use mathlib.Core.List.{List, [], _∷_}
 use lib.ListN.{length}
-use Rattle.format.specs.Sizes.{maxStream}
-use Rattle.format.specs.Reader.{readHeader}
+use Rattle.spec_exi.specs.Sizes.{maxStream}
+use Rattle.spec_exi.specs.Reader.{readHeader}
 use Rattle.outcome.specs.Outcome.{Outcome}
 use Rattle.read_header.specs.declared.Passed.{Passed}
 

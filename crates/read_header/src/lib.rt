@@ -1,8 +1,8 @@
 // The header of a stream (EXI 5), read. What the functions ask and leave is in specs/Header.antt.
 ghost use Prim.Native.Nat.{_≤_};
 ghost use lib.ListN.{length, drop};
-ghost use Rattle.format.specs.Settings.{headerOf};
-ghost use Rattle.format.specs.Sizes.{maxStream};
+ghost use Rattle.spec_exi.specs.Settings.{headerOf};
+ghost use Rattle.spec_exi.specs.Sizes.{maxStream};
 ghost use Rattle.settings.specs.Meant.{settingsFrom};
 ghost use Rattle.read_header.specs.Header.{OctetsReady, headerOctets, Passes};
 use read_field::Field;

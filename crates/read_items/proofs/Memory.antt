@@ -9,13 +9,13 @@ use lib.ListN.{length, getD}
 use lib.Seq.{ext-getD}
 use lib.Dec.{eqb, ltb}
 use borrow.Author.Tests.{eqb-true, eqb-false, ltb-true, ltb-false}
-use Rattle.fields.specs.Field.{Alignment}
-use Rattle.fields.specs.Parser.{Parser}
-use Rattle.fields.proofs.Tests.{split}
+use Rattle.spec_fields.specs.Field.{Alignment}
+use Rattle.spec_fields.specs.Parser.{Parser}
+use Rattle.spec_fields.proofs.Tests.{split}
 use Rattle.text.specs.Text.{Text}
-use Rattle.format.specs.Sizes.{maxUris, maxNames, maxValues}
-use Rattle.format.specs.Tables.{Placed, Tables}
-use Rattle.format.specs.Grammar.{Production}
+use Rattle.spec_exi.specs.Sizes.{maxUris, maxNames, maxValues}
+use Rattle.spec_exi.specs.Tables.{Placed, Tables}
+use Rattle.spec_exi.specs.Grammar.{Production}
 use Rattle.rows.specs.declared.Row.{Row}
 use Rattle.rows.specs.Rows.{rowAt, withRow, withRowBelow}
 use Rattle.rows.proofs.Laws.{withRow-length, withRow-other, withRow-row}

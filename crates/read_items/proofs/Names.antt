@@ -7,19 +7,19 @@ use mathlib.Core.List.{List, [], _∷_}
 use mathlib.Core.Option.{none, some, Option·none-ne-some, map-eq-some-iff}
 use lib.ListN.{length, drop, take, getElem?}
 use borrow.Author.Tests.{eq-eqb}
-use Rattle.fields.specs.Bits.{unpack}
-use Rattle.fields.specs.Field.{Alignment}
-use Rattle.fields.proofs.Tests.{split, T-is}
+use Rattle.spec_fields.specs.Bits.{unpack}
+use Rattle.spec_fields.specs.Field.{Alignment}
+use Rattle.spec_fields.proofs.Tests.{split, T-is}
 use Rattle.text.specs.Text.{Text, eqText}
 use Rattle.text.proofs.Parts.{part-length}
-use Rattle.format.specs.Event.{mapName}
-use Rattle.format.specs.Tables.{Placed, Tables, Role, uri, local, spanOf, indexOf}
-use Rattle.format.specs.Grammar.{fitsName, isWildcard}
-use Rattle.format.specs.Context.{item, nameItems, afterItem, afterItems}
-use Rattle.format.specs.Reader.{readString, entryOf, carried, nameText, readName}
-use Rattle.format.proofs.Codes.{eqName-refl}
-use Rattle.format.proofs.Strings.{string-reads}
-use Rattle.format.proofs.Content.{carried-texts}
+use Rattle.spec_exi.specs.Event.{mapName}
+use Rattle.spec_exi.specs.Tables.{Placed, Tables, Role, uri, local, spanOf, indexOf}
+use Rattle.spec_exi.specs.Grammar.{fitsName, isWildcard}
+use Rattle.spec_exi.specs.Context.{item, nameItems, afterItem, afterItems}
+use Rattle.spec_exi.specs.Reader.{readString, entryOf, carried, nameText, readName}
+use Rattle.spec_exi.proofs.Codes.{eqName-refl}
+use Rattle.spec_exi.proofs.Strings.{string-reads}
+use Rattle.spec_exi.proofs.Content.{carried-texts}
 use Rattle.rows.specs.declared.Row.{Row}
 use Rattle.rows.specs.Rows.{rowAt, rows, textOf, selected, countOf, nthOf, nthIn}
 use Rattle.rows.proofs.Laws.{rows-at}

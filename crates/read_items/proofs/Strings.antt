@@ -7,15 +7,15 @@ use mathlib.Core.Bool.{true, false, true≢false}
 use mathlib.Core.List.{List, []}
 use mathlib.Core.Option.{none, some}
 use lib.ListN.{length}
-use Rattle.fields.specs.Parser.{return}
-use Rattle.fields.specs.Field.{Alignment}
-use Rattle.fields.proofs.Tests.{split}
-use Rattle.format.specs.Event.{Event, startDocument, endDocument, endElement, startElement, attribute, characters, comment, instruction, Kind, SD, ED, SE, AT, EE, CH, CM, PI, kindOf, nameOf, mapEvent}
-use Rattle.format.specs.Sizes.{maxNames, maxOpen}
-use Rattle.format.specs.Tables.{Placed, Tables, value, target, plain, spanOf}
-use Rattle.format.specs.Grammar.{unnamed, kindNumber, fitsName, fits}
-use Rattle.format.specs.Context.{item, nameItems, items, afterItem, afterItems, characterRole}
-use Rattle.format.specs.Reader.{nameText, eventText, readContent}
+use Rattle.spec_fields.specs.Parser.{return}
+use Rattle.spec_fields.specs.Field.{Alignment}
+use Rattle.spec_fields.proofs.Tests.{split}
+use Rattle.spec_exi.specs.Event.{Event, startDocument, endDocument, endElement, startElement, attribute, characters, comment, instruction, Kind, SD, ED, SE, AT, EE, CH, CM, PI, kindOf, nameOf, mapEvent}
+use Rattle.spec_exi.specs.Sizes.{maxNames, maxOpen}
+use Rattle.spec_exi.specs.Tables.{Placed, Tables, value, target, plain, spanOf}
+use Rattle.spec_exi.specs.Grammar.{unnamed, kindNumber, fitsName, fits}
+use Rattle.spec_exi.specs.Context.{item, nameItems, items, afterItem, afterItems, characterRole}
+use Rattle.spec_exi.specs.Reader.{nameText, eventText, readContent}
 use Rattle.layout.specs.Layout.{valuesAt, tableCells}
 use Rattle.layout.specs.Meaning.{Memory, nameAt, kindAt, carriedName}
 use Rattle.productions.specs.Numbered.{Numbered}

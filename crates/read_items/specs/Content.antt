@@ -6,14 +6,14 @@ use mathlib.Core.Bool.{Bool, true, false, cond}
 use mathlib.Core.List.{List}
 use mathlib.Core.Option.{Option, none, some}
 use lib.ListN.{length, getD}
-use Rattle.fields.specs.Field.{Alignment}
+use Rattle.spec_fields.specs.Field.{Alignment}
 use Rattle.text.specs.Text.{Text}
-use Rattle.format.specs.Event.{QName, Event, Kind, kindOf, mapName, mapEvent}
-use Rattle.format.specs.Sizes.{maxUris, maxNames, maxValues}
-use Rattle.format.specs.Tables.{Placed, Tables, spanOf}
-use Rattle.format.specs.Grammar.{Production, kindNumber, fitsName, fits}
-use Rattle.format.specs.Context.{nameItems, items, afterItems}
-use Rattle.format.specs.Reader.{nameText, eventText, readName, readContent}
+use Rattle.spec_exi.specs.Event.{QName, Event, Kind, kindOf, mapName, mapEvent}
+use Rattle.spec_exi.specs.Sizes.{maxUris, maxNames, maxValues}
+use Rattle.spec_exi.specs.Tables.{Placed, Tables, spanOf}
+use Rattle.spec_exi.specs.Grammar.{Production, kindNumber, fitsName, fits}
+use Rattle.spec_exi.specs.Context.{nameItems, items, afterItems}
+use Rattle.spec_exi.specs.Reader.{nameText, eventText, readName, readContent}
 use Rattle.rows.specs.declared.Row.{Row}
 use Rattle.rows.specs.Rows.{Room, rowAt}
 use Rattle.layout.specs.Layout.{urisAt, namesAt, valuesAt}

@@ -3,7 +3,7 @@
 ghost use mathlib.Core.Path.{_≡_};
 ghost use Prim.Native.Nat.{_≤_};
 ghost use lib.ListN.{length};
-ghost use Rattle.fields.specs.Field.{Alignment};
+ghost use Rattle.spec_fields.specs.Field.{Alignment};
 ghost use Rattle.layout.specs.Layout.{tableCells};
 ghost use Rattle.read_field.specs.View.{alignmentOf};
 ghost use Rattle.outcome.specs.Memory.{readerMemory};

@@ -9,11 +9,11 @@ use mathlib.Core.List.{List, [], _∷_, _++_}
 use lib.ListN.{length, take, replicate}
 use lib.Dec.{ltb}
 use borrow.Author.Tests.{eqb-true}
-use Rattle.fields.specs.Field.{Alignment, unsigned}
+use Rattle.spec_fields.specs.Field.{Alignment, unsigned}
 use Rattle.text.specs.Text.{Text, part}
-use Rattle.format.specs.Sizes.{maxNames, maxStore}
-use Rattle.format.specs.Tables.{Placed, Tables, namesOf, indexOf, local, partitionsOf, literal, eqForm, added, nameAllowed}
-use Rattle.format.specs.Lists.{withinTables}
+use Rattle.spec_exi.specs.Sizes.{maxNames, maxStore}
+use Rattle.spec_exi.specs.Tables.{Placed, Tables, namesOf, indexOf, local, partitionsOf, literal, eqForm, added, nameAllowed}
+use Rattle.spec_exi.specs.Lists.{withinTables}
 use Rattle.rows.specs.declared.Row.{Row}
 use Rattle.rows.specs.Rows.{rowAt, rows, textOf, withRowBelow, selected, hasText, findThat, found}
 use Rattle.layout.specs.Layout.{urisAt, namesAt}

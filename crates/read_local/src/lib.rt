@@ -3,7 +3,7 @@
 ghost use mathlib.Core.Path.{_≡_};
 ghost use Prim.Native.Nat.{_+_};
 ghost use Rattle.text.specs.Text.{part};
-ghost use Rattle.format.specs.Tables.{local, namesOf, nameAllowed};
+ghost use Rattle.spec_exi.specs.Tables.{local, namesOf, nameAllowed};
 ghost use Rattle.rows.specs.Rows.{Room};
 ghost use Rattle.layout.specs.Layout.{urisAt, namesAt};
 ghost use Rattle.layout.specs.Meaning.{uriText};

@@ -9,13 +9,13 @@ use lib.ListN.{length, getD, take, drop, set, replicate, length-append, take-app
 use lib.Seq.{append-snoc, drop-cons, set-at, length-take-le}
 use lib.Dec.{leb}
 use borrow.Author.Tests.{le-leb, lt-leb}
-use Rattle.fields.specs.Refusal.{numberOf, character, limit}
-use Rattle.fields.specs.Parser.{return, times}
-use Rattle.fields.specs.Field.{unsigned}
+use Rattle.spec_fields.specs.Refusal.{numberOf, character, limit}
+use Rattle.spec_fields.specs.Parser.{return, times}
+use Rattle.spec_fields.specs.Field.{unsigned}
 use Rattle.text.specs.Text.{Text, isChar}
-use Rattle.format.specs.Sizes.{maxStream, maxStore, maxString}
-use Rattle.format.specs.Tables.{literal, laid}
-use Rattle.format.specs.Reader.{readCharacter, readLiteral}
+use Rattle.spec_exi.specs.Sizes.{maxStream, maxStore, maxString}
+use Rattle.spec_exi.specs.Tables.{literal, laid}
+use Rattle.spec_exi.specs.Reader.{readCharacter, readLiteral}
 use Rattle.read_field.specs.declared.Field.the-variants.{Value, Refused}
 use Rattle.read_field.specs.View.{fieldAt, InStream}
 use Rattle.outcome.specs.Outcome.{Declined, Gotten}

@@ -3,11 +3,11 @@ use Prim.Native.Nat.{ℕ, _+_, _*_, _≤_, _<_}
 use mathlib.Core.Path.{_≡_}
 use mathlib.Core.List.{List, _++_}
 use lib.ListN.{length, take, drop}
-use Rattle.fields.specs.Parser.{times}
+use Rattle.spec_fields.specs.Parser.{times}
 use Rattle.text.specs.Text.{Text}
-use Rattle.format.specs.Sizes.{maxStream, maxStore, maxString}
-use Rattle.format.specs.Tables.{Tables, Form, literal, Placed}
-use Rattle.format.specs.Reader.{readCharacter, readLiteral}
+use Rattle.spec_exi.specs.Sizes.{maxStream, maxStore, maxString}
+use Rattle.spec_exi.specs.Tables.{Tables, Form, literal, Placed}
+use Rattle.spec_exi.specs.Reader.{readCharacter, readLiteral}
 use Rattle.outcome.specs.Outcome.{Outcome}
 use Rattle.outcome.specs.Memory.{ZeroFrom}
 use Rattle.read_string.specs.declared.Literal as declared

@@ -11,14 +11,14 @@ use mathlib.Core.List.{List, [], _∷_, _++_, map}
 use mathlib.Core.Option.{Option, none, some, Option·none-ne-some}
 use lib.ListN.{length, take, drop, replicate, getElem?, length-map}
 use lib.Dec.{ltb}
-use Rattle.fields.specs.Bits.{Bits, unpack}
-use Rattle.fields.specs.Refusal.{numberOf, reference}
-use Rattle.fields.specs.Parser.{return, andThen, _>>=_}
-use Rattle.fields.specs.Field.{Alignment, numberField, width, choice, unsigned}
-use Rattle.format.specs.Sizes.{maxStream, maxUris, maxStore}
-use Rattle.format.specs.Tables.{Placed, Tables, indexOf, uri, partitionsOf, hit, literal, eqForm, added, nameAllowed}
-use Rattle.format.specs.Lists.{withinTables}
-use Rattle.format.specs.Reader.{readIn, readByLiterals, readEntry, readForm}
+use Rattle.spec_fields.specs.Bits.{Bits, unpack}
+use Rattle.spec_fields.specs.Refusal.{numberOf, reference}
+use Rattle.spec_fields.specs.Parser.{return, andThen, _>>=_}
+use Rattle.spec_fields.specs.Field.{Alignment, numberField, width, choice, unsigned}
+use Rattle.spec_exi.specs.Sizes.{maxStream, maxUris, maxStore}
+use Rattle.spec_exi.specs.Tables.{Placed, Tables, indexOf, uri, partitionsOf, hit, literal, eqForm, added, nameAllowed}
+use Rattle.spec_exi.specs.Lists.{withinTables}
+use Rattle.spec_exi.specs.Reader.{readIn, readByLiterals, readEntry, readForm}
 use Rattle.rows.specs.Rows.{rows, textOf, withRowBelow, hasText, findThat, found}
 use Rattle.rows.proofs.Laws.{rows-length}
 use Rattle.rows.proofs.Selection.{count-all}

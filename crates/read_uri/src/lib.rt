@@ -1,6 +1,6 @@
 // The URI of a name (EXI 7.3.2), read by the table of URIs; a literal joins it, and a form that is not the strict one is refused. What the functions ask and
 // leave is in specs/Uri.antt, and in crates/read_form/specs.
-ghost use Rattle.format.specs.Tables.{uri};
+ghost use Rattle.spec_exi.specs.Tables.{uri};
 ghost use Rattle.layout.specs.Layout.{urisAt};
 ghost use Rattle.read_field.specs.View.{alignmentOf};
 ghost use Rattle.outcome.specs.Memory.{tablesOf, ReadReady};

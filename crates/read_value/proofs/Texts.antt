@@ -7,11 +7,11 @@ use mathlib.Core.Bool.{Bool, true, false, not, cond, _||_}
 use mathlib.Core.List.{List, [], _++_}
 use lib.ListN.{length, take, replicate}
 use lib.Dec.{T}
-use Rattle.fields.specs.Field.{Alignment, unsigned}
+use Rattle.spec_fields.specs.Field.{Alignment, unsigned}
 use Rattle.text.specs.Text.{Text, part}
-use Rattle.format.specs.Sizes.{maxStore}
-use Rattle.format.specs.Tables.{Tables, Role, target, plain, literals, partitionsOf, eqForm, firstHit, formOf, added, nameAllowed}
-use Rattle.format.specs.Lists.{withinTables}
+use Rattle.spec_exi.specs.Sizes.{maxStore}
+use Rattle.spec_exi.specs.Tables.{Tables, Role, target, plain, literals, partitionsOf, eqForm, firstHit, formOf, added, nameAllowed}
+use Rattle.spec_exi.specs.Lists.{withinTables}
 use Rattle.layout.specs.Layout.{tableCells}
 use Rattle.layout.specs.Meaning.{Memory, Counts}
 use Rattle.layout.specs.Tidy.{Tidy}

@@ -11,13 +11,13 @@ use mathlib.Core.Option.{Option, none, some, Option·none-ne-some, Option·map}
 use lib.ListN.{length, take, replicate}
 use lib.Dec.{eqb, ltb}
 use borrow.Author.Tests.{eq-eqb, ne-eqb}
-use Rattle.fields.specs.Field.{Alignment, unsigned}
-use Rattle.fields.proofs.Tests.{split}
+use Rattle.spec_fields.specs.Field.{Alignment, unsigned}
+use Rattle.spec_fields.proofs.Tests.{split}
 use Rattle.text.specs.Text.{Text, eqText, isEmpty}
-use Rattle.format.specs.Event.{QName}
-use Rattle.format.specs.Sizes.{maxValues, maxStore}
-use Rattle.format.specs.Tables.{Placed, Entry, Tables, partition, valuesOf, allValues, indexOf, value, partitionsOf, hit, literal, eqForm, hitOr, formOf, added, nameAllowed}
-use Rattle.format.specs.Lists.{withinTables}
+use Rattle.spec_exi.specs.Event.{QName}
+use Rattle.spec_exi.specs.Sizes.{maxValues, maxStore}
+use Rattle.spec_exi.specs.Tables.{Placed, Entry, Tables, partition, valuesOf, allValues, indexOf, value, partitionsOf, hit, literal, eqForm, hitOr, formOf, added, nameAllowed}
+use Rattle.spec_exi.specs.Lists.{withinTables}
 use Rattle.rows.specs.declared.Found.{Found}
 use Rattle.rows.specs.declared.Found.the-variants.{At, Nothing}
 use Rattle.rows.specs.Rows.{rowAt, rows, textOf, withRowBelow, countOf, hasText, findThat, found}

@@ -1,8 +1,8 @@
 // Values, read by the values of their name and by all values (EXI 7.3.3), and Strings by no table; a value that is a literal joins its tables, and a form that
 // is not the strict one is refused. What the functions ask and leave is in specs/Value.antt, and in crates/read_form/specs.
 ghost use mathlib.Core.Bool.{cond};
-ghost use Rattle.fields.specs.Field.{Alignment};
-ghost use Rattle.format.specs.Tables.{value, target, plain, allValues};
+ghost use Rattle.spec_fields.specs.Field.{Alignment};
+ghost use Rattle.spec_exi.specs.Tables.{value, target, plain, allValues};
 ghost use Rattle.layout.specs.Layout.{valuesAt, tableCells};
 ghost use Rattle.layout.specs.Meaning.{nameAt};
 ghost use Rattle.read_field.specs.View.{alignmentOf};

@@ -7,15 +7,15 @@ use native.Mathlib.Omega.{arith}
 use lib.ListN.{length, drop, replicate, length-replicate}
 use lib.Dec.{leb, ltb}
 use borrow.Author.Tests.{le-leb, lt-leb, ltb-true, ltb-false}
-use Rattle.fields.specs.Bits.{unpack}
-use Rattle.fields.specs.Refusal.{Refusal, numberOf, room, settings, long, Answer, refused}
-use Rattle.fields.proofs.Tests.{split}
-use Rattle.format.specs.Settings.{meaningful, settingsOf, headerOf}
-use Rattle.format.specs.Settings as format
-use Rattle.format.specs.Sizes.{maxStream, maxEvents, maxStore, cellsPerEvent, eventCells, readerWork}
-use Rattle.format.specs.Context.{start}
-use Rattle.format.specs.Reader.{Reading, readReply, readEvents, readBody, readStream, enoughToRead}
-use Rattle.format.specs.Reader as format-reader
+use Rattle.spec_fields.specs.Bits.{unpack}
+use Rattle.spec_fields.specs.Refusal.{Refusal, numberOf, room, settings, long, Answer, refused}
+use Rattle.spec_fields.proofs.Tests.{split}
+use Rattle.spec_exi.specs.Settings.{meaningful, settingsOf, headerOf}
+use Rattle.spec_exi.specs.Settings as format
+use Rattle.spec_exi.specs.Sizes.{maxStream, maxEvents, maxStore, cellsPerEvent, eventCells, readerWork}
+use Rattle.spec_exi.specs.Context.{start}
+use Rattle.spec_exi.specs.Reader.{Reading, readReply, readEvents, readBody, readStream, enoughToRead}
+use Rattle.spec_exi.specs.Reader as format-reader
 use Rattle.state.specs.declared.State.{State}
 use Rattle.standing.specs.Standing.{contextOf}
 use Rattle.settings.specs.Meant.{numbersOf, settingsMeant, settingsFrom}

@@ -3,10 +3,10 @@ use Prim.Native.Nat.{ℕ, _≤_}
 use mathlib.Core.Path.{_≡_}
 use mathlib.Core.List.{List}
 use lib.ListN.{length, replicate}
-use Rattle.fields.specs.Refusal.{Answer}
-use Rattle.format.specs.Sizes.{maxStream, maxStore, eventCells, readerWork}
-use Rattle.format.specs.Reader.{Reading}
-use Rattle.format.specs.Reader as format
+use Rattle.spec_fields.specs.Refusal.{Answer}
+use Rattle.spec_exi.specs.Sizes.{maxStream, maxStore, eventCells, readerWork}
+use Rattle.spec_exi.specs.Reader.{Reading}
+use Rattle.spec_exi.specs.Reader as format
 use Rattle.settings.specs.Meant.{numbersOf}
 use Rattle.settings.specs.declared.SettingNumbers.{SettingNumbers}
 

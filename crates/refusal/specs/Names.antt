@@ -5,7 +5,7 @@ use mathlib.Core.List.{List, [], _∷_, _++_}
 use lib.Dec.{eqb}
 use lib.ListN.{length, replicate}
 use Rattle.text.specs.Text.{Text, text}
-use Rattle.fields.specs.Refusal.{Refusal, numberOf, room, settings, long, header, ended, code, number, character, reference, loose, name, limit, tail, shape, place}
+use Rattle.spec_fields.specs.Refusal.{Refusal, numberOf, room, settings, long, header, ended, code, number, character, reference, loose, name, limit, tail, shape, place}
 
 unfoldable pub nameOf : Refusal → Text
 nameOf room = text "ROOM"

@@ -8,8 +8,8 @@ use mathlib.Core.Bool.{Bool, true, false, cond, true≢false}
 use mathlib.Core.List.{List, [], _∷_, _++_, map}
 use mathlib.Core.Option.{Option, none, some, Option·map, Option·none-ne-some, map-eq-some-iff, map-map}
 use lib.ListN.{length, take, drop, getElem?, length-append, length-map}
-use Rattle.fields.proofs.Tests.{split}
-use Rattle.fields.proofs.Number.{member-below}
+use Rattle.spec_fields.proofs.Tests.{split}
+use Rattle.spec_fields.proofs.Number.{member-below}
 use Rattle.rows.specs.declared.Row.{Row}
 use Rattle.rows.specs.Rows.{selected, keep, numbered, countOf, nthIn, nthOf, firstThat, findThat}
 

@@ -9,12 +9,12 @@ use mir.Syntax.{w8}
 use mir.Val.{Fits}
 use lib.Dec.{ltb}
 use borrow.Author.Tests.{ltb-true}
-use Rattle.fields.specs.Field.{Alignment}
+use Rattle.spec_fields.specs.Field.{Alignment}
 use Rattle.text.specs.Text.{Text}
-use Rattle.format.specs.Sizes.{maxString, maxStore}
-use Rattle.format.specs.Tables.{Placed, Role, literals, partitionsOf, literal, formOf, stringBits, formBits, added, nameAllowed}
-use Rattle.format.specs.Context.{item}
-use Rattle.format.specs.Lists.{withinTables}
+use Rattle.spec_exi.specs.Sizes.{maxString, maxStore}
+use Rattle.spec_exi.specs.Tables.{Placed, Role, literals, partitionsOf, literal, formOf, stringBits, formBits, added, nameAllowed}
+use Rattle.spec_exi.specs.Context.{item}
+use Rattle.spec_exi.specs.Lists.{withinTables}
 use Rattle.layout.specs.Layout.{tableCells}
 use Rattle.layout.specs.Writer.{writerMemory}
 use Rattle.layout.proofs.Adding.{Grows, countsAfter, After}

@@ -9,14 +9,14 @@ use lib.Dec.{eqb}
 use mir.Syntax.{w8}
 use mir.Val.{Fits}
 use borrow.Author.Tests.{eqb-true, eqb-false}
-use Rattle.fields.proofs.Tests.{split}
-use Rattle.fields.specs.Field.{Alignment, unsignedBits, choiceBits}
+use Rattle.spec_fields.proofs.Tests.{split}
+use Rattle.spec_fields.specs.Field.{Alignment, unsignedBits, choiceBits}
 use Rattle.text.specs.Text.{Text}
-use Rattle.format.specs.Sizes.{maxStore}
-use Rattle.format.specs.Tables.{Placed, Tables, Role, literals, partitionsOf, hit, literal, formOf, formBits, added, tablesAfter, nameAllowed}
-use Rattle.format.specs.Context.{item, afterItem}
-use Rattle.format.specs.Strict.{itemBits}
-use Rattle.format.specs.Lists.{withinTables}
+use Rattle.spec_exi.specs.Sizes.{maxStore}
+use Rattle.spec_exi.specs.Tables.{Placed, Tables, Role, literals, partitionsOf, hit, literal, formOf, formBits, added, tablesAfter, nameAllowed}
+use Rattle.spec_exi.specs.Context.{item, afterItem}
+use Rattle.spec_exi.specs.Strict.{itemBits}
+use Rattle.spec_exi.specs.Lists.{withinTables}
 use Rattle.layout.specs.Writer.{writerMemory}
 use Rattle.layout.proofs.Sizes.{length-text, within-tables}
 use Rattle.layout.proofs.Adding.{After, countsAfter}

@@ -5,11 +5,11 @@ use mathlib.Core.Path.{_≡_, ap, _∙_}
 use mathlib.Core.Bool.{Bool}
 use mathlib.Core.List.{List}
 use mathlib.Core.Option.{none, some}
-use Rattle.fields.proofs.Tests.{is-T}
-use Rattle.fields.proofs.Number.{member-below}
+use Rattle.spec_fields.proofs.Tests.{is-T}
+use Rattle.spec_fields.proofs.Number.{member-below}
 use Rattle.text.specs.Text.{Text, eqText}
 use Rattle.text.proofs.Equal.{eqText-eq}
-use Rattle.format.specs.Tables.{Placed, indexOf, Form, hit, hitOr}
+use Rattle.spec_exi.specs.Tables.{Placed, indexOf, Form, hit, hitOr}
 use Rattle.rows.specs.declared.Found.{Found}
 use Rattle.rows.specs.declared.Found.the-variants.{At, Nothing}
 use Rattle.rows.specs.Rows.{rowAt, rows, textOf, numbered, countOf, hasText, findThat, found}

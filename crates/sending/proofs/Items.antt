@@ -7,13 +7,13 @@ use mathlib.Core.Option.{Option, none, some, Option·some-ne-none}
 use lib.ListN.{getD, length-append}
 use mir.Syntax.{w8}
 use mir.Val.{Fits}
-use Rattle.fields.specs.Field.{Alignment}
-use Rattle.fields.specs.Refusal.{Refusal}
-use Rattle.fields.proofs.Refusal.{refusal-number}
-use Rattle.format.specs.Tables.{Tables}
-use Rattle.format.specs.Context.{Item, afterItem, afterItems}
-use Rattle.format.specs.Strict.{itemBits, itemsBits}
-use Rattle.format.specs.Writer.{Test, firstFailed, stringTests, contentTests}
+use Rattle.spec_fields.specs.Field.{Alignment}
+use Rattle.spec_fields.specs.Refusal.{Refusal}
+use Rattle.spec_fields.proofs.Refusal.{refusal-number}
+use Rattle.spec_exi.specs.Tables.{Tables}
+use Rattle.spec_exi.specs.Context.{Item, afterItem, afterItems}
+use Rattle.spec_exi.specs.Strict.{itemBits, itemsBits}
+use Rattle.spec_exi.specs.Writer.{Test, firstFailed, stringTests, contentTests}
 use Rattle.state.specs.declared.State.{State}
 use Rattle.standing.proofs.Kept.{kept-refl, kept-then}
 use Rattle.literal.specs.Fault.{faultNumber}

@@ -6,7 +6,7 @@ use mathlib.Core.List.{List, _++_}
 use lib.ListN.{length, getD, take, drop, length-append, List·getD-append}
 use lib.Seq.{length-take-le, getD-take}
 use Rattle.text.specs.Text.{Text}
-use Rattle.format.specs.Sizes.{maxStore, writerWork}
+use Rattle.spec_exi.specs.Sizes.{maxStore, writerWork}
 use Rattle.rows.specs.Rows.{rowAt}
 use Rattle.rows.proofs.Laws.{withRow-length, withRow-row}
 use Rattle.layout.specs.Layout.{tableCells}

@@ -6,13 +6,13 @@ use mathlib.Core.List.{List, [], _∷_}
 use mathlib.Core.Option.{Option, none, some}
 use lib.ListN.{length}
 use lib.Dec.{T}
-use Rattle.fields.specs.Field.{Alignment}
-use Rattle.fields.specs.Refusal.{Refusal}
-use Rattle.format.specs.Sizes.{writerWork}
-use Rattle.format.specs.Tables.{Tables}
-use Rattle.format.specs.Context.{Item, afterItem, afterItems}
-use Rattle.format.specs.Strict.{itemsBits}
-use Rattle.format.specs.Writer.{firstFailed, stringTests, contentTests}
+use Rattle.spec_fields.specs.Field.{Alignment}
+use Rattle.spec_fields.specs.Refusal.{Refusal}
+use Rattle.spec_exi.specs.Sizes.{writerWork}
+use Rattle.spec_exi.specs.Tables.{Tables}
+use Rattle.spec_exi.specs.Context.{Item, afterItem, afterItems}
+use Rattle.spec_exi.specs.Strict.{itemsBits}
+use Rattle.spec_exi.specs.Writer.{firstFailed, stringTests, contentTests}
 use Rattle.layout.specs.Meaning.{tablesIn}
 use Rattle.layout.specs.Writer.{writerMemory}
 use Rattle.layout.specs.Tidy.{Tidy}

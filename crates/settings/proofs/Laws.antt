@@ -1,9 +1,9 @@
 -- The settings that the numbers mean are the settings that the definitions give those numbers.
 use mathlib.Core.Path.{_≡_}
 use lib.Dec.{eqb}
-use Rattle.fields.proofs.Tests.{split}
+use Rattle.spec_fields.proofs.Tests.{split}
 use Rattle.read_field.specs.View.{alignmentOf}
-use Rattle.format.specs.Settings.{settingsOf}
+use Rattle.spec_exi.specs.Settings.{settingsOf}
 use Rattle.settings.specs.Meant.{numbersOf, settingsMeant, settingsFrom}
 use Rattle.settings.specs.declared.SettingNumbers.{SettingNumbers}
 

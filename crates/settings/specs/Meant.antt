@@ -1,7 +1,7 @@
 -- What the values that src/lib.rt declares mean.
 use lib.Dec.{eqb}
 use Rattle.read_field.specs.View.{alignmentOf}
-use Rattle.format.specs.Settings as format
+use Rattle.spec_exi.specs.Settings as format
 use Rattle.settings.specs.declared.SettingNumbers.{SettingNumbers}
 use Rattle.settings.specs.declared.Settings.{Settings}
 
@@ -9,7 +9,7 @@ use Rattle.settings.specs.declared.Settings.{Settings}
 unfoldable pub numbersOf : SettingNumbers → format.SettingNumbers
 numbersOf s = record { alignment = s .alignment; cookie = s .cookie; comments = s .comments; instructions = s .instructions }
 
--- Numbers that have a meaning mean these settings (crates/format/specs/Settings.antt).
+-- Numbers that have a meaning mean these settings (crates/spec_exi/specs/Settings.antt).
 unfoldable pub settingsMeant : SettingNumbers → Settings
 settingsMeant s =
     record {

@@ -1,6 +1,6 @@
 // What the two sides agree on outside the stream: the numbers that a caller hands over, and what they mean.
 ghost use mathlib.Core.Path.{_≡_};
-ghost use Rattle.format.specs.Settings.{meaningful};
+ghost use Rattle.spec_exi.specs.Settings.{meaningful};
 ghost use Rattle.settings.specs.Meant.{numbersOf, settingsMeant};
 
 // Alignment 0 is bit-packed and 1 byte-aligned; each of the others is 0 for no and 1 for yes.

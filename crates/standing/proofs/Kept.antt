@@ -5,7 +5,7 @@ use mathlib.Core.Path.{_≡_, refl, _∙_}
 use mathlib.Core.List.{map}
 use lib.ListN.{length, getD}
 use Rattle.text.specs.Text.{Text}
-use Rattle.format.specs.Tables.{Role}
+use Rattle.spec_exi.specs.Tables.{Role}
 use Rattle.layout.specs.Meaning.{Memory, nameAt, tablesIn, contextIn}
 use Rattle.layout.specs.Tidy.{Tidy}
 use Rattle.layout.proofs.Adding.{countsAfter, After}

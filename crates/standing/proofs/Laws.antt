@@ -8,13 +8,13 @@ use lib.ListN.{length, set, length-map, length-set}
 use lib.Seq.{getD-set-same, getD-set-other}
 use lib.Dec.{T, leb, eqb}
 use borrow.Author.Tests.{le-leb, eq-eqb, ne-eqb, eqb-true, eqb-false}
-use Rattle.fields.proofs.Tests.{split, is-T}
+use Rattle.spec_fields.proofs.Tests.{split, is-T}
 use Rattle.text.specs.Text.{Text}
-use Rattle.format.specs.Sizes.{maxOpen, maxNames, maxLearned, maxGrammars}
-use Rattle.format.specs.Event.{QName}
-use Rattle.format.specs.Grammar.{document, docContent, docEnd, finished, startTag, elementContent, openElements, inContent, closed}
-use Rattle.format.specs.Grammar as grammar
-use Rattle.format.specs.Lists.{withinTables, withinGrammars}
+use Rattle.spec_exi.specs.Sizes.{maxOpen, maxNames, maxLearned, maxGrammars}
+use Rattle.spec_exi.specs.Event.{QName}
+use Rattle.spec_exi.specs.Grammar.{document, docContent, docEnd, finished, startTag, elementContent, openElements, inContent, closed}
+use Rattle.spec_exi.specs.Grammar as grammar
+use Rattle.spec_exi.specs.Lists.{withinTables, withinGrammars}
 use Rattle.rows.specs.Rows.{rows}
 use Rattle.layout.specs.Meaning.{Memory, nameAt, stateIn, tablesIn, learnedFrom, grammarsFrom, newestFirst, contextIn}
 use Rattle.layout.specs.Tidy.{Tidy}

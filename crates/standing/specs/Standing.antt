@@ -3,8 +3,8 @@
 use Prim.Native.Nat.{ℕ, _≤_, _<_}
 use mathlib.Core.Path.{_≡_}
 use lib.ListN.{length, getD}
-use Rattle.format.specs.Sizes.{maxOpen}
-use Rattle.format.specs.Context.{Context}
+use Rattle.spec_exi.specs.Sizes.{maxOpen}
+use Rattle.spec_exi.specs.Context.{Context}
 use Rattle.layout.specs.Meaning.{Memory, Counts, uriText, nameAt, learnedFrom, grammarsFrom, contextIn}
 use Rattle.layout.specs.Tidy.{Tidy}
 use Rattle.state.specs.declared.Stack.{Stack}

@@ -8,7 +8,7 @@ use native.Mathlib.Omega.{arith}
 use lib.ListN.{length, set, getD}
 use lib.Seq.{getD-set-same, getD-set-other}
 use borrow.Author.Tests.{lt-leb}
-use Rattle.format.specs.Sizes.{maxOpen}
+use Rattle.spec_exi.specs.Sizes.{maxOpen}
 use Rattle.state.specs.Stack.{noElements, pushed, popped, topOf, lastFirst, openNumbers}
 use Rattle.state.specs.declared.Stack.{Stack}
 

@@ -4,7 +4,7 @@ use mathlib.Core.Bool.{true, false, cond}
 use mathlib.Core.List.{List, [], _∷_}
 use lib.ListN.{replicate, set, getD}
 use lib.Dec.{leb}
-use Rattle.format.specs.Sizes.{maxOpen}
+use Rattle.spec_exi.specs.Sizes.{maxOpen}
 use Rattle.state.specs.declared.Stack.{Stack}
 use Rattle.state.specs.declared.Pushed.{Pushed}
 use Rattle.state.specs.declared.State.{State}

@@ -2,7 +2,7 @@
 // open elements.
 ghost use mathlib.Core.Path.{_≡_};
 ghost use Prim.Native.Nat.{_≤_, _<_};
-ghost use Rattle.format.specs.Sizes.{maxOpen};
+ghost use Rattle.spec_exi.specs.Sizes.{maxOpen};
 ghost use Rattle.state.specs.Stack.{noElements, pushed, popped, topOf, started};
 
 // The names of the open elements, each by its number in the table of names, the innermost last.

@@ -2,7 +2,7 @@
 use Prim.Native.Nat.{ℕ, _-_}
 use mathlib.Core.List.{List, _++_}
 use lib.ListN.{length, take, replicate}
-use Rattle.format.specs.Sizes.{maxUris, maxNames, maxValues}
+use Rattle.spec_exi.specs.Sizes.{maxUris, maxNames, maxValues}
 use Rattle.rows.specs.declared.Row.{Row}
 use Rattle.rows.specs.Rows.{withRowBelow}
 use Rattle.layout.specs.Layout.{urisAt, namesAt, valuesAt}

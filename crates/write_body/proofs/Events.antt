@@ -10,17 +10,17 @@ use mir.Syntax.{w8}
 use mir.Val.{Fits}
 use lib.Dec.{ltb}
 use borrow.Author.Tests.{ltb-true, ltb-false}
-use Rattle.fields.proofs.Tests.{split}
-use Rattle.fields.specs.Bits.{Bits}
-use Rattle.fields.specs.Refusal.{Refusal, numberOf, limit, shape, Answer, refused, accepted}
+use Rattle.spec_fields.proofs.Tests.{split}
+use Rattle.spec_fields.specs.Bits.{Bits}
+use Rattle.spec_fields.specs.Refusal.{Refusal, numberOf, limit, shape, Answer, refused, accepted}
 use Rattle.text.specs.Text.{Text, Span, part}
-use Rattle.format.specs.Event.{Event, mapEvent}
-use Rattle.format.specs.Settings.{Settings}
-use Rattle.format.specs.Sizes.{maxEvents}
-use Rattle.format.specs.Grammar.{isFinished}
-use Rattle.format.specs.Context.{Context, next}
-use Rattle.format.specs.Strict.{eventBits}
-use Rattle.format.specs.Writer.{Stored, faultOf, prepended, unless, writeEvents}
+use Rattle.spec_exi.specs.Event.{Event, mapEvent}
+use Rattle.spec_exi.specs.Settings.{Settings}
+use Rattle.spec_exi.specs.Sizes.{maxEvents}
+use Rattle.spec_exi.specs.Grammar.{isFinished}
+use Rattle.spec_exi.specs.Context.{Context, next}
+use Rattle.spec_exi.specs.Strict.{eventBits}
+use Rattle.spec_exi.specs.Writer.{Stored, faultOf, prepended, unless, writeEvents}
 use Rattle.event.specs.Cells.{loadedFrom, eventsOf}
 use Rattle.event.proofs.Laws.{events-at, events-cut, events-end}
 use Rattle.layout.specs.Meaning.{Memory}

@@ -5,14 +5,14 @@ use mathlib.Core.List.{List, [], _∷_, _++_}
 use mathlib.Core.Option.{none, some}
 use lib.ListN.{length}
 use lib.Dec.{T}
-use Rattle.fields.specs.Bits.{Bits}
-use Rattle.fields.specs.Refusal.{Refusal, numberOf, refused, accepted}
+use Rattle.spec_fields.specs.Bits.{Bits}
+use Rattle.spec_fields.specs.Refusal.{Refusal, numberOf, refused, accepted}
 use Rattle.text.specs.Text.{Text, part}
-use Rattle.format.specs.Event.{mapEvent}
-use Rattle.format.specs.Sizes.{maxEvents, writerWork}
-use Rattle.format.specs.Settings as format
-use Rattle.format.specs.Context.{Context, next}
-use Rattle.format.specs.Writer.{Stored, faultOf, writeEvents}
+use Rattle.spec_exi.specs.Event.{mapEvent}
+use Rattle.spec_exi.specs.Sizes.{maxEvents, writerWork}
+use Rattle.spec_exi.specs.Settings as format
+use Rattle.spec_exi.specs.Context.{Context, next}
+use Rattle.spec_exi.specs.Writer.{Stored, faultOf, writeEvents}
 use Rattle.layout.specs.Writer.{writerMemory}
 use Rattle.state.specs.declared.State.{State}
 use Rattle.standing.specs.Standing.{contextOf, Standing}

@@ -8,9 +8,9 @@ use mathlib.Core.Option.{none, Option·none-ne-some}
 use lib.ListN.{length}
 use lib.Dec.{eqb, ltb}
 use borrow.Author.Tests.{ne-eqb, ltb-true, ltb-false}
-use Rattle.fields.proofs.Tests.{split}
-use Rattle.format.specs.Grammar.{State, document, docContent, docEnd, finished, startTag, elementContent, Learned, learn, learnedAfter}
-use Rattle.format.specs.Context.{levelsIn}
+use Rattle.spec_fields.proofs.Tests.{split}
+use Rattle.spec_exi.specs.Grammar.{State, document, docContent, docEnd, finished, startTag, elementContent, Learned, learn, learnedAfter}
+use Rattle.spec_exi.specs.Context.{levelsIn}
 use Rattle.rows.specs.declared.Found.{Found}
 use Rattle.layout.specs.Meaning.{Memory}
 use Rattle.settings.specs.declared.Settings.{Settings}

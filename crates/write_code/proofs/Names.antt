@@ -3,10 +3,10 @@ use Prim.Native.Nat.{ℕ, _<_}
 use mathlib.Core.Path.{_≡_, refl, sym, ap, _∙_}
 use mathlib.Core.Bool.{true, false, true≢false}
 use borrow.Author.Tests.{eqb-true, eq-eqb}
-use Rattle.fields.proofs.Tests.{T-is, is-T}
+use Rattle.spec_fields.proofs.Tests.{T-is, is-T}
 use Rattle.text.specs.Text.{Text, eqText}
 use Rattle.text.proofs.Equal.{eqText-refl, eqText-eq}
-use Rattle.format.specs.Event.{QName}
+use Rattle.spec_exi.specs.Event.{QName}
 use Rattle.rows.specs.declared.Found.{Found}
 use Rattle.rows.specs.declared.Found.the-variants.{At, Nothing}
 use Rattle.rows.specs.Rows.{rowAt, rows, textOf, selected, hasText, findThat, found}

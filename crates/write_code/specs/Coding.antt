@@ -6,10 +6,10 @@ use mathlib.Core.List.{List}
 use mathlib.Core.Option.{none, some}
 use lib.Dec.{T}
 use Rattle.text.specs.Text.{Text}
-use Rattle.format.specs.Event.{Event, kindOf}
-use Rattle.format.specs.Settings.{Settings}
-use Rattle.format.specs.Grammar.{Code, codeOf, codeBits, kindNumber, unnamed, productionFor, firstFit, learnedAfter, taught}
-use Rattle.format.specs.Context.{levelsIn}
+use Rattle.spec_exi.specs.Event.{Event, kindOf}
+use Rattle.spec_exi.specs.Settings.{Settings}
+use Rattle.spec_exi.specs.Grammar.{Code, codeOf, codeBits, kindNumber, unnamed, productionFor, firstFit, learnedAfter, taught}
+use Rattle.spec_exi.specs.Context.{levelsIn}
 use Rattle.rows.specs.declared.Found.{Found}
 use Rattle.layout.specs.Meaning.{Memory}
 use Rattle.layout.specs.Writer.{writerMemory}

@@ -8,17 +8,17 @@ use mathlib.Core.Option.{none, some}
 use lib.ListN.{length, getD}
 use mir.Syntax.{w8}
 use mir.Val.{Fits}
-use Rattle.fields.specs.Refusal.{Refusal, numberOf}
-use Rattle.fields.proofs.Refusal.{refusal-number}
+use Rattle.spec_fields.specs.Refusal.{Refusal, numberOf}
+use Rattle.spec_fields.proofs.Refusal.{refusal-number}
 use Rattle.text.specs.Text.{Text, Span, inside, part}
-use Rattle.format.specs.Event.{Event, startDocument, endDocument, endElement, startElement, attribute, characters, comment, instruction, mapEvent, stringsOf, kindOf}
-use Rattle.format.specs.Settings.{Settings}
-use Rattle.format.specs.Sizes.{writerWork}
-use Rattle.format.specs.Grammar.{State, Production, codeBits, kindNumber}
-use Rattle.format.specs.Context.{Context, levelsIn, nameItems, items, after, afterCode, next}
-use Rattle.format.specs.Strict.{itemsBits, eventBits}
-use Rattle.format.specs.Lists.{every, withinGrammars}
-use Rattle.format.specs.Writer.{firstFailed, contentTests, faultOf}
+use Rattle.spec_exi.specs.Event.{Event, startDocument, endDocument, endElement, startElement, attribute, characters, comment, instruction, mapEvent, stringsOf, kindOf}
+use Rattle.spec_exi.specs.Settings.{Settings}
+use Rattle.spec_exi.specs.Sizes.{writerWork}
+use Rattle.spec_exi.specs.Grammar.{State, Production, codeBits, kindNumber}
+use Rattle.spec_exi.specs.Context.{Context, levelsIn, nameItems, items, after, afterCode, next}
+use Rattle.spec_exi.specs.Strict.{itemsBits, eventBits}
+use Rattle.spec_exi.specs.Lists.{every, withinGrammars}
+use Rattle.spec_exi.specs.Writer.{firstFailed, contentTests, faultOf}
 use Rattle.layout.specs.Meaning.{Memory, contextIn}
 use Rattle.layout.specs.Writer.{writerMemory}
 use Rattle.productions.proofs.Known.{Numbered}

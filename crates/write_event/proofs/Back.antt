@@ -5,11 +5,11 @@ use mathlib.Core.Path.{_≡_, refl, sym, ap, _∙_}
 use mathlib.Core.List.{List, [], _∷_, _++_, map, append-nil, append-assoc}
 use lib.ListN.{length, take, length-map, length-append}
 use lib.Seq.{take-take, take-at}
-use Rattle.fields.specs.Field.{Alignment}
-use Rattle.fields.proofs.Tests.{split}
+use Rattle.spec_fields.specs.Field.{Alignment}
+use Rattle.spec_fields.proofs.Tests.{split}
 use Rattle.text.specs.Text.{Text}
-use Rattle.format.specs.Tables.{Tables, Role, Form, hit, literal, added, tablesAfter, formOf, partitionsOf}
-use Rattle.format.specs.Context.{Context, Item, afterItem, afterItems}
+use Rattle.spec_exi.specs.Tables.{Tables, Role, Form, hit, literal, added, tablesAfter, formOf, partitionsOf}
+use Rattle.spec_exi.specs.Context.{Context, Item, afterItem, afterItems}
 use Rattle.rows.specs.declared.Row.{Row}
 use Rattle.rows.specs.Rows.{rows}
 use Rattle.rows.proofs.Laws.{rows-length}

@@ -10,11 +10,11 @@ use denote.Enum.Declared.{tagOf}
 use types.Run.{OneOf}
 use lib.Dec.{eqb}
 use borrow.Author.Tests.{eqb-true, eqb-false}
-use Rattle.fields.proofs.Tests.{split}
+use Rattle.spec_fields.proofs.Tests.{split}
 use Rattle.text.specs.Text.{Text, Span}
-use Rattle.format.specs.Event.{QName, Event, startDocument, endDocument, endElement, startElement, attribute, characters, comment, instruction, kindOf, nameOf, mapEvent}
-use Rattle.format.specs.Grammar.{kindNumber}
-use Rattle.format.specs.Lists.{every}
+use Rattle.spec_exi.specs.Event.{QName, Event, startDocument, endDocument, endElement, startElement, attribute, characters, comment, instruction, kindOf, nameOf, mapEvent}
+use Rattle.spec_exi.specs.Grammar.{kindNumber}
+use Rattle.spec_exi.specs.Lists.{every}
 use Rattle.rows.specs.declared.Found.{Found}
 use Rattle.rows.specs.declared.Found.the-variants.{Nothing}
 use Rattle.layout.specs.Meaning.{Memory}

@@ -4,16 +4,16 @@ use mathlib.Core.Path.{_≡_, refl, sym, ap, _∙_}
 use mathlib.Core.Bool.{true, false, true≢false}
 use mathlib.Core.List.{List, [], _∷_, _++_, append-assoc, append-nil}
 use mathlib.Core.Option.{Option, none, some, Option·some-ne-none}
-use Rattle.fields.specs.Refusal.{Refusal, limit, shape, place}
-use Rattle.fields.proofs.Tests.{split}
+use Rattle.spec_fields.specs.Refusal.{Refusal, limit, shape, place}
+use Rattle.spec_fields.proofs.Tests.{split}
 use Rattle.text.specs.Text.{Text, Span, inside, part}
-use Rattle.format.specs.Event.{Event, mapEvent, stringsOf}
-use Rattle.format.specs.Settings.{Settings}
-use Rattle.format.specs.Grammar.{Code, codeOf, codeBits}
-use Rattle.format.specs.Context.{Context, levelsIn, items, next}
-use Rattle.format.specs.Strict.{itemsBits, codedBits, eventBits}
-use Rattle.format.specs.Lists.{every, withinGrammars}
-use Rattle.format.specs.Writer.{Test, firstFailed, placeTests, contentTests, eventTests, faultOf}
+use Rattle.spec_exi.specs.Event.{Event, mapEvent, stringsOf}
+use Rattle.spec_exi.specs.Settings.{Settings}
+use Rattle.spec_exi.specs.Grammar.{Code, codeOf, codeBits}
+use Rattle.spec_exi.specs.Context.{Context, levelsIn, items, next}
+use Rattle.spec_exi.specs.Strict.{itemsBits, codedBits, eventBits}
+use Rattle.spec_exi.specs.Lists.{every, withinGrammars}
+use Rattle.spec_exi.specs.Writer.{Test, firstFailed, placeTests, contentTests, eventTests, faultOf}
 use Rattle.literal.proofs.Laws.{failed-then, failed-first}
 use Rattle.sending.specs.Sending.{passed}
 use Rattle.sending.proofs.Items.{by-fault, passed-all}

@@ -6,16 +6,16 @@ use mathlib.Core.List.{List, [], _++_}
 use mathlib.Core.Option.{Option, none, some}
 use lib.ListN.{length, getD}
 use lib.Dec.{T}
-use Rattle.fields.specs.Bits.{Bits}
+use Rattle.spec_fields.specs.Bits.{Bits}
 use Rattle.text.specs.Text.{Text, Span, inside, part}
-use Rattle.format.specs.Event.{Event, kindOf, nameOf, mapEvent, stringsOf}
-use Rattle.format.specs.Sizes.{writerWork}
-use Rattle.format.specs.Settings.{Settings}
-use Rattle.format.specs.Grammar.{Code, codeOf, codeBits, kindNumber}
-use Rattle.format.specs.Context.{Context, levelsIn, items, next}
-use Rattle.format.specs.Strict.{itemsBits, eventBits}
-use Rattle.format.specs.Lists.{every}
-use Rattle.format.specs.Writer.{faultOf}
+use Rattle.spec_exi.specs.Event.{Event, kindOf, nameOf, mapEvent, stringsOf}
+use Rattle.spec_exi.specs.Sizes.{writerWork}
+use Rattle.spec_exi.specs.Settings.{Settings}
+use Rattle.spec_exi.specs.Grammar.{Code, codeOf, codeBits, kindNumber}
+use Rattle.spec_exi.specs.Context.{Context, levelsIn, items, next}
+use Rattle.spec_exi.specs.Strict.{itemsBits, eventBits}
+use Rattle.spec_exi.specs.Lists.{every}
+use Rattle.spec_exi.specs.Writer.{faultOf}
 use Rattle.layout.specs.Writer.{writerMemory}
 use Rattle.state.specs.declared.State.{State}
 use Rattle.standing.specs.Standing.{contextOf, Standing}

@@ -3,9 +3,9 @@
 ghost use mathlib.Core.Path.{_≡_};
 ghost use Prim.Native.Nat.{_≤_};
 ghost use Rattle.text.specs.Text.{inside, part};
-ghost use Rattle.format.specs.Event.{kindOf, mapEvent, stringsOf};
-ghost use Rattle.format.specs.Grammar.{kindNumber};
-ghost use Rattle.format.specs.Lists.{every};
+ghost use Rattle.spec_exi.specs.Event.{kindOf, mapEvent, stringsOf};
+ghost use Rattle.spec_exi.specs.Grammar.{kindNumber};
+ghost use Rattle.spec_exi.specs.Lists.{every};
 ghost use Rattle.event.specs.Cells.{meaning, asSpan};
 ghost use Rattle.layout.specs.Writer.{writerMemory};
 ghost use Rattle.settings.specs.Meant.{settingsFrom};

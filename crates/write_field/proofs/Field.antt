@@ -9,9 +9,9 @@ use lib.ListN.{length, getD, replicate, length-replicate}
 use lib.Pow.{pow-mono, pow-pos, shl-lt, shr-lt}
 use mir.Syntax.{w8}
 use mir.Val.{Fits}
-use Rattle.fields.specs.Bits.{Bits, bitsOf, each, unpack, octetsFor}
-use Rattle.fields.specs.Field.{Alignment, bitPacked, byteAligned, littleEndian, numberBits, width, choiceBits}
-use Rattle.fields.proofs.Number.{length-bits, bits-of-value, width-enough, width-least}
+use Rattle.spec_fields.specs.Bits.{Bits, bitsOf, each, unpack, octetsFor}
+use Rattle.spec_fields.specs.Field.{Alignment, bitPacked, byteAligned, littleEndian, numberBits, width, choiceBits}
+use Rattle.spec_fields.proofs.Number.{length-bits, bits-of-value, width-enough, width-least}
 use Rattle.write_field.specs.Written.{written, Put, farthest, NumberFits, ChoiceFits, ShortFits}
 use Rattle.write_field.proofs.Written.{written-zeros, put-then, put-blank, put-nothing}
 use Rattle.write_field.proofs.Octet.{value-zeros, bits-join, raised}

@@ -8,9 +8,9 @@ use mathlib.Core.List.{List, [], _∷_, _++_, append-nil}
 use lib.ListN.{length, take, drop, replicate}
 use lib.Seq.{drop-nil, drop-at}
 use lib.Dec.{T}
-use Rattle.fields.specs.Bits.{Bits, bitsOf, valueOf, each, unpack, octetsFrom, octetsFor, pack, allZero, isPadding}
-use Rattle.fields.proofs.Number.{bits-of-value}
-use Rattle.fields.proofs.Pack.{Octets, length-unpack, pack-octets, pack-unpack}
+use Rattle.spec_fields.specs.Bits.{Bits, bitsOf, valueOf, each, unpack, octetsFrom, octetsFor, pack, allZero, isPadding}
+use Rattle.spec_fields.proofs.Number.{bits-of-value}
+use Rattle.spec_fields.proofs.Pack.{Octets, length-unpack, pack-octets, pack-unpack}
 
 -- The first n of these bits, with zeros for those that are missing.
 pub fill : ℕ → Bits → Bits

@@ -3,11 +3,11 @@ use Prim.Native.Nat.{ℕ, zero, suc, _/_, _≤_}
 use native.Mathlib.Omega.{arith}
 use lib.ListN.{length}
 use lib.Dec.{ltb}
-use Rattle.fields.specs.Bits.{octetsFor}
-use Rattle.fields.specs.Field.{Alignment, bitPacked, byteAligned, littleEndian, numberBits, width, choiceBits, groups, maxOctets, unsignedBits}
-use Rattle.fields.proofs.Tests.{split}
-use Rattle.fields.proofs.Number.{length-bits, width-least, length-little}
-use Rattle.fields.proofs.Pack.{length-unpack}
+use Rattle.spec_fields.specs.Bits.{octetsFor}
+use Rattle.spec_fields.specs.Field.{Alignment, bitPacked, byteAligned, littleEndian, numberBits, width, choiceBits, groups, maxOctets, unsignedBits}
+use Rattle.spec_fields.proofs.Tests.{split}
+use Rattle.spec_fields.proofs.Number.{length-bits, width-least, length-little}
+use Rattle.spec_fields.proofs.Pack.{length-unpack}
 
 pub number-length : (a : Alignment) (n v : ℕ) → n ≤ 16 → length (numberBits a n v) ≤ 16
 unfolding numberBits octetsFor

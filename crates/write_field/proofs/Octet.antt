@@ -12,10 +12,10 @@ use mir.Syntax.{w8}
 use mir.Val.{Fits}
 use lib.Dec.{T}
 use lib.Pow.{pow-add, pow-pos, shl-lt, low, split as recomposed, shr-lt, shl-shr}
-use Rattle.fields.specs.Bits.{Bits, bitsOf, valueOf, octetsFrom}
-use Rattle.fields.proofs.Pack.{Octets}
+use Rattle.spec_fields.specs.Bits.{Bits, bitsOf, valueOf, octetsFrom}
+use Rattle.spec_fields.proofs.Pack.{Octets}
 use Rattle.write_field.specs.Written.{written, blankFrom, Put, ShortFits}
-use Rattle.fields.proofs.Number.{length-bits, bits-of-value, value-of-bits}
+use Rattle.spec_fields.proofs.Number.{length-bits, bits-of-value, value-of-bits}
 use Rattle.write_field.proofs.Fill.{fill, fill-front, fill-within, fill-take, no-octets, first-octet}
 use Rattle.write_field.proofs.Written.{before, length-before, written-is, written-octets, blank-is, octets-of, octet-below}
 

@@ -8,9 +8,9 @@ use lib.ListN.{length, getD, length-append}
 use borrow.Author.Tests.{lt-ltb, le-ltb}
 use mir.Syntax.{w8}
 use mir.Val.{Fits}
-use Rattle.fields.specs.Bits.{Bits, bitsOf, each, unpack}
-use Rattle.fields.specs.Field.{maxOctets, maxUnsigned, groups, unsignedBits}
-use Rattle.fields.proofs.Number.{length-bits}
+use Rattle.spec_fields.specs.Bits.{Bits, bitsOf, each, unpack}
+use Rattle.spec_fields.specs.Field.{maxOctets, maxUnsigned, groups, unsignedBits}
+use Rattle.spec_fields.proofs.Number.{length-bits}
 use Rattle.write_field.specs.Written.{Put, farthest, UnsignedFits, ShortFits}
 use Rattle.write_field.proofs.Written.{put-then, put-nothing}
 use Rattle.write_field.proofs.Field.{next-asks}

@@ -9,8 +9,8 @@ use lib.Seq.{length-take-le}
 use mir.Syntax.{w8}
 use mir.Val.{Fits}
 use lib.Dec.{T}
-use Rattle.fields.specs.Bits.{Bits, bitsOf, each, unpack, octetsFrom, octetsFor, pack, allZero}
-use Rattle.fields.proofs.Pack.{Octets, length-unpack}
+use Rattle.spec_fields.specs.Bits.{Bits, bitsOf, each, unpack, octetsFrom, octetsFor, pack, allZero}
+use Rattle.spec_fields.proofs.Pack.{Octets, length-unpack}
 use Rattle.write_field.specs.Written.{written, blankFrom, Put}
 use Rattle.write_field.proofs.Fill.{fill, length-fill, front-fill, fill-zeros, fill-blank, blank-fill, behind-taken, behind-filled, length-octets, unpack-from, octets-take, same-octets, from-unpack, octets-from}
 

@@ -5,8 +5,8 @@ use mathlib.Core.Bool.{Bool}
 use mathlib.Core.List.{List, _++_}
 use lib.ListN.{length, take, drop}
 use lib.Dec.{T}
-use Rattle.fields.specs.Bits.{Bits, unpack, octetsFrom, allZero}
-use Rattle.fields.specs.Field.{maxUnsigned}
+use Rattle.spec_fields.specs.Bits.{Bits, unpack, octetsFrom, allZero}
+use Rattle.spec_fields.specs.Field.{maxUnsigned}
 unfoldable pub use Rattle.read_field.specs.View.{alignmentOf}
 pub use Rattle.read_field.specs.View.{farthest}
 

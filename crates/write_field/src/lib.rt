@@ -1,7 +1,7 @@
 // The fields of a stream, written at a bit position. Each function gives the position after the field.
 ghost use mathlib.Core.Path.{_≡_};
-ghost use Rattle.fields.specs.Bits.{bitsOf};
-ghost use Rattle.fields.specs.Field.{bitPacked, byteAligned, numberBits, choiceBits, unsignedBits};
+ghost use Rattle.spec_fields.specs.Bits.{bitsOf};
+ghost use Rattle.spec_fields.specs.Field.{bitPacked, byteAligned, numberBits, choiceBits, unsignedBits};
 ghost use Rattle.write_field.specs.Written.{alignmentOf, Put, NumberFits, ChoiceFits, UnsignedFits, ShortFits};
 
 fn wide(x: u8) -> u32

@@ -7,11 +7,11 @@ use mathlib.Core.List.{List, [], _∷_}
 use lib.ListN.{length, length-append, length-take, length-drop}
 use lib.Dec.{ltb}
 use borrow.Author.Tests.{ltb-true}
-use Rattle.fields.specs.Bits.{each}
-use Rattle.fields.specs.Field.{maxUnsigned, unsignedBits}
+use Rattle.spec_fields.specs.Bits.{each}
+use Rattle.spec_fields.specs.Field.{maxUnsigned, unsignedBits}
 use Rattle.text.specs.Text.{Text}
-use Rattle.format.specs.Sizes.{maxString, readerWork}
-use Rattle.format.specs.Tables.{stringBits}
+use Rattle.spec_exi.specs.Sizes.{maxString, readerWork}
+use Rattle.spec_exi.specs.Tables.{stringBits}
 use Rattle.rows.specs.Rows.{Room}
 use Rattle.rows.proofs.Laws.{withRow-length}
 use Rattle.layout.specs.Writer.{storeAt}

@@ -5,10 +5,10 @@ use mathlib.Core.Bool.{Bool, true, false}
 use mathlib.Core.List.{List, _++_}
 use lib.ListN.{length, take, drop}
 use lib.Dec.{T, ltb}
-use Rattle.fields.specs.Field.{Alignment, unsignedBits, choiceBits}
+use Rattle.spec_fields.specs.Field.{Alignment, unsignedBits, choiceBits}
 use Rattle.text.specs.Text.{Text, allChars}
-use Rattle.format.specs.Sizes.{maxString, maxStore}
-use Rattle.format.specs.Tables.{stringBits}
+use Rattle.spec_exi.specs.Sizes.{maxString, maxStore}
+use Rattle.spec_exi.specs.Tables.{stringBits}
 use Rattle.rows.specs.Rows.{withRow}
 use Rattle.layout.specs.Writer.{storeAt}
 use Rattle.state.specs.declared.State.{State}

@@ -1,7 +1,7 @@
 // The forms of a string in a stream: a hit by its compact identifier, or a literal, whose text the writer keeps at the end of its own text store, with a row
 // in a table or without. Each is judged before anything is written. The definitions that the contracts cite are in specs/Form.antt.
 ghost use mathlib.Core.List.{_++_};
-ghost use Rattle.fields.specs.Field.{unsignedBits, choiceBits};
+ghost use Rattle.spec_fields.specs.Field.{unsignedBits, choiceBits};
 ghost use Rattle.read_field.specs.View.{alignmentOf};
 ghost use Rattle.write_field.specs.Written.{Put};
 ghost use Rattle.write_form.specs.Form.{HitFits, LiteralFits, Laid, EntryFits, Entered, HitSends, HitSent, EntrySends, EntrySent, TextSends, TextSent};

@@ -5,10 +5,10 @@ use native.Mathlib.Omega.{arith}
 use mathlib.Core.Bool.{true, false}
 use mathlib.Core.List.{List, [], _∷_, _++_}
 use lib.ListN.{length}
-use Rattle.fields.specs.Bits.{unpack, octetsFor}
-use Rattle.fields.specs.Field.{littleEndian, numberBits}
-use Rattle.fields.proofs.Pack.{length-unpack, unpack-append}
-use Rattle.format.specs.Settings.{Settings, headerOf}
+use Rattle.spec_fields.specs.Bits.{unpack, octetsFor}
+use Rattle.spec_fields.specs.Field.{littleEndian, numberBits}
+use Rattle.spec_fields.proofs.Pack.{length-unpack, unpack-append}
+use Rattle.spec_exi.specs.Settings.{Settings, headerOf}
 use Rattle.read_field.specs.View.{alignmentOf}
 use Rattle.write_field.specs.Written.{Put, NumberFits}
 use Rattle.write_field.proofs.Written.{put-then, put-blank}

@@ -2,8 +2,8 @@
 use Prim.Native.Nat.{ℕ}
 use mathlib.Core.List.{List, [], _∷_}
 use lib.Dec.{T}
-use Rattle.fields.specs.Bits.{unpack}
-use Rattle.format.specs.Settings as format
+use Rattle.spec_fields.specs.Bits.{unpack}
+use Rattle.spec_exi.specs.Settings as format
 use Rattle.write_field.specs.Written.{blankFrom, Put}
 
 pub record HeaderFits (stream : List ℕ) : Type 0 where

@@ -6,13 +6,13 @@ use mathlib.Core.Bool.{Bool, true, not}
 use mathlib.Core.List.{List, [], _∷_}
 use mathlib.Core.Option.{some, Option·some-injective}
 use lib.ListN.{length}
-use Rattle.fields.specs.Field.{Alignment}
+use Rattle.spec_fields.specs.Field.{Alignment}
 use Rattle.text.specs.Text.{Text}
-use Rattle.format.specs.Event.{QName, Event, startElement, attribute, characters, kindOf, nameOf}
-use Rattle.format.specs.Sizes.{maxOpen}
-use Rattle.format.specs.Tables.{value, target, plain}
-use Rattle.format.specs.Grammar.{kindNumber}
-use Rattle.format.specs.Context.{Item, item}
+use Rattle.spec_exi.specs.Event.{QName, Event, startElement, attribute, characters, kindOf, nameOf}
+use Rattle.spec_exi.specs.Sizes.{maxOpen}
+use Rattle.spec_exi.specs.Tables.{value, target, plain}
+use Rattle.spec_exi.specs.Grammar.{kindNumber}
+use Rattle.spec_exi.specs.Context.{Item, item}
 use Rattle.layout.specs.Meaning.{nameAt, carriedName}
 use Rattle.layout.specs.Writer.{writerMemory}
 use Rattle.state.specs.Stack.{topOf}

@@ -13,15 +13,15 @@ use mir.Syntax.{w8}
 use mir.Val.{Fits}
 use denote.Enum.Declared.{tagOf}
 use types.Run.{OneOf}
-use Rattle.fields.specs.Field.{Alignment}
-use Rattle.fields.proofs.Tests.{split}
+use Rattle.spec_fields.specs.Field.{Alignment}
+use Rattle.spec_fields.proofs.Tests.{split}
 use Rattle.text.specs.Text.{Text, Span}
-use Rattle.format.specs.Event.{QName, Event, endElement, startElement, attribute, characters, comment, instruction, kindOf, nameOf, startDocument, endDocument, mapEvent}
-use Rattle.format.specs.Sizes.{maxNames}
-use Rattle.format.specs.Tables.{value, plain}
-use Rattle.format.specs.Grammar.{kindNumber, isWildcard, productionFor, unnamed}
-use Rattle.format.specs.Context.{Item, item, nameItems, items, characterRole}
-use Rattle.format.specs.Writer.{firstFailed, contentTests}
+use Rattle.spec_exi.specs.Event.{QName, Event, endElement, startElement, attribute, characters, comment, instruction, kindOf, nameOf, startDocument, endDocument, mapEvent}
+use Rattle.spec_exi.specs.Sizes.{maxNames}
+use Rattle.spec_exi.specs.Tables.{value, plain}
+use Rattle.spec_exi.specs.Grammar.{kindNumber, isWildcard, productionFor, unnamed}
+use Rattle.spec_exi.specs.Context.{Item, item, nameItems, items, characterRole}
+use Rattle.spec_exi.specs.Writer.{firstFailed, contentTests}
 use Rattle.layout.specs.Meaning.{nameAt}
 use Rattle.layout.specs.Writer.{writerMemory}
 use Rattle.productions.proofs.Known.{Numbered, start-numbered, attribute-numbered, end-numbered, characters-numbered}

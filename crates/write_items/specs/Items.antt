@@ -4,12 +4,12 @@ use mathlib.Core.Path.{_≡_}
 use mathlib.Core.Bool.{Bool, true, cond, not}
 use mathlib.Core.List.{List, [], _∷_, _++_}
 use mathlib.Core.Option.{none}
-use Rattle.fields.specs.Field.{Alignment}
+use Rattle.spec_fields.specs.Field.{Alignment}
 use Rattle.text.specs.Text.{Text}
-use Rattle.format.specs.Event.{QName, Event, kindOf, nameOf}
-use Rattle.format.specs.Tables.{value, target, plain}
-use Rattle.format.specs.Grammar.{Production, kindNumber, productionFor, unnamed}
-use Rattle.format.specs.Context.{item, items}
+use Rattle.spec_exi.specs.Event.{QName, Event, kindOf, nameOf}
+use Rattle.spec_exi.specs.Tables.{value, target, plain}
+use Rattle.spec_exi.specs.Grammar.{Production, kindNumber, productionFor, unnamed}
+use Rattle.spec_exi.specs.Context.{item, items}
 use Rattle.layout.specs.Writer.{writerMemory}
 use Rattle.productions.specs.Numbered.{Numbered}
 use Rattle.state.specs.declared.State.{State}

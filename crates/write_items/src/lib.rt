@@ -1,7 +1,7 @@
 // The strings of an event's content (EXI 4), written behind its code. What the functions ask and leave is in specs/Items.antt.
 ghost use Prim.Native.Nat.{_+_, _≤_};
 ghost use Rattle.text.specs.Text.{part};
-ghost use Rattle.format.specs.Event.{mapEvent};
+ghost use Rattle.spec_exi.specs.Event.{mapEvent};
 ghost use Rattle.event.specs.Cells.{meaning};
 ghost use Rattle.read_field.specs.View.{alignmentOf};
 ghost use Rattle.write_form.specs.Form.{midway};

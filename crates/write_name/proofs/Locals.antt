@@ -9,11 +9,11 @@ use lib.ListN.{length, getD}
 use mir.Syntax.{w8}
 use mir.Val.{Fits}
 use borrow.Author.Tests.{eqb-true, ltb-true}
-use Rattle.fields.specs.Field.{Alignment}
+use Rattle.spec_fields.specs.Field.{Alignment}
 use Rattle.text.specs.Text.{Text}
-use Rattle.format.specs.Sizes.{maxNames, maxStore}
-use Rattle.format.specs.Tables.{namesOf, indexOf, uri, local, partitionsOf, literal, hitOr, nameAllowed}
-use Rattle.format.specs.Context.{item}
+use Rattle.spec_exi.specs.Sizes.{maxNames, maxStore}
+use Rattle.spec_exi.specs.Tables.{namesOf, indexOf, uri, local, partitionsOf, literal, hitOr, nameAllowed}
+use Rattle.spec_exi.specs.Context.{item}
 use Rattle.rows.specs.declared.Found.{Found}
 use Rattle.rows.specs.declared.Found.the-variants.{At, Nothing}
 use Rattle.rows.specs.Rows.{rowAt, rows, selected, countOf, hasText, findThat, found}

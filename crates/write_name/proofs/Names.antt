@@ -8,14 +8,14 @@ use mathlib.Core.Option.{Option, none, some}
 use lib.ListN.{getD}
 use mir.Syntax.{w8}
 use mir.Val.{Fits}
-use Rattle.fields.specs.Field.{Alignment}
-use Rattle.fields.specs.Refusal.{Refusal}
-use Rattle.fields.proofs.Refusal.{refusal-number}
+use Rattle.spec_fields.specs.Field.{Alignment}
+use Rattle.spec_fields.specs.Refusal.{Refusal}
+use Rattle.spec_fields.proofs.Refusal.{refusal-number}
 use Rattle.text.specs.Text.{Text}
-use Rattle.format.specs.Event.{QName}
-use Rattle.format.specs.Tables.{Role, uri, local, nameAllowed}
-use Rattle.format.specs.Context.{Item, item, afterItem, afterItems}
-use Rattle.format.specs.Strict.{itemBits, itemsBits}
+use Rattle.spec_exi.specs.Event.{QName}
+use Rattle.spec_exi.specs.Tables.{Role, uri, local, nameAllowed}
+use Rattle.spec_exi.specs.Context.{Item, item, afterItem, afterItems}
+use Rattle.spec_exi.specs.Strict.{itemBits, itemsBits}
 use Rattle.layout.specs.Writer.{writerMemory}
 use Rattle.layout.proofs.Sizes.{length-text, within-tables}
 use Rattle.state.specs.declared.State.{State}

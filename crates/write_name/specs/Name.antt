@@ -4,11 +4,11 @@ use mathlib.Core.Path.{_≡_}
 use mathlib.Core.Bool.{Bool, true, false}
 use mathlib.Core.List.{List, [], _∷_}
 use mathlib.Core.Option.{Option, none, some}
-use Rattle.fields.specs.Refusal.{Refusal, numberOf}
+use Rattle.spec_fields.specs.Refusal.{Refusal, numberOf}
 use Rattle.text.specs.Text.{Text}
-use Rattle.format.specs.Event.{QName}
-use Rattle.format.specs.Tables.{uri, local, nameAllowed}
-use Rattle.format.specs.Context.{Item}
+use Rattle.spec_exi.specs.Event.{QName}
+use Rattle.spec_exi.specs.Tables.{uri, local, nameAllowed}
+use Rattle.spec_exi.specs.Context.{Item}
 use Rattle.layout.specs.Meaning.{uriText, nameAt}
 use Rattle.layout.specs.Writer.{writerMemory}
 use Rattle.state.specs.declared.State.{State}

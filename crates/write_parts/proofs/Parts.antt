@@ -5,8 +5,8 @@ use native.Mathlib.Omega.{arith}
 use mathlib.Core.List.{List, [], _∷_, append-nil}
 use lib.Dec.{T}
 use lib.ListN.{length, length-append}
-use Rattle.fields.specs.Bits.{each}
-use Rattle.fields.specs.Field.{Alignment, choiceBits}
+use Rattle.spec_fields.specs.Bits.{each}
+use Rattle.spec_fields.specs.Field.{Alignment, choiceBits}
 use Rattle.write_field.specs.Written.{Put, ChoiceFits, blankFrom, farthest}
 use Rattle.write_field.proofs.Written.{put-then, put-blank}
 use Rattle.write_field.proofs.Lengths.{choice-length}

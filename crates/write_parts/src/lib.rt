@@ -1,6 +1,6 @@
 // The parts of an event code (EXI 6.2), written one after the other, each as a choice. What the functions ask is in specs/Ask.antt.
 ghost use mathlib.Core.Path.{_≡_};
-ghost use Rattle.fields.specs.Field.{choiceBits};
+ghost use Rattle.spec_fields.specs.Field.{choiceBits};
 ghost use Rattle.event_code.specs.Parts.{partsOf, partsBits};
 ghost use Rattle.read_field.specs.View.{alignmentOf};
 ghost use Rattle.write_field.specs.Written.{Put, ChoiceFits};

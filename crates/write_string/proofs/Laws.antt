@@ -7,12 +7,12 @@ use native.Mathlib.Omega.{arith}
 use lib.ListN.{length, getD, take}
 use lib.Seq.{take-length}
 use lib.Dec.{T}
-use Rattle.fields.specs.Bits.{each}
-use Rattle.fields.specs.Field.{unsignedBits}
-use Rattle.fields.proofs.Tests.{left, right}
+use Rattle.spec_fields.specs.Bits.{each}
+use Rattle.spec_fields.specs.Field.{unsignedBits}
+use Rattle.spec_fields.proofs.Tests.{left, right}
 use Rattle.text.specs.Text.{Text, isChar, allChars}
 use Rattle.text.proofs.Char.{char-bound}
-use Rattle.format.specs.Tables.{stringBits}
+use Rattle.spec_exi.specs.Tables.{stringBits}
 use Rattle.write_field.specs.Written.{Put}
 use Rattle.write_field.proofs.Written.{put-then}
 use Rattle.write_field.proofs.Lengths.{unsigned-length}

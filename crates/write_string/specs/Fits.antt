@@ -4,7 +4,7 @@ use mathlib.Core.List.{List}
 use lib.ListN.{length}
 use lib.Dec.{T}
 use Rattle.text.specs.Text.{Text, allChars}
-use Rattle.format.specs.Sizes.{maxString}
+use Rattle.spec_exi.specs.Sizes.{maxString}
 use Rattle.write_field.specs.Written.{blankFrom, farthest}
 
 -- A buffer that is blank from bit `at` on, a string of at most maxString Chars, and at most 2 added to its length.

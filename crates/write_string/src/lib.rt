@@ -1,6 +1,6 @@
 // A String, written at a bit position: its length, raised by the count of partitions that it could have been a hit in, and its code points.
 ghost use mathlib.Core.Path.{_≡_};
-ghost use Rattle.format.specs.Tables.{stringBits};
+ghost use Rattle.spec_exi.specs.Tables.{stringBits};
 ghost use Rattle.write_field.specs.Written.{Put};
 ghost use Rattle.write_string.specs.Fits.{StringFits};
 

@@ -6,11 +6,11 @@ use mathlib.Core.Path.{_≡_, refl, ap, _∙_}
 use mathlib.Core.Bool.{true, false}
 use mathlib.Core.List.{List, [], _∷_}
 use borrow.Author.Tests.{ltb-true}
-use Rattle.fields.specs.Field.{Alignment, choiceBits}
+use Rattle.spec_fields.specs.Field.{Alignment, choiceBits}
 use Rattle.text.specs.Text.{Text}
-use Rattle.format.specs.Sizes.{maxUris, maxString}
-use Rattle.format.specs.Tables.{uri, partitionsOf, literal, hitOr, formOf, formBits, nameAllowed}
-use Rattle.format.specs.Context.{item}
+use Rattle.spec_exi.specs.Sizes.{maxUris, maxString}
+use Rattle.spec_exi.specs.Tables.{uri, partitionsOf, literal, hitOr, formOf, formBits, nameAllowed}
+use Rattle.spec_exi.specs.Context.{item}
 use Rattle.rows.specs.declared.Found.{Found}
 use Rattle.rows.specs.declared.Found.the-variants.{At, Nothing}
 use Rattle.rows.specs.Rows.{rowAt, rows, hasText, findThat, found}

@@ -1,8 +1,8 @@
 // The URI of a name (EXI 7.3.2), written in the strict form by the table of URIs; a literal joins it. What the functions ask and leave is in
 // specs/Uri.antt, and in crates/sending/specs.
 ghost use mathlib.Core.List.{[], _∷_};
-ghost use Rattle.format.specs.Tables.{uri};
-ghost use Rattle.format.specs.Context.{item};
+ghost use Rattle.spec_exi.specs.Tables.{uri};
+ghost use Rattle.spec_exi.specs.Context.{item};
 ghost use Rattle.read_field.specs.View.{alignmentOf};
 ghost use Rattle.sending.specs.Sending.{Ready, Sending};
 ghost use Rattle.write_uri.specs.Uri.{NewUri, UriRow};

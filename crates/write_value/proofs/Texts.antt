@@ -7,10 +7,10 @@ use mathlib.Core.List.{List, [], _∷_}
 use lib.ListN.{getD}
 use mir.Syntax.{w8}
 use mir.Val.{Fits}
-use Rattle.fields.specs.Field.{Alignment}
+use Rattle.spec_fields.specs.Field.{Alignment}
 use Rattle.text.specs.Text.{Text}
-use Rattle.format.specs.Tables.{partitionsOf, formOf, nameAllowed, target, plain, firstHit}
-use Rattle.format.specs.Context.{item}
+use Rattle.spec_exi.specs.Tables.{partitionsOf, formOf, nameAllowed, target, plain, firstHit}
+use Rattle.spec_exi.specs.Context.{item}
 use Rattle.layout.proofs.Sizes.{within-tables, within-target, within-plain}
 use Rattle.state.specs.declared.State.{State}
 use Rattle.write_form.specs.Form.{TextSends, TextSent}

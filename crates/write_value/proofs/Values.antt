@@ -7,11 +7,11 @@ use mathlib.Core.List.{List, [], _∷_}
 use lib.ListN.{length, getD}
 use mir.Syntax.{w8}
 use mir.Val.{Fits}
-use Rattle.fields.specs.Field.{Alignment}
+use Rattle.spec_fields.specs.Field.{Alignment}
 use Rattle.text.specs.Text.{Text, isEmpty}
-use Rattle.format.specs.Sizes.{maxValues, maxStore}
-use Rattle.format.specs.Tables.{valuesOf, allValues, value, partitionsOf, hit, literal, hitOr, formOf, nameAllowed}
-use Rattle.format.specs.Context.{item}
+use Rattle.spec_exi.specs.Sizes.{maxValues, maxStore}
+use Rattle.spec_exi.specs.Tables.{valuesOf, allValues, value, partitionsOf, hit, literal, hitOr, formOf, nameAllowed}
+use Rattle.spec_exi.specs.Context.{item}
 use Rattle.rows.specs.declared.Found.{Found}
 use Rattle.rows.specs.declared.Found.the-variants.{At, Nothing}
 use Rattle.rows.specs.Rows.{rows, countOf, hasText, findThat, found}

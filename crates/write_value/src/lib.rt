@@ -3,9 +3,9 @@
 ghost use mathlib.Core.Path.{_≡_};
 ghost use mathlib.Core.Bool.{cond};
 ghost use mathlib.Core.List.{[], _∷_};
-ghost use Rattle.fields.specs.Field.{Alignment};
-ghost use Rattle.format.specs.Tables.{value, target, plain};
-ghost use Rattle.format.specs.Context.{item};
+ghost use Rattle.spec_fields.specs.Field.{Alignment};
+ghost use Rattle.spec_exi.specs.Tables.{value, target, plain};
+ghost use Rattle.spec_exi.specs.Context.{item};
 ghost use Rattle.layout.specs.Meaning.{nameAt};
 ghost use Rattle.layout.specs.Writer.{writerMemory};
 ghost use Rattle.read_field.specs.View.{alignmentOf};

@@ -6,7 +6,7 @@ use native.Mathlib.Omega.{arith}
 use mathlib.Core.Bool.{false}
 use mathlib.Core.List.{List, [], _∷_, _++_}
 use lib.ListN.{length, take, drop, replicate, length-drop}
-use Rattle.fields.specs.Bits.{Bits, valueOf, octetsFrom, octetsFor, pack}
+use Rattle.spec_fields.specs.Bits.{Bits, valueOf, octetsFrom, octetsFor, pack}
 use Rattle.write_field.specs.Written.{written, Put}
 use Rattle.write_field.proofs.Fill.{length-octets}
 

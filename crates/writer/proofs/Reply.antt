@@ -7,17 +7,17 @@ use native.Mathlib.Omega.{arith}
 use lib.ListN.{length, replicate, length-replicate}
 use lib.Dec.{leb, ltb}
 use borrow.Author.Tests.{le-leb, lt-leb, ltb-true, ltb-false}
-use Rattle.fields.specs.Bits.{Bits, unpack, octetsFor, pack}
-use Rattle.fields.specs.Refusal.{Refusal, numberOf, room, settings, long, Answer, refused, accepted}
-use Rattle.fields.proofs.Tests.{split}
-use Rattle.fields.proofs.Refusal.{refusal-number}
+use Rattle.spec_fields.specs.Bits.{Bits, unpack, octetsFor, pack}
+use Rattle.spec_fields.specs.Refusal.{Refusal, numberOf, room, settings, long, Answer, refused, accepted}
+use Rattle.spec_fields.proofs.Tests.{split}
+use Rattle.spec_fields.proofs.Refusal.{refusal-number}
 use Rattle.text.specs.Text.{Text}
-use Rattle.format.specs.Settings.{meaningful, settingsOf, headerOf}
-use Rattle.format.specs.Settings as format
-use Rattle.format.specs.Sizes.{maxStream, maxEvents, writerWork, readerWork, maxStore}
-use Rattle.format.specs.Context.{start}
-use Rattle.format.specs.Writer.{Stored, writeEvents, asOctets, writeList, enoughToWrite, writeReply}
-use Rattle.format.specs.Writer as format-writer
+use Rattle.spec_exi.specs.Settings.{meaningful, settingsOf, headerOf}
+use Rattle.spec_exi.specs.Settings as format
+use Rattle.spec_exi.specs.Sizes.{maxStream, maxEvents, writerWork, readerWork, maxStore}
+use Rattle.spec_exi.specs.Context.{start}
+use Rattle.spec_exi.specs.Writer.{Stored, writeEvents, asOctets, writeList, enoughToWrite, writeReply}
+use Rattle.spec_exi.specs.Writer as format-writer
 use Rattle.state.specs.declared.State.{State}
 use Rattle.settings.specs.Meant.{numbersOf, settingsMeant, settingsFrom}
 use Rattle.settings.proofs.Laws.{settings-from}

@@ -4,11 +4,11 @@ use mathlib.Core.List.{List}
 use Prim.Native.Nat.{ℕ, _+_, _≤_}
 use native.Mathlib.Omega.{arith}
 use lib.ListN.{length}
-use Rattle.fields.proofs.Tests.{split}
-use Rattle.fields.proofs.Pack.{length-unpack}
-use Rattle.format.specs.Settings.{Settings, headerOf}
-use Rattle.format.specs.Sizes.{maxUris, maxNames, maxValues, maxLearned, maxGrammars, writerWork, readerWork, maxStore}
-use Rattle.format.specs.Context.{start}
+use Rattle.spec_fields.proofs.Tests.{split}
+use Rattle.spec_fields.proofs.Pack.{length-unpack}
+use Rattle.spec_exi.specs.Settings.{Settings, headerOf}
+use Rattle.spec_exi.specs.Sizes.{maxUris, maxNames, maxValues, maxLearned, maxGrammars, writerWork, readerWork, maxStore}
+use Rattle.spec_exi.specs.Context.{start}
 use Rattle.layout.specs.Layout.{urisAt, namesAt, valuesAt, learnedAt, grammarsAt, tableCells}
 use Rattle.layout.specs.Writer.{storeAt, writerMemory}
 use Rattle.initial.specs.Initial.{withText, withTables, startCounts}

@@ -4,12 +4,12 @@ use mathlib.Core.Path.{_≡_}
 use mathlib.Core.List.{List, _++_}
 use lib.ListN.{length, replicate}
 use lib.Dec.{T}
-use Rattle.fields.specs.Refusal.{Refusal, numberOf, Answer, refused, accepted}
+use Rattle.spec_fields.specs.Refusal.{Refusal, numberOf, Answer, refused, accepted}
 use Rattle.text.specs.Text.{Text}
-use Rattle.format.specs.Sizes.{maxStream, writerWork}
-use Rattle.format.specs.Settings as format
-use Rattle.format.specs.Writer.{Stored, writeList, WriteReply}
-use Rattle.format.specs.Writer as format-writer
+use Rattle.spec_exi.specs.Sizes.{maxStream, writerWork}
+use Rattle.spec_exi.specs.Settings as format
+use Rattle.spec_exi.specs.Writer.{Stored, writeList, WriteReply}
+use Rattle.spec_exi.specs.Writer as format-writer
 use Rattle.settings.specs.Meant.{numbersOf}
 use Rattle.settings.specs.declared.SettingNumbers.{SettingNumbers}
 use Rattle.write_field.specs.Written.{blankFrom}

@@ -1,8 +1,8 @@
 // The writer: an event list to the octets of its strict form, or a refusal with its number and index. The definitions that the contracts cite are in
-// specs/Write.antt and, for the answer itself, in crates/format/specs/Writer.antt.
+// specs/Write.antt and, for the answer itself, in crates/spec_exi/specs/Writer.antt.
 ghost use mathlib.Core.Path.{_≡_};
 ghost use lib.ListN.{length, replicate};
-ghost use Rattle.format.specs.Writer.{writeReply};
+ghost use Rattle.spec_exi.specs.Writer.{writeReply};
 ghost use Rattle.settings.specs.Meant.{settingsFrom};
 ghost use Rattle.event.specs.Cells.{eventsOf};
 ghost use Rattle.writer.specs.Write.{ListFits, ListPut, Attempted, answerOf, replyOf, filled};

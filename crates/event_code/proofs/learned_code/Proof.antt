@@ -1,7 +1,7 @@
 -- `learned_code` meets its contract.
 use native.Mathlib.Omega.{arith}
 use borrow.Author.Tests.{ne-eqb}
-use Rattle.format.specs.Sizes.{maxLearned}
+use Rattle.spec_exi.specs.Sizes.{maxLearned}
 use Rattle.event_code.specs.Parts.{partsOf, learnedPart}
 use Rattle.event_code.proofs.learned_code.Statement.{statement}
 use Rattle.event_code.proofs.learned_code.Tie as tie

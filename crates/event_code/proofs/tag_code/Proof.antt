@@ -3,7 +3,7 @@ use native.Mathlib.Omega.{arith}
 use mathlib.Core.Bool.{_||_}
 use borrow.Author.Needs.{needs}
 use borrow.Author.Tests.{ne-eqb}
-use Rattle.format.specs.Sizes.{maxLearned}
+use Rattle.spec_exi.specs.Sizes.{maxLearned}
 use Rattle.event_code.specs.Parts.{partsOf, tagParts, one}
 use Rattle.event_code.proofs.Parts.{one-small}
 use Rattle.event_code.proofs.tag_code.Statement.{statement}

@@ -1,7 +1,7 @@
 -- `newest` meets its contract.
 use mathlib.Core.Path.{sym, _∙_}
 use borrow.Author.Needs.{needs}
-use Rattle.format.specs.Sizes.{maxUris, maxNames, maxValues}
+use Rattle.spec_exi.specs.Sizes.{maxUris, maxNames, maxValues}
 use Rattle.layout.specs.Layout.{urisAt, namesAt, valuesAt, learnedAt}
 use Rattle.fitting.specs.Fitting.{locatedHere}
 use Rattle.fitting.proofs.Fitting.{nothing-fits, located-fits, newest-outer, newest-inner}

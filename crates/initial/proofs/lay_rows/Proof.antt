@@ -1,7 +1,7 @@
 -- `lay_rows` meets its contract: it writes the one table, and then the other.
 use native.Mathlib.Omega.{arith}
 use borrow.Author.Needs.{needs}
-use Rattle.format.specs.Sizes.{maxUris}
+use Rattle.spec_exi.specs.Sizes.{maxUris}
 use Rattle.layout.specs.Layout.{urisAt, namesAt}
 use Rattle.initial.specs.Initial.{initialUris, initialNames, withTables}
 use Rattle.initial.proofs.Table.{uris-room, names-room}

@@ -3,7 +3,7 @@ use Prim.Native.Nat.{_-_}
 use native.Mathlib.Omega.{arith}
 use borrow.Author.Needs.{needs}
 use Rattle.text.specs.Text.{text}
-use Rattle.format.specs.Tables.{startTables, addedAll, initialEntries, added, newUri, newName, newEntry, newValue, laid, xmlUri, xsiUri}
+use Rattle.spec_exi.specs.Tables.{startTables, addedAll, initialEntries, added, newUri, newName, newEntry, newValue, laid, xmlUri, xsiUri}
 use Rattle.initial.specs.Initial.{initialText}
 use Rattle.initial.proofs.Turn.{Copied, none-copied, one-copied, all-copied}
 use Rattle.initial.proofs.lay_text.Statement.{statement}

@@ -1,7 +1,7 @@
 -- `enter` meets its contract.
 use native.Mathlib.Omega.{arith}
 use borrow.Author.Needs.{needs}
-use Rattle.format.specs.Sizes.{maxGrammars}
+use Rattle.spec_exi.specs.Sizes.{maxGrammars}
 use Rattle.layout.proofs.Sizes.{grammarsAt-is}
 use Rattle.learning.proofs.Laws.{enter-deep, enter-known, enter-full, enter-new}
 use Rattle.learning.proofs.enter.Statement.{statement}

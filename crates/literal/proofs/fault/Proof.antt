@@ -1,7 +1,7 @@
 -- `fault` meets its contract: each return is one law.
 use native.Mathlib.Omega.{arith}
 use borrow.Author.Needs.{needs}
-use Rattle.format.specs.Sizes.{maxStore}
+use Rattle.spec_exi.specs.Sizes.{maxStore}
 use Rattle.literal.proofs.Answers.{too-long, too-much, no-char, no-name, no-row, no-fault}
 use Rattle.literal.proofs.fault.Statement.{statement}
 use Rattle.literal.proofs.fault.Tie as tie

@@ -2,7 +2,7 @@
 use denote.Ref.{now}
 use Rattle.names.proofs.Laws.{an-empty-name, an-element, another-uri, named-nil, another-name}
 use Rattle.text.specs.Text.{text}
-use Rattle.format.specs.Tables.{xsiUri}
+use Rattle.spec_exi.specs.Tables.{xsiUri}
 use borrow.Author.Needs.{needs}
 use Rattle.names.proofs.local_allowed.Statement.{statement}
 use Rattle.names.proofs.local_allowed.Tie as tie

@@ -1,6 +1,6 @@
 -- The numbers are the sizes that the definitions name.
 use mathlib.Core.Path.{refl}
-use Rattle.format.specs.Sizes.{eventCells, cellsPerEvent, maxEvents, maxStore, maxStream, readerWork, writerWork}
+use Rattle.spec_exi.specs.Sizes.{eventCells, cellsPerEvent, maxEvents, maxStore, maxStream, readerWork, writerWork}
 use Rattle.plumethrift.proofs.plumethrift_sizes.Statement.{statement}
 use Rattle.plumethrift.proofs.plumethrift_sizes.Tie as tie
 

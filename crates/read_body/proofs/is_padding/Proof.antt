@@ -3,7 +3,7 @@ use mathlib.Core.Path.{refl, sym, _∙_}
 use native.Mathlib.Omega.{arith}
 use borrow.Author.Needs.{needs}
 use denote.Ref.{now}
-use Rattle.format.specs.Sizes.{maxStream}
+use Rattle.spec_exi.specs.Sizes.{maxStream}
 use Rattle.read_field.specs.View.{alignmentOf}
 use Rattle.read_body.proofs.Padding.{too-much, padding-refused, padding-value}
 use Rattle.read_body.proofs.is_padding.Statement.{statement}

@@ -2,7 +2,7 @@
 use mathlib.Core.Path.{_∙_}
 use Prim.Native.Nat.{_-_}
 use native.Mathlib.Omega.{arith}
-use Rattle.format.specs.Sizes.{maxEvents, maxStore}
+use Rattle.spec_exi.specs.Sizes.{maxEvents, maxStore}
 use Rattle.settings.specs.Meant.{settingsFrom}
 use Rattle.read_body.proofs.Events.{Turning, turning-start, same-events, too-many, step-asks, refused-event, event-read, event-more, padding-asks, run-tail, run-ended}
 use Rattle.read_body.proofs.run.Statement.{statement}

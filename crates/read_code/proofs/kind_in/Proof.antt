@@ -5,7 +5,7 @@ use mathlib.Core.Path.{_≡_}
 use lib.ListN.{length, getD}
 use lib.Dec.{eqb}
 use borrow.Author.Tests.{ne-eqb}
-use Rattle.fields.proofs.Tests.{split}
+use Rattle.spec_fields.proofs.Tests.{split}
 use Rattle.read_code.specs.Levels.{kindsIn}
 use Rattle.read_code.proofs.kind_in.Statement.{statement}
 use Rattle.read_code.proofs.kind_in.Tie as tie

@@ -6,7 +6,7 @@ use mathlib.Core.Bool.{cond}
 use lib.Dec.{eqb}
 use borrow.Author.Needs.{needs}
 use denote.Ref.{now}
-use Rattle.format.specs.Sizes.{maxUris, maxNames, maxValues, maxLearned}
+use Rattle.spec_exi.specs.Sizes.{maxUris, maxNames, maxValues, maxLearned}
 use Rattle.layout.specs.Layout.{urisAt, namesAt, valuesAt, learnedAt}
 use Rattle.layout.proofs.Sizes.{room-learned}
 use Rattle.settings.specs.Meant.{settingsFrom}

@@ -3,7 +3,7 @@ use native.Mathlib.Omega.{arith}
 use mathlib.Core.Bool.{false}
 use borrow.Author.Needs.{needs}
 use denote.Ref.{now}
-use Rattle.format.specs.Sizes.{maxUris, maxNames, maxValues}
+use Rattle.spec_exi.specs.Sizes.{maxUris, maxNames, maxValues}
 use Rattle.rows.specs.Rows.{nthOf, nthIn}
 use Rattle.rows.specs.Hit.{Hit}
 use Rattle.rows.proofs.Answers.{nth-hit, nth-miss}

@@ -1,5 +1,5 @@
 -- `read_field::octet` meets its contract: an octet is 8 bits.
-use Rattle.fields.specs.Field.{octet, numberField}
+use Rattle.spec_fields.specs.Field.{octet, numberField}
 use borrow.Author.Needs.{needs}
 use Rattle.read_field.proofs.octet.Statement.{statement}
 use Rattle.read_field.proofs.octet.Tie as tie

@@ -1,7 +1,7 @@
 -- `read_field::width` meets its contract. The loop's invariant: `reach` is 2 ^ n, and n is at most the width. The measure is what is left
 -- of the width.
 use Rattle.read_field.proofs.Doubling.{Doubling, doubled, reached, at-most}
-use Rattle.fields.specs.Field.{width}
+use Rattle.spec_fields.specs.Field.{width}
 use Prim.Native.Nat.{_-_}
 use mathlib.Core.Path.{refl}
 use native.Mathlib.Omega.{arith}

@@ -1,7 +1,7 @@
 -- `laid` meets its contract.
 use native.Mathlib.Omega.{arith}
 use borrow.Author.Needs.{needs}
-use Rattle.format.specs.Sizes.{maxStore}
+use Rattle.spec_exi.specs.Sizes.{maxStore}
 use Rattle.read_form.proofs.laid.Statement.{statement}
 use Rattle.read_form.proofs.laid.Tie as tie
 

@@ -1,7 +1,7 @@
 -- `read_new` meets its contract.
 use native.Mathlib.Omega.{arith}
 use borrow.Author.Needs.{needs}
-use Rattle.format.specs.Sizes.{maxStore}
+use Rattle.spec_exi.specs.Sizes.{maxStore}
 use Rattle.read_form.proofs.News.{new-refused, new-found, new-missing}
 use Rattle.read_form.proofs.read_new.Statement.{statement}
 use Rattle.read_form.proofs.read_new.Tie as tie

@@ -3,7 +3,7 @@ use mathlib.Core.Path.{sym, _∙_}
 use Prim.Native.Nat.{_-_}
 use native.Mathlib.Omega.{arith}
 use borrow.Author.Needs.{needs}
-use Rattle.format.specs.Sizes.{maxStream}
+use Rattle.spec_exi.specs.Sizes.{maxStream}
 use Rattle.read_header.proofs.Header.{Passing, passing-start, all-passed, octet-missing, octet-other, octet-same}
 use Rattle.read_header.proofs.read_octets.Statement.{statement}
 use Rattle.read_header.proofs.read_octets.Tie as tie

@@ -1,7 +1,7 @@
 -- `carried` meets its contract.
 use Rattle.read_items.specs.Content.{carriedAt}
 use Rattle.layout.specs.Layout.{urisAt, namesAt}
-use Rattle.format.specs.Sizes.{maxUris}
+use Rattle.spec_exi.specs.Sizes.{maxUris}
 use borrow.Author.Needs.{needs}
 use Rattle.read_items.proofs.carried.Statement.{statement}
 use Rattle.read_items.proofs.carried.Tie as tie

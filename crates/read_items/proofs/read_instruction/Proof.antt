@@ -1,7 +1,7 @@
 -- `read_instruction` meets its contract.
 use Rattle.read_items.proofs.Strings.{target-refused, text-asks, instruction-read}
 use native.Mathlib.Omega.{arith}
-use Rattle.fields.specs.Field.{bitPacked}
+use Rattle.spec_fields.specs.Field.{bitPacked}
 use borrow.Author.Needs.{needs}
 use Rattle.read_items.proofs.read_instruction.Statement.{statement}
 use Rattle.read_items.proofs.read_instruction.Tie as tie

@@ -1,6 +1,6 @@
 -- `read_local_hit` meets its contract.
 use borrow.Author.Needs.{needs}
-use Rattle.format.specs.Sizes.{maxUris}
+use Rattle.spec_exi.specs.Sizes.{maxUris}
 use Rattle.layout.proofs.Sizes.{room-uris}
 use Rattle.layout.specs.Layout.{urisAt, namesAt}
 use Rattle.read_form.proofs.Hits.{row-room}

@@ -1,7 +1,7 @@
 -- `read_new_local` meets its contract.
 use native.Mathlib.Omega.{arith}
 use borrow.Author.Needs.{needs}
-use Rattle.format.specs.Sizes.{maxUris, maxNames, maxStore}
+use Rattle.spec_exi.specs.Sizes.{maxUris, maxNames, maxStore}
 use Rattle.layout.proofs.Sizes.{room-uris, room-names}
 use Rattle.layout.specs.Layout.{urisAt, namesAt}
 use Rattle.read_form.proofs.Hits.{row-room}

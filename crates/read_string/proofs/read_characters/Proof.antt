@@ -4,7 +4,7 @@ use mathlib.Core.Path.{_∙_, sym}
 use native.Mathlib.Omega.{arith}
 use borrow.Author.Needs.{needs}
 use borrow.Author.Tests.{not-true, not-false}
-use Rattle.format.specs.Sizes.{maxStore}
+use Rattle.spec_exi.specs.Sizes.{maxStore}
 use Rattle.read_string.proofs.Laws.{Turn, turn-start, turn-place, turn-length, turn-room, turn-end, turn-number, turn-character, turn-next}
 use Rattle.read_string.proofs.read_characters.Statement.{statement}
 use Rattle.read_string.proofs.read_characters.Tie as tie

@@ -1,6 +1,6 @@
 -- `read_literal` meets its contract: the limits in the definitions' order, then the characters.
 use borrow.Author.Needs.{needs}
-use Rattle.format.specs.Sizes.{maxStore}
+use Rattle.spec_exi.specs.Sizes.{maxStore}
 use Rattle.read_string.proofs.Laws.{literal-long, literal-full, literal-read}
 use Rattle.read_string.proofs.read_literal.Statement.{statement}
 use Rattle.read_string.proofs.read_literal.Tie as tie

@@ -1,7 +1,7 @@
 -- `read_new_uri` meets its contract.
 use native.Mathlib.Omega.{arith}
 use borrow.Author.Needs.{needs}
-use Rattle.format.specs.Sizes.{maxUris, maxStore}
+use Rattle.spec_exi.specs.Sizes.{maxUris, maxStore}
 use Rattle.layout.proofs.Sizes.{room-uris}
 use Rattle.layout.specs.Layout.{urisAt}
 use borrow.Author.Tests.{not-true, not-false}

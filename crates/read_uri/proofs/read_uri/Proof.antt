@@ -1,8 +1,8 @@
 -- `read_uri` meets its contract.
 use native.Mathlib.Omega.{arith}
 use borrow.Author.Needs.{needs}
-use Rattle.fields.specs.Field.{unsigned}
-use Rattle.format.specs.Sizes.{maxUris}
+use Rattle.spec_fields.specs.Field.{unsigned}
+use Rattle.spec_exi.specs.Sizes.{maxUris}
 use Rattle.layout.proofs.Sizes.{room-uris}
 use Rattle.layout.specs.Layout.{urisAt}
 use Rattle.read_field.specs.View.{alignmentOf}

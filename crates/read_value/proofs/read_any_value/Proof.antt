@@ -1,6 +1,6 @@
 -- `read_any_value` meets its contract.
 use borrow.Author.Needs.{needs}
-use Rattle.format.specs.Sizes.{maxUris, maxNames}
+use Rattle.spec_exi.specs.Sizes.{maxUris, maxNames}
 use Rattle.layout.specs.Layout.{urisAt, namesAt, valuesAt}
 use Rattle.read_form.proofs.Hits.{row-room}
 use Rattle.read_value.proofs.Values.{any-asks, any-missed, any-below, any-loose, any-passed}

@@ -1,7 +1,7 @@
 -- `read_new_value` meets its contract.
 use native.Mathlib.Omega.{arith}
 use borrow.Author.Needs.{needs}
-use Rattle.format.specs.Sizes.{maxUris, maxNames, maxValues, maxStore}
+use Rattle.spec_exi.specs.Sizes.{maxUris, maxNames, maxValues, maxStore}
 use Rattle.layout.proofs.Sizes.{room-values}
 use Rattle.layout.specs.Layout.{urisAt, namesAt, valuesAt}
 use borrow.Author.Tests.{not-true, not-false}

@@ -1,7 +1,7 @@
 -- `read_text` meets its contract.
 use native.Mathlib.Omega.{arith}
 use borrow.Author.Needs.{needs}
-use Rattle.format.specs.Sizes.{maxStore}
+use Rattle.spec_exi.specs.Sizes.{maxStore}
 use Rattle.read_form.proofs.Fresh.{ready-from, field-asks, literal-asks, number-from}
 use borrow.Author.Tests.{not-true, not-false}
 use Rattle.read_value.proofs.Texts.{text-refused, text-declined, text-ends, text-unnamed, text-passed, allowed-target}

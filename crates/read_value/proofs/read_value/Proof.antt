@@ -1,6 +1,6 @@
 -- `read_value` meets its contract.
 use borrow.Author.Needs.{needs}
-use Rattle.format.specs.Sizes.{maxUris, maxNames}
+use Rattle.spec_exi.specs.Sizes.{maxUris, maxNames}
 use Rattle.layout.specs.Layout.{urisAt, namesAt, valuesAt}
 use Rattle.layout.specs.Meaning.{nameAt}
 use Rattle.read_field.specs.View.{alignmentOf}

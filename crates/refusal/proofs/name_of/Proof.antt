@@ -1,7 +1,7 @@
 -- `name_of` meets its contract: its table is the definition's values from 0 on, by computation.
 use mathlib.Core.Path.{sym}
 use borrow.Author.Needs.{needs}
-use Rattle.fields.specs.Refusal.{numberOf}
+use Rattle.spec_fields.specs.Refusal.{numberOf}
 use Rattle.text.specs.Text.{text}
 use Rattle.refusal.specs.Names.{nameOf, refusals, nameAmong, padded, nameAt}
 use Rattle.refusal.proofs.Table.{in-table, none-above}

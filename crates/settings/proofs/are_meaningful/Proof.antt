@@ -1,6 +1,6 @@
 -- `are_meaningful` meets its contract by computation.
 use mathlib.Core.Path.{refl}
-use Rattle.format.specs.Settings.{meaningful}
+use Rattle.spec_exi.specs.Settings.{meaningful}
 use Rattle.settings.specs.Meant.{numbersOf}
 use Rattle.settings.proofs.are_meaningful.Statement.{statement}
 use Rattle.settings.proofs.are_meaningful.Tie as tie

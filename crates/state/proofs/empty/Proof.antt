@@ -1,6 +1,6 @@
 -- `empty` meets its contract.
 use mathlib.Core.Path.{refl}
-use Rattle.format.specs.Sizes.{maxOpen}
+use Rattle.spec_exi.specs.Sizes.{maxOpen}
 use Rattle.state.specs.Stack.{noElements}
 use Rattle.state.proofs.empty.Statement.{statement}
 use Rattle.state.proofs.empty.Tie as tie

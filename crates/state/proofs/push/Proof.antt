@@ -1,7 +1,7 @@
 -- `push` meets its contract: the test that led to each return decides the definition's.
 use borrow.Author.Needs.{needs}
 use borrow.Author.Tests.{le-leb, lt-leb}
-use Rattle.format.specs.Sizes.{maxOpen}
+use Rattle.spec_exi.specs.Sizes.{maxOpen}
 use Rattle.state.specs.Stack.{pushed}
 use Rattle.state.proofs.push.Statement.{statement}
 use Rattle.state.proofs.push.Tie as tie

@@ -1,7 +1,7 @@
 -- `top` meets its contract.
 use mathlib.Core.Path.{refl}
 use borrow.Author.Needs.{needs}
-use Rattle.format.specs.Sizes.{maxOpen}
+use Rattle.spec_exi.specs.Sizes.{maxOpen}
 use Rattle.state.specs.Stack.{topOf}
 use Rattle.state.proofs.top.Statement.{statement}
 use Rattle.state.proofs.top.Tie as tie

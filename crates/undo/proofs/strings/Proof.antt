@@ -2,7 +2,7 @@
 use Rattle.undo.specs.Undone.{undoneWork, undoneText}
 use Rattle.layout.proofs.Sizes.{tableCells-is}
 use Rattle.layout.specs.Layout.{urisAt, namesAt, valuesAt}
-use Rattle.format.specs.Sizes.{maxUris, maxNames, maxValues}
+use Rattle.spec_exi.specs.Sizes.{maxUris, maxNames, maxValues}
 use native.Mathlib.Omega.{arith}
 use borrow.Author.Needs.{needs}
 use Rattle.undo.proofs.strings.Statement.{statement}

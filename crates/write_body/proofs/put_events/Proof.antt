@@ -4,7 +4,7 @@ use Prim.Native.Nat.{_-_}
 use native.Mathlib.Omega.{arith}
 use lib.ListN.{length}
 use borrow.Author.Needs.{needs}
-use Rattle.format.specs.Sizes.{maxEvents}
+use Rattle.spec_exi.specs.Sizes.{maxEvents}
 use Rattle.settings.specs.Meant.{settingsFrom}
 use Rattle.event.proofs.Laws.{whole-means, shape-means}
 use Rattle.write_field.proofs.Written.{put-length}

@@ -1,6 +1,6 @@
 -- `name_of` meets its contract.
 use borrow.Author.Needs.{needs}
-use Rattle.format.specs.Sizes.{maxUris}
+use Rattle.spec_exi.specs.Sizes.{maxUris}
 use Rattle.layout.specs.Layout.{urisAt, namesAt}
 use Rattle.layout.proofs.Sizes.{room-uris, room-names}
 use Rattle.write_code.proofs.Names.{uri-row, no-uri, local-row}

@@ -1,8 +1,8 @@
 -- `all_inside` meets its contract: each arm is told which event e is, and asks for each of its strings.
 use borrow.Author.Needs.{needs}
 use Rattle.text.specs.Text.{inside}
-use Rattle.format.specs.Event.{stringsOf}
-use Rattle.format.specs.Lists.{every}
+use Rattle.spec_exi.specs.Event.{stringsOf}
+use Rattle.spec_exi.specs.Lists.{every}
 use Rattle.event.specs.Cells.{meaning, asName}
 use Rattle.write_event.proofs.Events.{every-one, every-two, every-three}
 use Rattle.write_event.proofs.all_inside.Statement.{statement}

@@ -1,7 +1,7 @@
 -- `kind_of` meets its contract: each arm is told which event e is.
 use borrow.Author.Needs.{needs}
-use Rattle.format.specs.Event.{kindOf}
-use Rattle.format.specs.Grammar.{kindNumber}
+use Rattle.spec_exi.specs.Event.{kindOf}
+use Rattle.spec_exi.specs.Grammar.{kindNumber}
 use Rattle.event.specs.Cells.{meaning}
 use Rattle.write_event.proofs.kind_of.Statement.{statement}
 use Rattle.write_event.proofs.kind_of.Tie as tie

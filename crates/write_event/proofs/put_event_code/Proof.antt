@@ -3,8 +3,8 @@ use native.Mathlib.Omega.{arith}
 use mathlib.Core.Path.{refl}
 use mathlib.Core.List.{[]}
 use borrow.Author.Needs.{needs}
-use Rattle.format.specs.Event.{endElement, characters, kindOf, nameOf, mapName, mapEvent}
-use Rattle.format.specs.Grammar.{kindNumber}
+use Rattle.spec_exi.specs.Event.{endElement, characters, kindOf, nameOf, mapName, mapEvent}
+use Rattle.spec_exi.specs.Grammar.{kindNumber}
 use Rattle.event.specs.Cells.{meaning, asName}
 use Rattle.fitting.proofs.Sought.{sought-end, sought-characters}
 use Rattle.write_event.proofs.Events.{sought-other}

@@ -6,7 +6,7 @@ use borrow.Author.Needs.{needs}
 use Rattle.learning.proofs.Growth.{grow-writer, grow-asks}
 use Rattle.learning.proofs.Kept.{grown-above, grown-refused}
 use Rattle.settings.specs.Meant.{settingsFrom}
-use Rattle.format.specs.Grammar.{kindNumber}
+use Rattle.spec_exi.specs.Grammar.{kindNumber}
 use Rattle.write_event.proofs.Assembly.{shape-step, place-step, content-step, limit-step, done-step, items-ask, items-grow}
 use Rattle.write_event.proofs.Events.{same-kind}
 use Rattle.write_event.proofs.step.Statement.{statement}

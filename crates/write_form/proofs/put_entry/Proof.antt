@@ -2,7 +2,7 @@
 use native.Mathlib.Omega.{arith}
 use mathlib.Core.Path.{_∙_}
 use borrow.Author.Needs.{needs}
-use Rattle.format.specs.Sizes.{maxString, maxStore, readerWork}
+use Rattle.spec_exi.specs.Sizes.{maxString, maxStore, readerWork}
 use Rattle.layout.specs.Writer.{storeAt}
 use Rattle.write_form.specs.Form.{entered}
 use Rattle.write_form.proofs.Laws.{row-asks}

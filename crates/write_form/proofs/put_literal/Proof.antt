@@ -1,7 +1,7 @@
 -- `put_literal` meets its contract.
 use mathlib.Core.Path.{refl}
 use borrow.Author.Needs.{needs}
-use Rattle.format.specs.Sizes.{readerWork}
+use Rattle.spec_exi.specs.Sizes.{readerWork}
 use Rattle.layout.specs.Writer.{storeAt}
 use Rattle.write_form.specs.Form.{laid}
 use Rattle.write_form.proofs.Laws.{string-asks, store-fits}

@@ -2,7 +2,7 @@
 use native.Mathlib.Omega.{arith}
 use mathlib.Core.Path.{refl, sym, _∙_}
 use borrow.Author.Needs.{needs}
-use Rattle.format.specs.Sizes.{readerWork}
+use Rattle.spec_exi.specs.Sizes.{readerWork}
 use Rattle.layout.specs.Writer.{storeAt}
 use Rattle.write_form.proofs.Laws.{sound, row-left, entry-asks}
 use Rattle.write_form.proofs.send_entry.Statement.{statement}

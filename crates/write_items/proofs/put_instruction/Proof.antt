@@ -1,6 +1,6 @@
 -- `put_instruction` meets its contract.
 use borrow.Author.Needs.{needs}
-use Rattle.fields.specs.Field.{bitPacked}
+use Rattle.spec_fields.specs.Field.{bitPacked}
 use Rattle.write_items.proofs.Sent.{behind, target-refused, text-behind}
 use Rattle.write_items.proofs.put_instruction.Statement.{statement}
 use Rattle.write_items.proofs.put_instruction.Tie as tie

@@ -2,7 +2,7 @@
 use native.Mathlib.Omega.{arith}
 use borrow.Author.Needs.{needs}
 use Rattle.event.specs.Cells.{meaning, asName, asSpan}
-use Rattle.format.specs.Event.{mapName, mapEvent}
+use Rattle.spec_exi.specs.Event.{mapName, mapEvent}
 use Rattle.write_items.proofs.Strings.{start-items, attribute-items, characters-items, comment-items, instruction-items, other-items}
 use Rattle.write_items.proofs.Sent.{start-asks, attribute-asks, in-element, top-asks, characters-ask}
 use Rattle.write_items.proofs.put_items.Statement.{statement}

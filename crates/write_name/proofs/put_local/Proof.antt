@@ -3,7 +3,7 @@ use native.Mathlib.Omega.{arith}
 use borrow.Author.Needs.{needs}
 use Rattle.layout.proofs.Sizes.{room-names}
 use Rattle.layout.specs.Layout.{urisAt, namesAt}
-use Rattle.format.specs.Sizes.{maxUris, maxNames}
+use Rattle.spec_exi.specs.Sizes.{maxUris, maxNames}
 use Rattle.write_name.proofs.Locals.{local-entry-asks, local-entry, local-refused, local-missing, local-asks, local-hit}
 use Rattle.write_name.proofs.put_local.Statement.{statement}
 use Rattle.write_name.proofs.put_local.Tie as tie

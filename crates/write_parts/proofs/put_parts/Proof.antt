@@ -1,7 +1,7 @@
 -- `put_parts` meets its contract: each arm is told which code it has, and writes its parts one after the other.
 use mathlib.Core.Path.{_∙_}
 use borrow.Author.Needs.{needs}
-use Rattle.fields.specs.Bits.{each}
+use Rattle.spec_fields.specs.Bits.{each}
 use Rattle.write_field.proofs.Written.{put-nothing, put-length}
 use Rattle.event_code.specs.Parts.{partsOf, partsBits}
 use Rattle.write_parts.proofs.Parts.{code-asks, first-asks, rest-asks, put-first, put-last}

@@ -1,9 +1,9 @@
 -- `put_string` meets its contract: the loop keeps `Going`.
-use Rattle.fields.specs.Bits.{each}
-use Rattle.fields.specs.Field.{maxUnsigned}
+use Rattle.spec_fields.specs.Bits.{each}
+use Rattle.spec_fields.specs.Field.{maxUnsigned}
 use mathlib.Core.Path.{_∙_}
 use Prim.Native.Nat.{_+_, _-_}
-use Rattle.format.specs.Sizes.{maxString}
+use Rattle.spec_exi.specs.Sizes.{maxString}
 use Rattle.write_string.proofs.Laws.{Going, chars-small, going-more, going-done}
 use Rattle.write_field.proofs.Lengths.{unsigned-length}
 use Rattle.write_field.proofs.Written.{put-nothing, put-blank, put-length}

@@ -6,7 +6,7 @@ use Rattle.write_form.proofs.Laws.{sound}
 use Rattle.sending.proofs.Items.{wrote-nothing}
 use Rattle.read_field.specs.View.{alignmentOf}
 use Rattle.layout.specs.Layout.{urisAt}
-use Rattle.format.specs.Sizes.{maxUris}
+use Rattle.spec_exi.specs.Sizes.{maxUris}
 use Rattle.write_uri.proofs.Uris.{new-uri-asks, new-uri-sending, uri-entry-asks, new-uri-put, new-uri-is}
 use Rattle.write_uri.proofs.put_new_uri.Statement.{statement}
 use Rattle.write_uri.proofs.put_new_uri.Tie as tie

@@ -5,7 +5,7 @@ use borrow.Author.Needs.{needs}
 use Rattle.layout.proofs.Sizes.{room-uris}
 use Rattle.sending.proofs.Items.{wrote-nothing}
 use Rattle.layout.specs.Layout.{urisAt}
-use Rattle.format.specs.Sizes.{maxUris}
+use Rattle.spec_exi.specs.Sizes.{maxUris}
 use Rattle.write_uri.proofs.Uris.{uri-missing, uri-asks, uri-hit, uri-found}
 use Rattle.write_uri.proofs.put_uri.Statement.{statement}
 use Rattle.write_uri.proofs.put_uri.Tie as tie

@@ -6,7 +6,7 @@ use borrow.Author.Tests.{eq-eqb, ne-eqb}
 use borrow.Author.Needs.{needs}
 use Rattle.names.proofs.Laws.{is-empty}
 use Rattle.layout.specs.Layout.{urisAt, namesAt, valuesAt}
-use Rattle.format.specs.Sizes.{maxUris, maxNames, maxValues}
+use Rattle.spec_exi.specs.Sizes.{maxUris, maxNames, maxValues}
 use Rattle.write_value.proofs.Values.{value-entry-asks, value-entry, empty-value}
 use Rattle.write_value.proofs.put_new_value.Statement.{statement}
 use Rattle.write_value.proofs.put_new_value.Tie as tie

@@ -5,7 +5,7 @@ use Rattle.sending.proofs.Forms.{hit-rowless}
 use Rattle.read_field.specs.View.{alignmentOf}
 use Rattle.layout.proofs.Sizes.{room-values}
 use Rattle.layout.specs.Layout.{urisAt, namesAt, valuesAt}
-use Rattle.format.specs.Sizes.{maxUris, maxNames, maxValues}
+use Rattle.spec_exi.specs.Sizes.{maxUris, maxNames, maxValues}
 use Rattle.write_value.proofs.Values.{any-new, any-asks, any-hit}
 use Rattle.write_value.proofs.put_other_value.Statement.{statement}
 use Rattle.write_value.proofs.put_other_value.Tie as tie

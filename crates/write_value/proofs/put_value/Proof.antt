@@ -3,7 +3,7 @@ use borrow.Author.Needs.{needs}
 use Rattle.sending.proofs.Forms.{hit-rowless}
 use Rattle.layout.proofs.Sizes.{room-values}
 use Rattle.layout.specs.Layout.{urisAt, namesAt, valuesAt}
-use Rattle.format.specs.Sizes.{maxUris, maxNames}
+use Rattle.spec_exi.specs.Sizes.{maxUris, maxNames}
 use Rattle.write_value.proofs.Values.{own-other, own-asks, own-hit}
 use Rattle.write_value.proofs.put_value.Statement.{statement}
 use Rattle.write_value.proofs.put_value.Tie as tie

@@ -4,7 +4,7 @@ use native.Mathlib.Omega.{arith}
 use borrow.Author.Needs.{needs}
 use denote.Ref.{now}
 use Rattle.settings.specs.Meant.{settingsFrom}
-use Rattle.format.specs.Sizes.{maxEvents}
+use Rattle.spec_exi.specs.Sizes.{maxEvents}
 use Rattle.writer.proofs.Start.{tables-fit, text-fits, events-ask, list-begins}
 use Rattle.writer.proofs.Reply.{list-refused, list-long, list-put}
 use Rattle.writer.proofs.put_list.Statement.{statement}

@@ -1,0 +1,41 @@
+-- The strict form of a list (scope, "Grammars"; ours): the header, then each event's code and content in list order, by the tables and
+-- grammars as everything before has left them.
+use mathlib.Core.Bool.{cond}
+use mathlib.Core.List.{List, [], _∷_, _++_}
+use mathlib.Core.Option.{Option, none, some}
+use Prim.Native.Nat.{ℕ}
+use Rattle.spec_fields.specs.Bits.{Bits, unpack, pack}
+use Rattle.spec_fields.specs.Field.{Alignment}
+use Rattle.text.specs.Text.{Text}
+use Rattle.spec_exi.specs.Event.{Event}
+use Rattle.spec_exi.specs.Settings.{Settings, headerOf}
+use Rattle.spec_exi.specs.Tables.{Tables, partitionsOf, formOf, formBits}
+use Rattle.spec_exi.specs.Grammar.{Code, codeOf, codeBits}
+use Rattle.spec_exi.specs.Context.{Context, start, levelsIn, Item, items, afterItem, next}
+
+-- A string of an event, as the tables before it have it written.
+unfoldable pub itemBits : Alignment → Tables → Item → Bits
+itemBits a t i = cond (i .written) (formBits a (partitionsOf t (i .role)) (formOf (partitionsOf t (i .role)) (i .text)) (i .text)) []
+
+unfoldable pub itemsBits : Alignment → Tables → List Item → Bits
+itemsBits a t [] = []
+itemsBits a t (i ∷ is) = itemBits a t i ++ itemsBits a (afterItem t i) is
+
+-- The code and the content. An event that no production fits stands in no well-formed list, and has no bits.
+unfoldable pub codedBits : Settings → Context → Option Code → Event Text → Bits
+codedBits s c none e = []
+codedBits s c (some x) e =
+    codeBits (s .alignment) (levelsIn s c) (x .parts)
+    ++ itemsBits (s .alignment) (c .tables) (items (c .state) (x .production) e)
+
+unfoldable pub eventBits : Settings → Context → Event Text → Bits
+eventBits s c e = codedBits s c (codeOf (levelsIn s c) e) e
+
+-- The events in list order, each by what everything before has left.
+unfoldable pub listBits : Settings → Context → List (Event Text) → Bits
+listBits s c [] = []
+listBits s c (e ∷ l) = eventBits s c e ++ listBits s (next s c e) l
+
+-- The scope's "strict form of a list".
+unfoldable pub strict : Settings → List (Event Text) → List ℕ
+strict s l = pack (unpack (headerOf s) ++ listBits s start l)

@@ -1,0 +1,116 @@
+-- The writer's answer for any list (scope, "Refusal numbers"): what it refuses, in order, or the octets.
+use Prim.Native.Nat.{ℕ, zero, suc}
+use mathlib.Core.Bool.{Bool, false, cond, _&&_, not}
+use mathlib.Core.List.{List, [], _∷_, _++_}
+use mathlib.Core.Option.{Option, none, some}
+use lib.ListN.{length}
+use lib.Dec.{leb}
+use Rattle.spec_fields.specs.Bits.{Bits, unpack, pack}
+use Rattle.spec_fields.specs.Refusal.{Refusal, numberOf, room, settings, long, character, name, limit, shape, place, Answer, refused, accepted}
+use Rattle.text.specs.Text.{Text, Span, inside, part, allChars}
+use Rattle.spec_exi.specs.Event.{Event, mapEvent, stringsOf}
+use Rattle.spec_exi.specs.Settings.{Settings, SettingNumbers, meaningful, settingsOf, headerOf}
+use Rattle.spec_exi.specs.Sizes.{maxStream, maxEvents, maxStore, writerWork}
+use Rattle.spec_exi.specs.Tables.{Tables, nameAllowed}
+use Rattle.spec_exi.specs.Grammar.{Code, codeOf, isFinished}
+use Rattle.spec_exi.specs.Context.{Context, start, levelsIn, Item, items, afterItem, next}
+use Rattle.spec_exi.specs.Strict.{eventBits}
+use Rattle.spec_exi.specs.Lists.{short, withinTables, withinGrammars}
+
+-- An event as it lies in memory; none is a stored event that is SHAPE by itself.
+abbrev pub Stored : Type 0
+Stored = Option (Event Span)
+
+-- ---- tests in order, each with its refusal
+
+abbrev pub Test : Type 0
+Test = Bool × Refusal
+
+unfoldable pub firstFailed : List Test → Option Refusal
+firstFailed [] = none
+firstFailed (x ∷ xs) = let later = firstFailed xs in cond (x .0) later (some (x .1))
+
+-- PLACE for all strings of the event.
+unfoldable pub placeTests : Text → List Span → List Test
+placeTests store [] = []
+placeTests store (x ∷ xs) = (inside store x, place) ∷ placeTests store xs
+
+-- One string: the length limit, the store limit (a string that is no literal leaves the store as it is), characters, NAME, its table's limit.
+unfoldable pub stringTests : Tables → Item → List Test
+stringTests t i =
+    (short (i .text), limit)
+    ∷ (leb (length (afterItem t i .store)) maxStore, limit)
+    ∷ (allChars (i .text), character)
+    ∷ (nameAllowed (i .role) (i .text), name)
+    ∷ (withinTables (afterItem t i), limit)
+    ∷ []
+
+unfoldable pub contentTests : Tables → List Item → List Test
+contentTests t [] = []
+contentTests t (i ∷ is) = stringTests t i ++ contentTests (afterItem t i) is
+
+-- SHAPE comes first: no production fits.
+unfoldable pub eventTests : Settings → Context → Text → Event Span → Option Code → List Test
+eventTests s c store e none = (false, shape) ∷ []
+eventTests s c store e (some x) =
+    placeTests store (stringsOf e)
+    ++ contentTests (c .tables) (items (c .state) (x .production) (mapEvent (part store) e))
+    ++ ((withinGrammars (next s c (mapEvent (part store) e)), limit) ∷ [])
+
+unfoldable pub faultOf : Settings → Context → Text → Event Span → Option Refusal
+faultOf s c store e = firstFailed (eventTests s c store e (codeOf (levelsIn s c) (mapEvent (part store) e)))
+
+-- ---- the list
+
+-- One event, with these bits, stands before what this answer is about.
+unfoldable pub prepended : Bits → Answer Bits → Answer Bits
+prepended w (refused k i) = refused k (suc i)
+prepended w (accepted bs) = accepted (w ++ bs)
+
+unfoldable pub unless : Option Refusal → Answer Bits → Answer Bits
+unless none x = x
+unless (some k) x = refused k 0
+
+-- At most n more events. A list that ends early is SHAPE at its length.
+unfoldable pub writeEvents : ℕ → Settings → Context → Text → List Stored → Answer Bits
+writeEvents n s c store [] = cond (isFinished (c .state)) (accepted []) (refused shape 0)
+writeEvents zero s c store (x ∷ xs) = refused limit 0
+writeEvents (suc n) s c store (none ∷ xs) = refused shape 0
+writeEvents (suc n) s c store (some e ∷ xs) =
+    let e′ = mapEvent (part store) e in
+    let more = prepended (eventBits s c e′) (writeEvents n s (next s c e′) store xs) in
+    unless (faultOf s c store e) more
+
+-- LONG comes last.
+unfoldable pub asOctets : Settings → Answer Bits → Answer (List ℕ)
+asOctets s (refused k i) = refused k i
+asOctets s (accepted bs) =
+    let octets = pack (unpack (headerOf s) ++ bs) in
+    cond (leb (length octets) maxStream) (accepted octets) (refused long 0)
+
+unfoldable pub writeList : Settings → List Stored → Text → Answer (List ℕ)
+writeList s xs store = asOctets s (writeEvents maxEvents s start store xs)
+
+-- The lengths of the parts that are lent: octets, and cells of work memory.
+pub record WriterRoom : Type 0 where
+  pub octets : ℕ
+  pub work : ℕ
+
+unfoldable pub enoughToWrite : WriterRoom → Bool
+enoughToWrite r = leb maxStream (r .octets) && leb writerWork (r .work)
+
+-- The writer's answer for the events xs over this text store.
+unfoldable pub write : WriterRoom → SettingNumbers → List Stored → Text → Answer (List ℕ)
+write r o xs store =
+    cond (not (enoughToWrite r)) (refused room 0)
+    (cond (not (meaningful o)) (refused settings 0)
+    (writeList (settingsOf o) xs store))
+
+pub record WriteReply : Type 0 where
+  pub number : ℕ
+  pub index : ℕ
+  pub octets : ℕ
+
+unfoldable pub writeReply : Answer (List ℕ) → WriteReply
+writeReply (refused k i) = record { number = numberOf k; index = i; octets = 0 }
+writeReply (accepted os) = record { number = 0; index = 0; octets = length os }

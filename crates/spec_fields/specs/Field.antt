@@ -1,0 +1,100 @@
+-- The fields that streams are made of, each as its bits and as its parser.
+use Prim.Native.Nat.{ℕ, zero, suc, _+_, _*_, _-_, _/_, _%_, _^_}
+use mathlib.Core.Bool.{Bool, cond}
+use mathlib.Core.List.{List, [], _∷_}
+use lib.ListN.{length, getElem?}
+use lib.Dec.{leb, ltb}
+use Rattle.spec_fields.specs.Bits.{Bits, bitsOf, valueOf, unpack, octetsFor}
+use Rattle.spec_fields.specs.Refusal.{Refusal, ended, number}
+use Rattle.spec_fields.specs.Parser.{bad, got, Parser, return, fail, present, need, times, _>>=_, _>>_}
+
+pub data Alignment : Type 0 where
+  bitPacked byteAligned : Alignment
+
+-- ---- bits and octets
+
+unfoldable pub bit : Parser Bool
+bit [] = bad ended
+bit (b ∷ bs) = got b bs
+
+unfoldable pub octet : Parser ℕ
+octet = do
+  bs ← times 8 bit
+  return (valueOf bs)
+
+-- ---- n-bit Unsigned Integer (EXI 7.1.9): n bits, most significant first; byte-aligned the fewest octets that hold n bits, least
+-- significant octet first
+
+unfoldable pub littleEndian : ℕ → ℕ → List ℕ
+littleEndian zero v = []
+littleEndian (suc k) v = v % 256 ∷ littleEndian k (v / 256)
+
+unfoldable pub littleValue : List ℕ → ℕ
+littleValue [] = 0
+littleValue (o ∷ os) = o + 256 * littleValue os
+
+unfoldable pub numberBits : Alignment → ℕ → ℕ → Bits
+numberBits bitPacked n v = bitsOf n v
+numberBits byteAligned n v = unpack (littleEndian (octetsFor n) v)
+
+unfoldable pub numberField : Alignment → ℕ → Parser ℕ
+numberField bitPacked n = do
+  bs ← times n bit
+  return (valueOf bs)
+numberField byteAligned n = do
+  os ← times (octetsFor n) octet
+  return (littleValue os)
+
+-- ---- a choice among m (scope, "Fields"): n bits, where n is the smallest with 2 ^ n at least m
+
+-- The first of n, n + 1, .. that is wide enough, at most k steps up.
+unfoldable pub widthFrom : ℕ → ℕ → ℕ → ℕ
+widthFrom zero n m = n
+widthFrom (suc k) n m = let wider = widthFrom k (suc n) m in cond (leb m (2 ^ n)) n wider
+
+unfoldable pub width : ℕ → ℕ
+width m = widthFrom m 0 m
+
+unfoldable pub choiceBits : Alignment → ℕ → ℕ → Bits
+choiceBits a m v = numberBits a (width m) v
+
+-- A choice among the members of a list: the number and the member; k where the number names none.
+unfoldable pub choice : {A : Type 0} → Alignment → Refusal → List A → Parser (ℕ × A)
+choice a k l = do
+  v ← numberField a (width (length l))
+  x ← present k (getElem? l v)
+  return (v, x)
+
+-- ---- Unsigned Integer (EXI 7.1.6; scope, "Fields"): 7 bits an octet, least significant group first, the top bit set on all but the
+-- last; at most 5 octets, and a number up to 2,147,483,647 (scope, "Refusal numbers", 7)
+
+unfoldable pub maxOctets : ℕ
+maxOctets = 5
+
+unfoldable pub maxUnsigned : ℕ
+maxUnsigned = 2147483647
+
+-- The octets of v, at most k: enough where v is below 128 ^ k.
+unfoldable pub groups : ℕ → ℕ → List ℕ
+groups zero v = []
+groups (suc k) v = let more = (v % 128 + 128) ∷ groups k (v / 128) in cond (ltb v 128) (v ∷ []) more
+
+unfoldable pub unsignedBits : ℕ → Bits
+unsignedBits v = unpack (groups maxOctets v)
+
+-- At most k more octets. The number is not in fewest octets where the groups after this one are all zero.
+unfoldable pub grouped : ℕ → Parser ℕ
+grouped zero = fail number
+grouped (suc k) = do
+  o ← octet
+  let more : Parser ℕ = do
+    high ← grouped k
+    need (ltb 0 high) number
+    return ((o - 128) + 128 * high)
+  cond (ltb o 128) (return o) more
+
+unfoldable pub unsigned : Parser ℕ
+unsigned = do
+  v ← grouped maxOctets
+  need (leb v maxUnsigned) number
+  return v
