@@ -1,6 +1,6 @@
--- The events of a stream are read exactly: what is accepted is a list that may come next, in its strict form and with padding after it; and
--- such bits are accepted with that list.
-use mathlib.Core.Path.{_≡_, refl, sym, _∙_, ap}
+-- The events of a stream are read exactly: what is accepted is a list that may come next, in its
+-- strict form and with padding after it; and such bits are accepted with that list.
+use mathlib.Core.Path.{_≡_, refl, sym, _∙_, ap, subst}
 use mathlib.Core.List.{List, [], _∷_, _++_, map, append-assoc}
 use mathlib.Core.Bool.{cond}
 use Prim.Native.Nat.{ℕ, zero, suc, _≤_, zero-le, suc-le-suc}
@@ -12,15 +12,17 @@ use Rattle.spec_fields.specs.Refusal.{Refusal, Answer, refused, accepted}
 use Rattle.spec_fields.specs.Parser.{Result, bad, got}
 use Rattle.spec_fields.proofs.Tests.{split, is-T, T-is}
 use Rattle.text.specs.Text.{Text}
+use Rattle.spec_exi.specs.Sizes.{Sizes, sizes}
 use Rattle.spec_exi.specs.Event.{Event}
 use Rattle.spec_exi.specs.Settings.{Settings}
-use Rattle.spec_exi.specs.Tables.{Placed}
+use Rattle.spec_exi.specs.Tables.{Placed, eventText}
 use Rattle.spec_exi.specs.Context.{Context, next}
 use Rattle.spec_exi.specs.Strict.{eventBits, listBits}
-use Rattle.spec_exi.specs.Reader.{Reading, eventText, step, following, ending, onward, readEvents}
+use Rattle.spec_exi.specs.Reader.{Reading, step, following, ending, onward, readEvents}
 use Rattle.spec_exi.specs.Grammar.{isFinished}
 use Rattle.spec_exi.proofs.Fit.{EventFit, ListFit, done, also}
-use Rattle.spec_exi.proofs.Step.{StepRead, step-reads, Sane, step-fit, step-found, sane-next}
+use Rattle.spec_exi.proofs.Step.{StepRead, step-reads, Sane, step-next, step-fit, step-found}
+use Rattle.spec_exi.proofs.Step.{sane-next}
 use Rattle.spec_exi.proofs.Writes.{is-finished, finished-is, finished-no-fit}
 
 pub not-accepted : {A X : Type 0} {k : Refusal} {i : ℕ} {a : A} → _≡_ {A = Answer A} (refused k i) (accepted a) → X
@@ -41,39 +43,43 @@ followed e (refused k i) r q = not-accepted q
 followed e (accepted x) r q = record { rest = x; inner = refl; is = cc }
 
 -- The end of an accepted stream.
-ended : (c : Context) (rest : Bits) (r : Reading) → ending c rest ≡ accepted r → T (isPadding rest) × (r ≡ record { events = []; store = c .tables .store })
+ended : (s : Settings) (c : Context) (rest : Bits) (r : Reading) → ending s c rest ≡ accepted r → T (isPadding rest) × (r ≡ record { events = []; store = c .tables .store })
 unfolding ending
-ended c rest r q = split (isPadding rest) (λ e. (is-T (isPadding rest) e, sym (accepted-same (rw e at q)))) (λ e. not-accepted (rw e at q))
+ended s c rest r q = split (isPadding rest) (λ e. (is-T (isPadding rest) e, sym (accepted-same (rw e at q)))) (λ e. not-accepted (rw e at q))
 
--- The answer after an event: the end of the stream where the document is finished, and else more events.
-abbrev Afterwards : ℕ → Settings → Context → Bits → Answer Reading
-Afterwards n s c rest = cond (isFinished (c .state)) (ending c rest) (readEvents n s c rest)
+-- The answer after an event: the end of the stream where the document is finished, and else more
+-- events.
+abbrev Afterwards : ℕ → Sizes → Settings → Context → Bits → Answer Reading
+Afterwards n z s c rest = cond (isFinished (c .state)) (ending s c rest) (readEvents n z s c rest)
 
--- How accepted bits are read: event by event, up to the end of the document.
-pub data Run (s : Settings) : ℕ → Context → Bits → Reading → Type 0 where
+-- How accepted bits are read: event by event, each in the context that the one before it leaves, up
+-- to the end of the document.
+pub data Run (z : Sizes) (s : Settings) : ℕ → Context → Bits → Reading → Type 0 where
   ends : {n : ℕ} {c : Context} {bs : Bits} → T (isFinished (c .state)) → T (isPadding bs)
-      → Run s n c bs (record { events = []; store = c .tables .store })
-  goes : {n : ℕ} {c : Context} {bs : Bits} {r : Reading} (e : Event Placed) (w : Bits) → StepRead s c e w
-      → Run s n (next s c (eventText e)) bs r → Run s (suc n) c (w ++ bs) (record { events = e ∷ r .events; store = r .store })
+      → Run z s n c bs (record { events = []; store = c .tables .store })
+  goes : {n : ℕ} {c : Context} {bs : Bits} {r : Reading} (y : Event Placed × Context) (w : Bits) → StepRead z s c y w
+      → Run z s n (y .1) bs r → Run z s (suc n) c (w ++ bs) (record { events = y .0 ∷ r .events; store = r .store })
 
-then-runs : (n : ℕ) (s : Settings) (c : Context) (bs : Bits) (r : Reading) → (readEvents n s c bs ≡ accepted r → Run s n c bs r)
-    → Afterwards n s c bs ≡ accepted r → Run s n c bs r
-then-runs n s c bs r f q =
-    split (isFinished (c .state)) (λ t. let (p, m) = ended c bs r (rw t at q) in rw m (ends (is-T (isFinished (c .state)) t) p)) (λ t. f (rw t at q))
+module _ (z : Sizes) (s : Settings) where
+  then-runs : (n : ℕ) (c : Context) (bs : Bits) (r : Reading) → (readEvents n z s c bs ≡ accepted r → Run z s n c bs r)
+      → Afterwards n z s c bs ≡ accepted r → Run z s n c bs r
+  then-runs n c bs r f q =
+      split (isFinished (c .state)) (λ t. let (p, m) = ended s c bs r (rw t at q) in rw m (ends (is-T (isFinished (c .state)) t) p))
+      (λ t. f (rw t at q))
 
-pub read-runs : (n : ℕ) (s : Settings) (c : Context) (bs : Bits) (r : Reading) → readEvents n s c bs ≡ accepted r → Run s n c bs r
-unfolding readEvents onward
-read-runs zero s c bs r q = not-accepted q
-read-runs (suc n) s c bs r q = go (λ d b x. read-runs n s d b x) (step s c bs) refl q
-  where
-    go : ((d : Context) (b : Bits) (x : Reading) → readEvents n s d b ≡ accepted x → Run s n d b x)
-        → (x : Result (Event Placed)) → step s c bs ≡ x → onward s c (λ d b. readEvents n s d b) x ≡ accepted r → Run s (suc n) c bs r
-    go rec (bad k) i q = not-accepted q
-    go rec (got e rest) i q =
-        let d = next s c (eventText e) in
-        let f = followed e (Afterwards n s d rest) r q in
-        let (w, h, j) = step-reads s c .sound bs e rest i in
-        rw (f .is, j) (goes e w h (then-runs n s d rest (f .rest) (rec d rest (f .rest)) (f .inner)))
+  pub read-runs : (n : ℕ) (c : Context) (bs : Bits) (r : Reading) → readEvents n z s c bs ≡ accepted r → Run z s n c bs r
+  unfolding readEvents onward
+  read-runs zero c bs r q = not-accepted q
+  read-runs (suc n) c bs r q = go (λ d b x. read-runs n d b x) (step z s c bs) refl q
+    where
+      go : ((d : Context) (b : Bits) (x : Reading) → readEvents n z s d b ≡ accepted x → Run z s n d b x)
+          → (x : Result (Event Placed × Context)) → step z s c bs ≡ x → onward s (λ d b. readEvents n z s d b) x ≡ accepted r
+          → Run z s (suc n) c bs r
+      go rec (bad k) i q = not-accepted q
+      go rec (got (e, d) rest) i q =
+          let f = followed e (Afterwards n z s d rest) r q in
+          let (w, h, j) = step-reads z s c .sound bs (e, d) rest i in
+          rw (f .is, j) (goes (e, d) w h (then-runs n d rest (f .rest) (rec d rest (f .rest)) (f .inner)))
 
 -- What stands in accepted bits.
 pub record Accepted (s : Settings) (c : Context) (n : ℕ) (bs : Bits) (l : List (Event Text)) : Type 0 where
@@ -83,25 +89,29 @@ pub record Accepted (s : Settings) (c : Context) (n : ℕ) (bs : Bits) (l : List
   pub bits : bs ≡ listBits s c l ++ padding
   pub padded : T (isPadding padding)
 
-run-fit : {s : Settings} {n : ℕ} {c : Context} {bs : Bits} {r : Reading} → Sane c → Run s n c bs r → Accepted s c n bs (map eventText (r .events))
+run-fit : {s : Settings} {n : ℕ} {c : Context} {bs : Bits} {r : Reading} → Sane c → Run sizes s n c bs r
+    → Accepted s c n bs (map eventText (r .events))
 unfolding listBits
 run-fit {c} {bs} g (ends f p) =
     record { fit = done (is-finished (c .state) f); few = zero-le; padding = bs; bits = refl; padded = p }
-run-fit {s} {c} g (goes {r} e w h k) =
-    let (fit, b) = step-fit s c e w g h in
-    let d = next s c (eventText e) in
-    let m = run-fit (sane-next s c (eventText e) g fit) k in
+run-fit {s} {n} {c} g (goes {n = m} {bs = bs} {r = r} y w h k) =
+    let e = eventText (y .0) in
+    let (fit, b) = step-fit s c y w g h in
+    let d = next s c e in
+    let same = step-next s c y w g h in
+    let later = run-fit (subst Sane (sym same) (sane-next s c e g fit)) k in
+    let a = subst (λ x. Accepted s x m bs (map eventText (r .events))) same later in
     record {
-      fit = also (eventText e) fit (m .fit);
-      few = suc-le-suc (m .few);
-      padding = m .padding;
-      bits = cc (b, m .bits) ∙ sym (append-assoc (eventBits s c (eventText e)) (listBits s d (map eventText (r .events))) (m .padding));
-      padded = m .padded;
+      fit = also e fit (a .fit);
+      few = suc-le-suc (a .few);
+      padding = a .padding;
+      bits = cc (b, a .bits) ∙ sym (append-assoc (eventBits s c e) (listBits s d (map eventText (r .events))) (a .padding));
+      padded = a .padded;
     }
 
-pub read-fit : (n : ℕ) (s : Settings) (c : Context) (bs : Bits) (r : Reading) → Sane c → readEvents n s c bs ≡ accepted r
+pub read-fit : (n : ℕ) (s : Settings) (c : Context) (bs : Bits) (r : Reading) → Sane c → readEvents n sizes s c bs ≡ accepted r
     → Accepted s c n bs (map eventText (r .events))
-read-fit n s c bs r g q = run-fit g (read-runs n s c bs r q)
+read-fit n s c bs r g q = run-fit g (read-runs sizes s n c bs r q)
 
 -- A list that may come next is read.
 pub record ListFound (a : Answer Reading) (l : List (Event Text)) : Type 0 where
@@ -111,7 +121,7 @@ pub record ListFound (a : Answer Reading) (l : List (Event Text)) : Type 0 where
 
 -- An event that is read, before others.
 then-found : (n : ℕ) (s : Settings) (c : Context) (e : Event Text) (rest : Bits) (l : List (Event Text)) → EventFit s c e
-    → ListFound (Afterwards n s (next s c e) rest) l → ListFound (readEvents (suc n) s c (eventBits s c e ++ rest)) (e ∷ l)
+    → ListFound (Afterwards n sizes s (next s c e) rest) l → ListFound (readEvents (suc n) sizes s c (eventBits s c e ++ rest)) (e ∷ l)
 unfolding readEvents onward following
 then-found n s c e rest l fit h =
     let m = step-found s c e fit in
@@ -119,18 +129,18 @@ then-found n s c e rest l fit h =
     let r = h .reading in
     record {
       reading = record { events = x ∷ r .events; store = r .store };
-      answer = ap (onward s c (λ d b. readEvents n s d b)) (step-reads s c .complete x (eventBits s c e) rest (m .read))
-          ∙ ap (λ y. following x (Afterwards n s (next s c y) rest)) (m .is) ∙ ap (following x) (h .answer);
+      answer = ap (onward s (λ d b. readEvents n sizes s d b)) (step-reads sizes s c .complete (x, next s c e) (eventBits s c e) rest (m .read))
+          ∙ ap (following x) (h .answer);
       is = cc (m .is, h .is);
     }
 
 more : (s : Settings) (c : Context) (e : Event Text) (rest : Bits) (l : List (Event Text)) (n : ℕ) → suc (length l) ≤ n → EventFit s c e
-    → ((k : ℕ) → length l ≤ k → ListFound (Afterwards k s (next s c e) rest) l) → ListFound (readEvents n s c (eventBits s c e ++ rest)) (e ∷ l)
+    → ((k : ℕ) → length l ≤ k → ListFound (Afterwards k sizes s (next s c e) rest) l) → ListFound (readEvents n sizes s c (eventBits s c e ++ rest)) (e ∷ l)
 more s c e rest l zero m fit f = absurd (omega arith)
 more s c e rest l (suc k) m fit f = then-found k s c e rest l fit (f k (omega arith))
 
 pub read-found : (n : ℕ) (s : Settings) (c : Context) (l : List (Event Text)) (padding : Bits) → ListFit s c l → length l ≤ n → T (isPadding padding)
-    → ListFound (Afterwards n s c (listBits s c l ++ padding)) l
+    → ListFound (Afterwards n sizes s c (listBits s c l ++ padding)) l
 unfolding listBits ending
 read-found n s c l padding (done f) m p =
     record {

@@ -9,26 +9,35 @@ use lib.ListN.{length, length-append}
 use lib.Dec.{T, leb, ltb, leb→le, le→leb, ltb→lt, lt→ltb}
 use Rattle.spec_fields.specs.Bits.{Bits, unpack, pack, isPadding, allZero}
 use Rattle.spec_fields.specs.Parser.{Result, bad, got}
-use Rattle.spec_fields.specs.Refusal.{Refusal, numberOf, room, settings, long, header, ended, code, number, character, reference, loose, name, limit, tail, shape, place, Answer, refused, accepted}
+use Rattle.spec_fields.specs.Refusal.{Refusal, numberOf, room, settings, long, header, ended, code}
+use Rattle.spec_fields.specs.Refusal.{number, character, reference, loose, name, limit, tail, shape}
+use Rattle.spec_fields.specs.Refusal.{place, Answer, refused, accepted}
 use Rattle.spec_fields.proofs.Tests.{T-is, is-T, both, left, right, split}
 use Rattle.spec_fields.proofs.Pack.{Octets, unpack-append, length-unpack, unpack-pack}
 use Rattle.text.specs.Text.{Text}
 use Rattle.spec_exi.specs.Event.{Event}
 use Rattle.spec_exi.specs.Settings.{Settings, SettingNumbers, meaningful, settingsOf, headerOf}
-use Rattle.spec_exi.specs.Sizes.{maxStream, maxEvents}
+use Rattle.spec_exi.specs.Sizes.{sizes, maxStream, maxEvents}
+use Rattle.spec_exi.specs.Tables.{eventText}
 use Rattle.spec_exi.specs.Context.{start, contextAfter}
 use Rattle.spec_exi.specs.Strict.{listBits, strict}
 use Rattle.spec_exi.specs.Lists.{every}
-use Rattle.spec_exi.specs.Reader.{Reading, ReaderRoom, enoughToRead, read, readHeader, readBody, readStream, readReply, eventText}
-use Rattle.spec_exi.specs.Writer.{Stored, WriterRoom, enoughToWrite, write, writeReply, writeList, writeEvents, asOctets}
-use Rattle.spec_exi.specs.Claims.{AreOctets, Good, Accepts, Demand3, Demand2, Lookup, storedOf, meant, WorkedExamples}
+use Rattle.spec_exi.specs.Reader.{Reading, ReaderRoom, enoughToRead, readSized, read}
+use Rattle.spec_exi.specs.Reader.{readHeader, readBody, readStream, readReply}
+use Rattle.spec_exi.specs.Writer.{Stored, WriterRoom, enoughToWrite, write, writeReply}
+use Rattle.spec_exi.specs.Writer.{writeList, writeEvents, asOctets}
+use Rattle.spec_exi.specs.Claims.{AreOctets, Good, Accepts, Demand3, Demand2, Lookup}
+use Rattle.spec_exi.specs.Claims.{storedOf, meant, WorkedExamples}
 use Rattle.spec_exi.proofs.Fit.{ListFit}
 use Rattle.spec_exi.proofs.Good.{fit-of-good, good-of-fit}
 use Rattle.spec_exi.proofs.Body.{not-accepted, accepted-same}
 use Rattle.spec_exi.proofs.Stream.{stream-fit, stream-found, prefix-free}
 use Rattle.spec_exi.proofs.Step.{sane-start}
 use Rattle.spec_exi.proofs.Places.{settled-start, read-places, read-store}
-use Rattle.spec_exi.proofs.Examples.{K-holds, further-examples as others-hold, laid-out-examples as laid-out, order-examples, writing-examples}
+use Rattle.spec_exi.proofs.Examples.{K-holds, further-examples as others-hold}
+use Rattle.spec_exi.proofs.Examples.{laid-out-examples as laid-out, order-examples}
+use Rattle.spec_exi.proofs.Examples.{writing-examples, K-replies, refusal-examples}
+use Rattle.spec_exi.proofs.Examples.{piece-examples}
 use Rattle.spec_exi.proofs.Writes.{write-sound, write-complete}
 
 -- ---- good lists are those that may come after the start
@@ -43,7 +52,7 @@ unfolding every
 are-octets [] h = tt
 are-octets (b ∷ bs) h = both (ltb b 256) (every (λ x. ltb x 256) bs) (lt→ltb b 256 (h .0)) (are-octets bs (h .1))
 
-good-of : (s : Settings) (l : List (Event Text)) → ListFit s start l → length l ≤ maxEvents → length (strict s l) ≤ maxStream → Good s l
+good-of : (s : Settings) (l : List (Event Text)) → ListFit s (start s) l → length l ≤ maxEvents → length (strict s l) ≤ maxStream → Good s l
 good-of s l h m o =
     let g = good-of-fit s l h in
     record {
@@ -51,7 +60,7 @@ good-of s l h m o =
       limits = record { events = m; strings = g .strings; sizes = g .sizes; octets = o };
     }
 
-fit-of : (s : Settings) (l : List (Event Text)) → Good s l → ListFit s start l
+fit-of : (s : Settings) (l : List (Event Text)) → Good s l → ListFit s (start s) l
 fit-of s l g =
     fit-of-good s l
     (record {
@@ -69,10 +78,10 @@ record Accepting (r : ReaderRoom) (o : SettingNumbers) (stream : List ℕ) (x : 
   enough : T (enoughToRead r)
   means : T (meaningful o)
   short : length stream ≤ maxStream
-  answer : readStream (settingsOf o) stream ≡ accepted x
+  answer : readStream sizes (settingsOf o) stream ≡ accepted x
 
 accepting : (r : ReaderRoom) (o : SettingNumbers) (stream : List ℕ) (x : Reading) → read r o stream ≡ accepted x → Accepting r o stream x
-unfolding read
+unfolding read readSized
 accepting r o stream x q =
     split (enoughToRead r)
     (λ e. split (meaningful o)
@@ -88,29 +97,29 @@ accepting r o stream x q =
     (λ e. not-accepted (rw e at q))
 
 read-accepts : (r : ReaderRoom) (o : SettingNumbers) (stream : List ℕ) → T (enoughToRead r) → T (meaningful o) → length stream ≤ maxStream
-    → read r o stream ≡ readStream (settingsOf o) stream
-unfolding read
+    → read r o stream ≡ readStream sizes (settingsOf o) stream
+unfolding read readSized
 read-accepts r o stream e m h = rw (T-is (enoughToRead r) e, T-is (meaningful o) m, T-is (leb (length stream) maxStream) (le→leb (length stream) maxStream h))
 
 -- ---- where the strings lie
 
-stream-places : (s : Settings) (stream : List ℕ) (r : Reading) → readStream s stream ≡ accepted r
+stream-places : (s : Settings) (stream : List ℕ) (r : Reading) → readStream sizes s stream ≡ accepted r
     → meant (r .store) (map storedOf (r .events)) ≡ some (map eventText (r .events))
 unfolding readStream readBody
 stream-places s stream r q = go (readHeader (headerOf s) (unpack stream)) q
   where
-    go : (x : Result (Unit {0})) → readBody s x ≡ accepted r → meant (r .store) (map storedOf (r .events)) ≡ some (map eventText (r .events))
+    go : (x : Result (Unit {0})) → readBody sizes s x ≡ accepted r → meant (r .store) (map storedOf (r .events)) ≡ some (map eventText (r .events))
     go (bad k) q = not-accepted q
-    go (got u bs) q = read-places maxEvents s start bs r sane-start settled-start q
+    go (got u bs) q = read-places sizes s maxEvents (start s) bs r (settled-start s) q
 
-stream-store : (s : Settings) (stream : List ℕ) (r : Reading) → readStream s stream ≡ accepted r
-    → r .store ≡ contextAfter s start (map eventText (r .events)) .tables .store
+stream-store : (s : Settings) (stream : List ℕ) (r : Reading) → readStream sizes s stream ≡ accepted r
+    → r .store ≡ contextAfter s (start s) (map eventText (r .events)) .tables .store
 unfolding readStream readBody
 stream-store s stream r q = go (readHeader (headerOf s) (unpack stream)) q
   where
-    go : (x : Result (Unit {0})) → readBody s x ≡ accepted r → r .store ≡ contextAfter s start (map eventText (r .events)) .tables .store
+    go : (x : Result (Unit {0})) → readBody sizes s x ≡ accepted r → r .store ≡ contextAfter s (start s) (map eventText (r .events)) .tables .store
     go (bad k) q = not-accepted q
-    go (got u bs) q = read-store maxEvents s start bs r q
+    go (got u bs) q = read-store maxEvents s (start s) bs r (sane-start s) q
 
 pub lookup : Lookup
 lookup =
@@ -172,7 +181,7 @@ good-one : (s : Settings) (l m : List (Event Text)) → Good s l → Good s m �
 good-one s l m g h e =
     let f = stream-found s l (fit-of s l g) (g .limits .events) in
     let k = stream-found s m (fit-of s m h) (h .limits .events) in
-    let same : f .reading ≡ k .reading = accepted-same (sym (f .answer) ∙ ap (readStream s) e ∙ k .answer) in
+    let same : f .reading ≡ k .reading = accepted-same (sym (f .answer) ∙ ap (readStream sizes s) e ∙ k .answer) in
     sym (f .is) ∙ ap (λ (x : Reading). map eventText (x .events)) same ∙ k .is
 
 front-octets : (a b : List ℕ) → Octets (a ++ b) → Octets a
@@ -184,13 +193,13 @@ begins : (s : Settings) (l m : List (Event Text)) (b : List ℕ) → Good s l �
 unfolding strict isPadding
 begins s l m b g h e =
     let hs = unpack (headerOf s) in
-    let (y, ey, py) = unpack-pack (hs ++ listBits s start l) in
-    let (z, ez, pz) = unpack-pack (hs ++ listBits s start m) in
-    let i : (hs ++ listBits s start l ++ y) ++ unpack b ≡ hs ++ listBits s start m ++ z
+    let (y, ey, py) = unpack-pack (hs ++ listBits s (start s) l) in
+    let (z, ez, pz) = unpack-pack (hs ++ listBits s (start s) m) in
+    let i : (hs ++ listBits s (start s) l ++ y) ++ unpack b ≡ hs ++ listBits s (start s) m ++ z
     = ap (λ w. w ++ unpack b) (sym ey) ∙ sym (unpack-append (strict s l) b) ∙ ap unpack e ∙ ez in
-    let j : hs ++ (listBits s start l ++ (y ++ unpack b)) ≡ hs ++ (listBits s start m ++ z) = simp append-assoc at i in
-    let k = append-cancel-left hs (listBits s start l ++ (y ++ unpack b)) (listBits s start m ++ z) j in
-    let rests : y ++ unpack b ≡ z = prefix-free s start l m (y ++ unpack b) z (fit-of s l g) (fit-of s m h) k .rests in
+    let j : hs ++ (listBits s (start s) l ++ (y ++ unpack b)) ≡ hs ++ (listBits s (start s) m ++ z) = simp append-assoc at i in
+    let k = append-cancel-left hs (listBits s (start s) l ++ (y ++ unpack b)) (listBits s (start s) m ++ z) j in
+    let rests : y ++ unpack b ≡ z = prefix-free s (start s) l m (y ++ unpack b) z (fit-of s l g) (fit-of s m h) k .rests in
     empty b (omega (arith, ap length rests, length-append y (unpack b), length-unpack b, leb→le (length z) 7 (left (leb (length z) 7) (allZero z) pz)))
   where
     empty : (b : List ℕ) → length b ≤ 0 → b ≡ []
@@ -222,7 +231,7 @@ demand-3 =
 record Writing (r : WriterRoom) (o : SettingNumbers) (xs : List Stored) (store : Text) (stream : List ℕ) : Type 0 where
   enough : T (enoughToWrite r)
   means : T (meaningful o)
-  answer : writeList (settingsOf o) xs store ≡ accepted stream
+  answer : writeList sizes (settingsOf o) xs store ≡ accepted stream
 
 writing : (r : WriterRoom) (o : SettingNumbers) (xs : List Stored) (store : Text) (stream : List ℕ) → write r o xs store ≡ accepted stream
     → Writing r o xs store stream
@@ -234,7 +243,7 @@ writing r o xs store stream q =
     (λ e. not-accepted (rw e at q))
 
 write-accepts : (r : WriterRoom) (o : SettingNumbers) (xs : List Stored) (store : Text) → T (enoughToWrite r) → T (meaningful o)
-    → write r o xs store ≡ writeList (settingsOf o) xs store
+    → write r o xs store ≡ writeList sizes (settingsOf o) xs store
 unfolding write
 write-accepts r o xs store e m = rw (T-is (enoughToWrite r) e, T-is (meaningful o) m)
 
@@ -245,14 +254,14 @@ record Behind (s : Settings) (xs : List Stored) (store : Text) (stream : List �
   good : Good s list
   is : stream ≡ strict s list
 
-written-list : (s : Settings) (xs : List Stored) (store : Text) (stream : List ℕ) → writeList s xs store ≡ accepted stream → Behind s xs store stream
+written-list : (s : Settings) (xs : List Stored) (store : Text) (stream : List ℕ) → writeList sizes s xs store ≡ accepted stream → Behind s xs store stream
 unfolding writeList asOctets strict
-written-list s xs store stream q = go (writeEvents maxEvents s start store xs) refl q
+written-list s xs store stream q = go (writeEvents maxEvents sizes s (start s) store xs) refl q
   where
-    go : (a : Answer Bits) → writeEvents maxEvents s start store xs ≡ a → asOctets s a ≡ accepted stream → Behind s xs store stream
+    go : (a : Answer Bits) → writeEvents maxEvents sizes s (start s) store xs ≡ a → asOctets sizes s a ≡ accepted stream → Behind s xs store stream
     go (refused k i) w q = not-accepted q
     go (accepted bs) w q =
-        let (l, m, f, n, e) = write-sound maxEvents s start store xs bs w in
+        let (l, m, f, n, e) = write-sound maxEvents s (start s) store xs bs w in
         let octets = pack (unpack (headerOf s) ++ bs) in
         let same : octets ≡ strict s l = ap (λ b. pack (unpack (headerOf s) ++ b)) e in
         split (leb (length octets) maxStream)
@@ -265,11 +274,11 @@ written-list s xs store stream q = go (writeEvents maxEvents s start store xs) r
         (λ t. not-accepted (rw t at q))
 
 list-written : (s : Settings) (xs : List Stored) (store : Text) (l : List (Event Text)) → meant store xs ≡ some l → Good s l
-    → writeList s xs store ≡ accepted (strict s l)
+    → writeList sizes s xs store ≡ accepted (strict s l)
 unfolding writeList asOctets strict
 list-written s xs store l m g =
     rw (
-      write-complete maxEvents s start store xs l m (fit-of s l g) (g .limits .events),
+      write-complete maxEvents s (start s) store xs l m (fit-of s l g) (g .limits .events),
       T-is (leb (length (strict s l)) maxStream) (le→leb (length (strict s l)) maxStream (g .limits .octets)),
     )
 
@@ -314,4 +323,14 @@ demand-2 =
 -- ---- the worked examples
 
 pub worked-examples : WorkedExamples
-worked-examples = record { scope = K-holds; further = others-hold; layouts = laid-out; order = order-examples; writing = writing-examples }
+worked-examples =
+    record {
+      scope = K-holds;
+      scope-replies = K-replies;
+      further = others-hold;
+      layouts = laid-out;
+      order = order-examples;
+      others-refused = refusal-examples;
+      in-pieces = piece-examples;
+      writing = writing-examples;
+    }

@@ -1,8 +1,8 @@
--- Event codes: which parts are a code of a state's levels, that `codeOf` gives such a code to just the events that the state allows, and
--- that `readCode` reads just such codes.
+-- Event codes: which parts are a code of a state's levels, that `codeOf` gives such a code to just
+-- the events that the state allows, and that `readCode` reads just such codes.
 use Prim.Native.Nat.{ℕ, zero, suc}
 use mathlib.Core.Path.{_≡_, refl, sym, _∙_, ap}
-use mathlib.Core.Bool.{Bool, true, false, cond, _&&_, _||_, Bool·beq, or-true, or-false}
+use mathlib.Core.Bool.{Bool, true, false, cond, _||_, or-true, or-false}
 use mathlib.Core.List.{List, [], _∷_, _++_, map}
 use mathlib.Core.Option.{Option, none, some, Option·map, Option·none-ne-some}
 use lib.ListN.{length, getD, getElem?}
@@ -11,14 +11,23 @@ use Rattle.spec_fields.specs.Bits.{Bits}
 use Rattle.spec_fields.specs.Refusal.{code}
 use Rattle.spec_fields.specs.Field.{Alignment, choiceBits}
 use Rattle.spec_fields.proofs.Tests.{is-T, both, left, right, split}
-use Rattle.spec_fields.proofs.Exact.{Reads, Returned, Then, Every, reads-as, reads-return, reads-fail, reads-then, reads-map}
+use Rattle.spec_fields.proofs.Exact.{Reads, Returned, Then, Every, reads-as, reads-return, reads-fail}
+use Rattle.spec_fields.proofs.Exact.{reads-then, reads-map}
 use Rattle.spec_fields.proofs.Number.{Chosen, choice-reads}
 use Rattle.text.specs.Text.{Text, eqText}
 use Rattle.text.proofs.Equal.{eqText-refl, eqText-eq}
-use Rattle.spec_exi.specs.Event.{QName, Event, startDocument, endDocument, endElement, startElement, attribute, characters, comment, instruction, Kind, SD, ED, SE, AT, EE, CH, CM, PI, kindOf, nameOf, eqName}
+use Rattle.spec_exi.specs.Event.{QName, Event, startDocument, endDocument, endElement}
+use Rattle.spec_exi.specs.Event.{startElement, attribute, characters, comment, instruction}
+use Rattle.spec_exi.specs.Event.{Kind, SD, ED, SE, AT, EE, CH, CM, PI, kindOf, nameOf, eqName}
 use Rattle.spec_exi.specs.Settings.{Settings}
-use Rattle.spec_exi.specs.Grammar.{Production, unnamed, kindNumber, fitsName, fits, State, document, docContent, docEnd, finished, startTag, elementContent, Learned, learnedIn, kept, levels, allEmpty, choices, Code, atLevel, below, codeBits, raised, firstFit, codeOr, codeOf, teaches, productionFor, taught, learn, learnedAfter}
-use Rattle.spec_exi.specs.Reader.{readPart, readCode, sameCode}
+use Rattle.spec_exi.specs.Tables.{Placed}
+use Rattle.spec_exi.specs.Grammar.{Production, unnamed, kindNumber, fitsName, fits, State}
+use Rattle.spec_exi.specs.Grammar.{document, docContent, docEnd, finished, startTag}
+use Rattle.spec_exi.specs.Grammar.{elementContent, Learned, Site, tagOf, contentOf, eqSite}
+use Rattle.spec_exi.specs.Grammar.{siteOf, learnedIn, learnedAt, kept, levelsWith, levels}
+use Rattle.spec_exi.specs.Grammar.{allEmpty, choices, Code, atLevel, below, codeBits, raised}
+use Rattle.spec_exi.specs.Grammar.{firstFit, codeOr, codeOf, sameCode, teaches, taught, learn}
+use Rattle.spec_exi.specs.Reader.{readPart, readCode}
 use Rattle.spec_exi.proofs.Shape.{allowed}
 
 module _ {A : Type 0} where
@@ -332,19 +341,10 @@ agree {f} {g} h = record { at = go }
     go (comment x) = λ i. h i .6 x
     go (instruction x y) = λ i. h i .7 x y
 
--- What the element has learned in this state.
-learnedAt : State → List Learned → List Production
-learnedAt document ls = []
-learnedAt docContent ls = []
-learnedAt docEnd ls = []
-learnedAt finished ls = []
-learnedAt (startTag q outer) ls = learnedIn q true ls
-learnedAt (elementContent q outer) ls = learnedIn q false ls
-
 -- A state has codes for the events that it allows, and for those that its learned productions fit.
 coded-allowed : (s : Settings) (ls : List Learned) (st : State)
-    → Agree (λ e. isSome (codeOf (levels s ls st) e)) (λ e. oneFits (learnedAt st ls) e (allowed s st e))
-unfolding oneFits levels kept learnedAt allowed fits unnamed kindNumber nameOf fitsName
+    → Agree (λ e. isSome (codeOf (levels s ls st) e)) (λ e. oneFits (learnedAt (siteOf st) ls) e (allowed s st e))
+unfolding oneFits levels levelsWith kept learnedAt siteOf allowed fits unnamed kindNumber nameOf fitsName
 coded-allowed s ls document = agree (simp coding)
 coded-allowed s ls docContent = agree (simp coding)
 coded-allowed s ls docEnd = agree (simp coding)
@@ -355,77 +355,100 @@ coded-allowed s ls (elementContent q outer) = agree (simp coding)
 pub code-of-allowed : (s : Settings) (ls : List Learned) (st : State) (e : Event Text) → T (allowed s st e)
     → (x : Code) × (codeOf (levels s ls st) e ≡ some x)
 code-of-allowed s ls st e t =
-    is-some (codeOf (levels s ls st) e) (rw (coded-allowed s ls st .at e) (fits-more (learnedAt st ls) e (allowed s st e) t))
+    is-some (codeOf (levels s ls st) e) (rw (coded-allowed s ls st .at e) (fits-more (learnedAt (siteOf st) ls) e (allowed s st e) t))
 
 -- ---- learned productions bring no other events
 
--- The start tag (true) or the content of an element.
-within : Bool → QName Text → List (QName Text) → State
-within true = startTag
-within false = elementContent
-
--- What an element learns in its start tag or content fits only events that are allowed there.
+-- What is learned where a state learns fits only events that the state allows.
 pub LearnedOk : Settings → List Learned → Type 0
 LearnedOk s ls =
-    (tag : Bool) (q : QName Text) (outer : List (QName Text)) (e : Event Text)
-    → T (oneFits (learnedIn q tag ls) e (allowed s (within tag q outer) e)) → T (allowed s (within tag q outer) e)
+    (st : State) (e : Event Text) → T (oneFits (learnedAt (siteOf st) ls) e (allowed s st e))
+    → T (allowed s st e)
 
 pub learned-ok-start : (s : Settings) → LearnedOk s []
-unfolding LearnedOk learnedIn oneFits
-learned-ok-start s tag q outer e t = t
-
-pub allowed-of-code : (s : Settings) (ls : List Learned) (st : State) (e : Event Text) (x : Code) → LearnedOk s ls
-    → codeOf (levels s ls st) e ≡ some x → T (allowed s st e)
-unfolding LearnedOk within oneFits learnedAt
-allowed-of-code s ls st e x ok h = let t : T (isSome (codeOf (levels s ls st) e)) = rw h tt in go st (rw (coded-allowed s ls st .at e) at t)
+unfolding LearnedOk learnedAt learnedIn oneFits
+learned-ok-start s st e t = go (siteOf st) t
   where
-    go : (st : State) → T (oneFits (learnedAt st ls) e (allowed s st e)) → T (allowed s st e)
-    go document t = t
-    go docContent t = t
-    go docEnd t = t
-    go finished t = t
-    go (startTag q outer) t = ok true q outer e t
-    go (elementContent q outer) t = ok false q outer e t
+    go : (k : Option Site) → T (oneFits (learnedAt k []) e (allowed s st e)) → T (allowed s st e)
+    go none t = t
+    go (some k) t = t
+
+pub allowed-of-code : (s : Settings) (ls : List Learned) (st : State) (e : Event Text) (x : Code)
+    → LearnedOk s ls → codeOf (levels s ls st) e ≡ some x → T (allowed s st e)
+unfolding LearnedOk
+allowed-of-code s ls st e x ok h =
+    let t : T (isSome (codeOf (levels s ls st) e)) = rw h tt in
+    ok st e (rw (coded-allowed s ls st .at e) at t)
 
 -- What is learned has the kind of the event.
-taught-kind : (x : Code) (e : Event Text) → If-some (λ p. p .kind ≡ kindOf e) (taught x e)
-unfolding taught productionFor
-taught-kind x e = split (teaches x (kindOf e)) (λ t. rw t refl) (λ t. rw t tt)
+taught-kind : (ls : List Production) (x : Code) (k : Kind) (q : Option (QName Placed))
+    → If-some (λ p. p .kind ≡ k) (taught ls x k q)
+unfolding taught
+taught-kind ls x k q = split (teaches ls x k) (λ t. rw t refl) (λ t. rw t tt)
 
-module _ (s : Settings) (e : Event Text) (ls : List Learned) (ok : LearnedOk s ls) where
-  -- In a tag, or in content, kind alone decides what is allowed.
-  allowed-alike : (tag tag′ : Bool) (q p : QName Text) (outer around : List (QName Text)) (f : Event Text) → T (Bool·beq tag tag′)
-      → kindOf f ≡ kindOf e → T (allowed s (within tag′ p around) e) → T (allowed s (within tag q outer) f)
-  unfolding within allowed
-  allowed-alike true true q p outer around f b k t = rw (k, allowed) t
-  allowed-alike true false q p outer around f b k t = absurd b
-  allowed-alike false true q p outer around f b k t = absurd b
-  allowed-alike false false q p outer around f b k t = rw (k, allowed) t
+-- Where a state learns, its site and the kind decide what is allowed.
+permits : Settings → Site → Kind → Bool
+permits s (tagOf q) k =
+    elim k [
+      | SD ↦ false
+      | ED ↦ false
+      | SE ↦ true
+      | AT ↦ true
+      | EE ↦ true
+      | CH ↦ true
+      | CM ↦ s .comments
+      | PI ↦ s .instructions
+    ]
+permits s (contentOf q) k =
+    elim k [
+      | SD ↦ false
+      | ED ↦ false
+      | SE ↦ true
+      | AT ↦ false
+      | EE ↦ true
+      | CH ↦ true
+      | CM ↦ s .comments
+      | PI ↦ s .instructions
+    ]
 
-  learn-ok : (tag : Bool) (q : QName Text) (outer : List (QName Text)) (o : Option Production) → T (allowed s (within tag q outer) e)
-      → If-some (λ p. p .kind ≡ kindOf e) o → LearnedOk s (learn q tag o ls)
-  unfolding LearnedOk learn learnedIn oneFits
-  learn-ok tag q outer none t k tag′ p around f u = ok tag′ p around f u
-  learn-ok tag q outer (some x) t k tag′ p around f u = split (here && same) newest (λ c. ok tag′ p around f (rw c at u))
-    where
-      here : Bool
-      here = eqName p q
+abbrev Decides : Settings → State → Site → Type 0
+Decides s st k = (e : Event Text) → allowed s st e ≡ permits s k (kindOf e)
 
-      same : Bool
-      same = Bool·beq tag′ tag
+site-decides : (s : Settings) (st : State) → If-some (Decides s st) (siteOf st)
+unfolding siteOf allowed permits
+site-decides s document = tt
+site-decides s docContent = tt
+site-decides s docEnd = tt
+site-decides s finished = tt
+site-decides s (startTag q outer) = λ e. refl
+site-decides s (elementContent q outer) = λ e. refl
 
-      newest : (here && same) ≡ true → T (allowed s (within tag′ p around) f)
-      newest c =
-          split (fits x f)
-          (λ g. allowed-alike tag′ tag p q around outer f (right here same (is-T (here && same) c)) (cc (fits-kind x f (is-T (fits x f) g))) t)
-          (λ g. ok tag′ p around f (rw (c, g) at u))
+permits-same : (s : Settings) (j k : Site) (x : Kind) → T (eqSite j k) → permits s j x ≡ permits s k x
+unfolding permits eqSite
+permits-same s (tagOf p) (tagOf q) x t = refl
+permits-same s (tagOf p) (contentOf q) x t = absurd t
+permits-same s (contentOf p) (tagOf q) x t = absurd t
+permits-same s (contentOf p) (contentOf q) x t = refl
 
-pub learned-ok-after : (s : Settings) (ls : List Learned) (st : State) (x : Code) (e : Event Text) → T (allowed s st e) → LearnedOk s ls
-    → LearnedOk s (learnedAfter st (taught x e) ls)
-unfolding learnedAfter within
-learned-ok-after s ls document vs e t ok = ok
-learned-ok-after s ls docContent vs e t ok = ok
-learned-ok-after s ls docEnd vs e t ok = ok
-learned-ok-after s ls finished vs e t ok = ok
-learned-ok-after s ls (startTag q outer) x e t ok = learn-ok s e ls ok true q outer (taught x e) t (taught-kind x e)
-learned-ok-after s ls (elementContent q outer) x e t ok = learn-ok s e ls ok false q outer (taught x e) t (taught-kind x e)
+pub learned-ok-after : (s : Settings) (ls : List Learned) (st : State) (x : Code) (e : Event Text)
+    (n : Option (QName Placed)) → T (allowed s st e) → LearnedOk s ls
+    → LearnedOk s (learn (siteOf st) (taught (learnedAt (siteOf st) ls) x (kindOf e) n) ls)
+unfolding LearnedOk learn learnedAt learnedIn oneFits
+learned-ok-after s ls st x e n t ok st′ f u =
+    go (siteOf st) (site-decides s st) (taught (learnedAt (siteOf st) ls) x (kindOf e) n)
+    (taught-kind (learnedAt (siteOf st) ls) x (kindOf e) n) (siteOf st′) (site-decides s st′) (ok st′ f) u
+  where
+    go : (a : Option Site) → If-some (Decides s st) a → (o : Option Production)
+        → If-some (λ p. p .kind ≡ kindOf e) o → (b : Option Site) → If-some (Decides s st′) b
+        → (T (oneFits (learnedAt b ls) f (allowed s st′ f)) → T (allowed s st′ f))
+        → T (oneFits (learnedAt b (learn a o ls)) f (allowed s st′ f)) → T (allowed s st′ f)
+    go none h o i b m ok u = ok u
+    go (some k) h none i b m ok u = ok u
+    go (some k) h (some p) i none m ok u = ok u
+    go (some k) h (some p) i (some j) m ok u =
+        split (eqSite j k)
+        (λ c. split (fits p f)
+        (λ g. let same : kindOf f ≡ kindOf e = sym (fits-kind p f (is-T (fits p f) g)) ∙ i in
+        rw (m f, same, permits-same s j k (kindOf e) (is-T (eqSite j k) c), ← h e) t)
+        (λ g. ok (rw (c, g) at u)))
+        (λ c. ok (rw c at u))

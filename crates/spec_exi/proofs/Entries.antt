@@ -1,27 +1,35 @@
--- The entries of the tables are strings that were good where they stood, so a hit is as good as a literal: a string that is read is a
--- fit item, and a fit item is read.
-use mathlib.Core.Path.{_≡_, refl, sym, subst}
+-- The entries of the tables are strings that were good where they stood, so a hit is as good as a
+-- literal: a string that is read is a fit item, and a fit item is read.
+use mathlib.Core.Path.{_≡_, refl, _∙_, ap, subst}
 use mathlib.Core.List.{List, [], _∷_, _++_, map}
 use mathlib.Core.Bool.{Bool, _&&_}
-use mathlib.Core.Option.{Option, none, some, Option·none-ne-some, Option·some-injective, Option·map}
+use mathlib.Core.Option.{some, Option·none-ne-some}
 use Prim.Native.Nat.{ℕ, zero, suc, _+_, _≤_}
 use native.Mathlib.Omega.{arith}
 use lib.ListN.{length, getElem?, length-append}
-use lib.Dec.{T, leb, leb→le}
+use lib.Dec.{T, leb, leb→le, le→leb}
 use Rattle.spec_fields.specs.Bits.{Bits}
-use Rattle.spec_fields.specs.Field.{Alignment}
-use Rattle.spec_fields.proofs.Tests.{split, is-T, right}
+use Rattle.spec_fields.proofs.Tests.{split, right}
 use Rattle.spec_fields.proofs.Exact.{Every}
 use Rattle.text.specs.Text.{Text, eqText, isEmpty, allChars}
-use Rattle.text.proofs.Equal.{eqText-eq}
-use Rattle.spec_exi.specs.Sizes.{maxUris, maxNames, maxValues, maxStore}
-use Rattle.spec_exi.specs.Tables.{Placed, Entry, Tables, partition, namesOf, valuesOf, allValues, indexOf, Role, uri, local, value, target, plain, Partitions, compact, literals, partitionsOf, Form, hit, literal, hitOr, firstHit, formOf, newUri, newName, newEntry, newValue, laid, added, tablesAfter}
+use Rattle.spec_exi.specs.Settings.{Settings}
+use Rattle.spec_exi.specs.Sizes.{sizes, maxUris, maxNames, maxValues, maxStore}
+use Rattle.spec_exi.specs.Sizes.{maxString}
+use Rattle.spec_exi.specs.Tables.{Placed, Entry, Tables, partition, namesOf, valuesOf}
+use Rattle.spec_exi.specs.Tables.{allValues, Role, uri, local, value, target}
+use Rattle.spec_exi.specs.Tables.{plain, Partitions, compact, literals, partitionsOf, Form, hit}
+use Rattle.spec_exi.specs.Tables.{literal, formOf, formBits, newUri, newName}
+use Rattle.spec_exi.specs.Tables.{newEntry, newValue, laid, added, tablesAfter}
 use Rattle.spec_exi.specs.Event.{eqName}
 use Rattle.spec_exi.specs.Context.{Item, item, afterItem, afterItems}
 use Rattle.spec_exi.specs.Strict.{itemBits}
 use Rattle.spec_exi.specs.Lists.{short, withinTables}
+use Rattle.spec_exi.proofs.Codes.{If-some}
 use Rattle.spec_exi.proofs.Fit.{ItemFit, ItemsFit}
-use Rattle.spec_exi.proofs.Strings.{Hit, Means, aHit, aLiteral, partsOf, formIn, StringRead}
+use Rattle.spec_exi.proofs.Derivation.{Spelled, compactHit, compactMiss, literalHit}
+use Rattle.spec_exi.proofs.Derivation.{literalMiss}
+use Rattle.spec_exi.proofs.Strings.{Fits, aHit, laidOut, StringRead}
+use Rattle.spec_exi.proofs.Spelling.{same-form, form-same, spelled-bits, strict-spelling}
 
 -- ---- members of lists
 
@@ -50,18 +58,41 @@ module _ (P : Placed → Type 0) where
   partition-all has (x ∷ l) h =
       split (has (x .key)) (λ e. rw e (h .0, partition-all has l (h .1))) (λ e. rw e (partition-all has l (h .1)))
 
-  -- A hit is an entry.
-  pub hit-all : (t : Tables) (r : Role) (j i : ℕ) (x : Placed) → AllEntries t → Hit (partsOf (partitionsOf t r)) j i x → P x
+  slots-all : (l : List Placed) → Every P l → Every (If-some P) (map some l)
+  slots-all [] h = tt
+  slots-all (x ∷ l) h = (h .0, slots-all l (h .1))
+
+  values-all : {K : Type 0} (l : List (Entry K)) → Every P (map (λ x. x .string) l)
+      → Every (If-some P) (map (λ x. some (x .string)) l)
+  values-all [] h = tt
+  values-all (x ∷ l) h = (h .0, values-all l (h .1))
+
+  -- P holds of every entry of these partitions.
+  abbrev pub AllSlots : Partitions → Type 0
+  AllSlots (compact es) = Every (If-some P) es
+  AllSlots (literals ess) = Every (Every (If-some P)) ess
+
+  pub partitions-all : (t : Tables) (r : Role) → AllEntries t → AllSlots (partitionsOf t r)
   unfolding partitionsOf namesOf valuesOf allValues
-  hit-all t r j i x g h =
-      every-member P (h .table) i x (every-member (Every P) (partsOf (partitionsOf t r)) j (h .table) (tables r) (h .counted)) (h .entry)
-    where
-      tables : (r : Role) → Every (Every P) (partsOf (partitionsOf t r))
-      tables uri = (g .uris, tt)
-      tables (local attr u) = (partition-all (eqText u) (t .names) (g .names), tt)
-      tables (value q) = (partition-all (eqName q) (t .values) (g .values), (g .values, tt))
-      tables target = tt
-      tables plain = tt
+  partitions-all t uri g = slots-all (t .uris) (g .uris)
+  partitions-all t (local attr u) g =
+      (slots-all (namesOf t u) (partition-all (eqText u) (t .names) (g .names)), tt)
+  partitions-all t (value q) g = (
+    slots-all (partition (eqName q) (t .values)) (partition-all (eqName q) (t .values) (g .values)),
+    (values-all (t .values) (g .values), tt),
+  )
+  partitions-all t target g = tt
+  partitions-all t plain g = tt
+
+  -- What a hit names is an entry; a literal is to be as P says.
+  pub spelled-all : {s : Settings} {t : Tables} {ps : Partitions} {f : Form} {x : Placed} {w : Bits}
+      → AllSlots ps → Spelled s t ps f x w → (f ≡ literal → P x) → P x
+  spelled-all g (compactHit {es = es} {i = i} {x = x} e) h =
+      every-member (If-some P) es i (some x) g e
+  spelled-all g (compactMiss l) h = h refl
+  spelled-all g (literalHit {ess = ess} {es = es} {j = j} {i = i} {x = x} k e n) h =
+      every-member (If-some P) es i (some x) (every-member (Every (If-some P)) ess j es g k) e
+  spelled-all g (literalMiss l) h = h refl
 
   string-append : {K : Type 0} (a b : List (Entry K)) → Every P (map (λ x. x .string) a) → Every P (map (λ x. x .string) b)
       → Every P (map (λ x. x .string) (a ++ b))
@@ -100,147 +131,85 @@ module _ (P : Placed → Type 0) where
 
 pub record GoodString (x : Placed) : Type 0 where
   pub chars : T (allChars (x .text))
-  pub small : T (short (x .text))
+  pub small : T (short sizes (x .text))
 
 abbrev pub GoodTables : Tables → Type 0
 GoodTables = AllEntries GoodString
 
--- ---- the strict form of a text means that text
-
-record Found (es : List Placed) (y : Text) (i : ℕ) : Type 0 where
-  entry : Placed
-  at : getElem? es i ≡ some entry
-  is : entry .text ≡ y
-
-index-means : (es : List Placed) (y : Text) (i : ℕ) → indexOf es y ≡ some i → Found es y i
-unfolding indexOf
-index-means [] y i e = absurd (Option·none-ne-some i e)
-index-means (x ∷ es) y i e =
-    split (eqText (x .text) y)
-    (λ t. let z : 0 ≡ i = Option·some-injective 0 i (rw t at e) in
-    subst (Found (x ∷ es) y) z (record { entry = x; at = refl; is = eqText-eq (x .text) y (is-T (eqText (x .text) y) t) }))
-    (λ t. later (λ k. index-means es y k) (indexOf es y) refl (rw t at e))
-  where
-    later : ((k : ℕ) → indexOf es y ≡ some k → Found es y k) → (o : Option ℕ) → indexOf es y ≡ o → Option·map suc o ≡ some i → Found (x ∷ es) y i
-    later f none q e = absurd (Option·none-ne-some i e)
-    later f (some k) q e =
-        let m = f k q in
-        subst (Found (x ∷ es) y) (Option·some-injective (suc k) i e) (record { entry = m .entry; at = m .at; is = m .is })
-
-record HitFor (k : ℕ) (ess : List (List Placed)) (y : Text) (j i : ℕ) : Type 0 where
-  number : ℕ
-  counted : j ≡ k + number
-  entry : Placed
-  at : Hit ess number i entry
-  is : entry .text ≡ y
-
-no-literal-hit : {X : Type 0} {j i : ℕ} → literal ≡ hit j i → X
-no-literal-hit e = let z : _≡_ {A = ℕ} 0 1 = cc in absurd (omega arith)
-
-first-means : (k : ℕ) (ess : List (List Placed)) (y : Text) (j i : ℕ) → firstHit k ess y ≡ hit j i → HitFor k ess y j i
-unfolding firstHit hitOr
-first-means k [] y j i e = no-literal-hit e
-first-means k (es ∷ ess) y j i e = found (first-means (suc k) ess y j i) (indexOf es y) refl e
-  where
-    found : (firstHit (suc k) ess y ≡ hit j i → HitFor (suc k) ess y j i) → (o : Option ℕ) → indexOf es y ≡ o
-        → hitOr k o (firstHit (suc k) ess y) ≡ hit j i → HitFor k (es ∷ ess) y j i
-    found f none q e =
-        let m = f e in
-        record {
-          number = suc (m .number);
-          counted = omega (arith, m .counted);
-          entry = m .entry;
-          at = record { table = m .at .table; counted = m .at .counted; entry = m .at .entry };
-          is = m .is;
-        }
-    found f (some n) q e =
-        let m = index-means es y n q in
-        let z : n ≡ i = cc in
-        let l : k ≡ j = cc in
-        record {
-          number = 0;
-          counted = omega arith;
-          entry = m .entry;
-          at = record { table = es; counted = refl; entry = subst (λ b. getElem? es b ≡ some (m .entry)) z (m .at) };
-          is = m .is;
-        }
-
-strict-means : (ps : Partitions) (y : Text) (j i : ℕ) → formOf ps y ≡ hit j i → HitFor 0 (partsOf ps) y j i
-unfolding formOf
-strict-means (compact es) y j i e = first-means 0 (es ∷ []) y j i e
-strict-means (literals ess) y j i e = first-means 0 ess y j i e
-
 -- ---- what is read is fit, and what is fit is read
 
+-- The form that the strict form of a list has for a text.
+abbrev pub formIn : Tables → Role → Text → Form
+formIn t r x = formOf (partitionsOf t r) x
+
+no-hit-literal : {X : Type 0} {j i : ℕ} → hit j i ≡ literal → X
+no-hit-literal e = let z : _≡_ {A = ℕ} 0 1 = cc in absurd (omega arith)
+
+fits-good : {s : Settings} {t : Tables} {f : Form} {x : Placed} → Fits sizes s t f x → f ≡ literal → GoodString x
+unfolding short
+fits-good aHit e = no-hit-literal e
+fits-good (laidOut {x = x} c l m) e = record { chars = c; small = le→leb (length (x .text)) maxString l }
+
 -- A string that is read is a fit item.
-pub record ReadItem (a : Alignment) (t : Tables) (r : Role) (x : Placed) (t′ : Tables) (w : Bits) : Type 0 where
+pub record ReadItem (s : Settings) (t : Tables) (r : Role) (x : Placed) (t′ : Tables) (w : Bits) : Type 0 where
   pub fit : ItemFit t (item r (x .text))
-  pub bits : w ≡ itemBits a t (item r (x .text))
+  pub bits : w ≡ itemBits (s .alignment) t (item r (x .text))
   pub after : t′ ≡ afterItem t (item r (x .text))
 
-read-good : (a : Alignment) (t : Tables) (r : Role) (z : Placed × Tables) (w : Bits) → GoodTables t → StringRead a t r z w → GoodString (z .0)
-unfolding laid
-read-good a t r z w g h = go (formIn t r (z .0 .text)) (h .means)
-  where
-    go : (f : Form) → Means t (partitionsOf t r) (z .0) f → GoodString (z .0)
-    go f (aHit j i m) = hit-all GoodString t r j i (z .0) g m
-    go f (aLiteral y m e) = rw e (record { chars = m .chars; small = m .small })
-
-pub item-of-read : (a : Alignment) (t : Tables) (r : Role) (x : Placed) (t′ : Tables) (w : Bits) → GoodTables t → StringRead a t r (x, t′) w
-    → ReadItem a t r x t′ w
+pub item-of-read : (s : Settings) (t : Tables) (r : Role) (x : Placed) (t′ : Tables) (w : Bits)
+    → GoodTables t → StringRead sizes s t r (x, t′) w → ReadItem s t r x t′ w
 unfolding item afterItem itemBits
-item-of-read a t r x t′ w g h =
-    let b = read-good a t r (x, t′) w g h in
+item-of-read s t r x t′ w g h =
+    let b = spelled-all GoodString (partitions-all GoodString t r g) (h .spelled) (fits-good (h .fits)) in
+    let same = same-form (h .form) (formIn t r (x .text)) (h .strictly) in
+    let after = h .after ∙ ap (λ f. tablesAfter t r f (x .text)) same in
     record {
-      fit = record { chars = b .chars; small = b .small; named = h .named; room = rw (h .after) at (h .room) };
-      bits = h .bits;
-      after = h .after;
+      fit = record { chars = b .chars; small = b .small; named = h .named; room = rw after at (h .room) };
+      bits = spelled-bits (h .spelled) ∙ ap (λ f. formBits (s .alignment) (partitionsOf t r) f (x .text)) same;
+      after = after;
     }
 
-pub store-within : (t : Tables) → T (withinTables t) → length (t .store) ≤ maxStore
+pub store-within : (t : Tables) → T (withinTables sizes t) → length (t .store) ≤ maxStore
 unfolding withinTables
 store-within t h =
     leb→le (length (t .store)) maxStore
     (right (leb (length (t .uris)) maxUris && leb (length (t .names)) maxNames && leb (length (t .values)) maxValues) (leb (length (t .store)) maxStore) h)
 
-literal-fits : (t : Tables) (r : Role) (y : Text) → T (withinTables (added t r y)) → length (t .store) + length y ≤ maxStore
+literal-fits : (t : Tables) (r : Role) (y : Text) → T (withinTables sizes (added t r y)) → length (t .store) + length y ≤ maxStore
 unfolding added
 literal-fits t r y h = rw (← length-append (t .store) y) (store-within (added t r y) h)
 
 -- A fit item is read.
-pub record ItemRead (a : Alignment) (t : Tables) (r : Role) (y : Text) : Type 0 where
+pub record ItemRead (s : Settings) (t : Tables) (r : Role) (y : Text) : Type 0 where
   pub string : Placed
   pub is : string .text ≡ y
-  pub read : StringRead a t r (string, afterItem t (item r y)) (itemBits a t (item r y))
+  pub read : StringRead sizes s t r (string, afterItem t (item r y)) (itemBits (s .alignment) t (item r y))
+  pub strictly : read .form ≡ formIn t r (string .text)
 
-pub read-of-item : (a : Alignment) (t : Tables) (r : Role) (y : Text) → ItemFit t (item r y) → ItemRead a t r y
-unfolding item afterItem itemBits laid tablesAfter
-read-of-item a t r y h = go (formIn t r y) refl
+pub read-of-item : (s : Settings) (t : Tables) (r : Role) (y : Text) → ItemFit t (item r y) → ItemRead s t r y
+unfolding item afterItem itemBits short tablesAfter
+read-of-item s t r y h =
+    let m = strict-spelling s t r y (h .chars) (leb→le (length y) maxString (h .small)) in
+    let e = m .is in
+    record {
+      string = m .string;
+      is = e;
+      read = record {
+        form = formIn t r y;
+        spelled = m .spelled;
+        fits = fit (formIn t r y) (m .string) e (h .room);
+        strictly = rw e (form-same (formIn t r y));
+        named = rw e (h .named);
+        after = rw e;
+        room = h .room;
+      };
+      strictly = rw e;
+    }
   where
-    whole : (x : Placed) → x .text ≡ y → Means t (partitionsOf t r) x (formIn t r y) → ItemRead a t r y
-    whole x e m =
-        record {
-          string = x;
-          is = e;
-          read = record {
-            means = subst (λ v. Means t (partitionsOf t r) x (formIn t r v)) (sym e) m;
-            named = rw e (h .named);
-            after = rw e;
-            room = h .room;
-            bits = rw e;
-          };
-        }
-
-    go : (f : Form) → formIn t r y ≡ f → ItemRead a t r y
-    go (hit j i) q =
-        let m = strict-means (partitionsOf t r) y j i q in
-        let n : m .number ≡ j = omega (arith, m .counted) in
-        let at : Hit (partsOf (partitionsOf t r)) j i (m .entry) = subst (λ k. Hit (partsOf (partitionsOf t r)) k i (m .entry)) n (m .at) in
-        whole (m .entry) (m .is) (subst (Means t (partitionsOf t r) (m .entry)) (sym q) (aHit j i at))
-    go literal q =
-        let fits = literal-fits t r y (subst (λ f. T (withinTables (tablesAfter t r f y))) q (h .room)) in
-        whole (laid t y) refl
-        (subst (Means t (partitionsOf t r) (laid t y)) (sym q) (aLiteral y (record { chars = h .chars; small = h .small; fits = fits }) refl))
+    fit : (f : Form) (x : Placed) → x .text ≡ y → T (withinTables sizes (tablesAfter t r f y)) → Fits sizes s t f x
+    fit (hit j i) x e q = aHit
+    fit literal x e q =
+        laidOut {x = x} (rw e (h .chars)) (rw e (leb→le (length y) maxString (h .small))) (rw e (literal-fits t r y q))
 
 -- ---- the tables stay good
 

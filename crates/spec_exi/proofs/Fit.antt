@@ -1,11 +1,13 @@
--- The middle ground between reader, writer and the words of the scope: what each string, each event and a whole list has to meet on
--- its way through the contexts of the strict form. Reader and writer are proved to accept just the lists that `ListFit` describes, and
--- those are proved to be the well-formed lists inside the limits.
+-- The middle ground between reader, writer and the words of the scope: what each string, each event
+-- and a whole list has to meet on its way through the contexts of the strict form. Reader and
+-- writer are proved to accept just the lists that `ListFit` describes, and those are proved to be
+-- the well-formed lists inside the limits.
 use mathlib.Core.Path.{_≡_}
 use mathlib.Core.List.{List, [], _∷_}
 use mathlib.Core.Option.{some}
 use lib.Dec.{T}
 use Rattle.text.specs.Text.{Text, allChars}
+use Rattle.spec_exi.specs.Sizes.{sizes}
 use Rattle.spec_exi.specs.Event.{Event}
 use Rattle.spec_exi.specs.Settings.{Settings}
 use Rattle.spec_exi.specs.Tables.{Tables, nameAllowed}
@@ -16,9 +18,9 @@ use Rattle.spec_exi.specs.Lists.{short, withinTables, withinGrammars}
 -- A string of an event may stand where it stands.
 pub record ItemFit (t : Tables) (i : Item) : Type 0 where
   pub chars : T (allChars (i .text))
-  pub small : T (short (i .text))
+  pub small : T (short sizes (i .text))
   pub named : T (nameAllowed (i .role) (i .text))
-  pub room : T (withinTables (afterItem t i))
+  pub room : T (withinTables sizes (afterItem t i))
 
 abbrev pub ItemsFit : Tables → List Item → Type 0
 ItemsFit t [] = Unit {0}
@@ -29,7 +31,7 @@ pub record EventFit (s : Settings) (c : Context) (e : Event Text) : Type 0 where
   pub code : Code
   pub coded : codeOf (levelsIn s c) e ≡ some code
   pub strings : ItemsFit (c .tables) (items (c .state) (code .production) e)
-  pub grammars : T (withinGrammars (next s c e))
+  pub grammars : T (withinGrammars sizes (next s c e))
 
 -- A list may come next, up to the end of the document.
 pub data ListFit (s : Settings) : Context → List (Event Text) → Type 0 where

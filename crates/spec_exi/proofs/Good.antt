@@ -1,5 +1,6 @@
--- The lists that fit (Fit.antt) are those with a document's shape, lawful strings and a strict form that stays within the sizes
--- (Lists.antt). Event by event, through the contexts of the strict form; what holds of these is `Sound`.
+-- The lists that fit (Fit.antt) are those with a document's shape, lawful strings and a strict form
+-- that stays within the sizes (Lists.antt). Event by event, through the contexts of the strict
+-- form; what holds of these is `Sound`.
 use Prim.Native.Nat.{ℕ}
 use native.Mathlib.Omega.{arith}
 use mathlib.Core.Path.{_≡_, refl}
@@ -10,32 +11,41 @@ use lib.ListN.{length, length-append}
 use lib.Dec.{T, leb, leb→le, le→leb}
 use Rattle.spec_fields.proofs.Tests.{both, left, right}
 use Rattle.text.specs.Text.{Text, text, allChars}
-use Rattle.spec_exi.specs.Sizes.{maxUris, maxNames, maxValues, maxStore}
-use Rattle.spec_exi.specs.Event.{Event, startDocument, endDocument, endElement, startElement, attribute, characters, comment, instruction, stringsOf}
+use Rattle.spec_exi.specs.Sizes.{sizes}
+use Rattle.spec_exi.specs.Event.{Event, startDocument, endDocument, endElement, startElement}
+use Rattle.spec_exi.specs.Event.{attribute, characters, comment, instruction, stringsOf}
 use Rattle.spec_exi.specs.Settings.{Settings}
-use Rattle.spec_exi.specs.Tables.{Tables, Form, hit, literal, partitionsOf, formOf, newUri, newName, newEntry, newValue, laid, added, tablesAfter, xmlUri, xsiUri, initialEntries, addedAll, startTables, nameAllowed}
-use Rattle.spec_exi.specs.Grammar.{Production, State, document, docContent, docEnd, finished, startTag, elementContent, Code, codeOf, stateAfter}
-use Rattle.spec_exi.specs.Context.{Context, start, levelsIn, Item, item, characterRole, nameItems, items, afterItem, afterItems, after, afterCode, next}
-use Rattle.spec_exi.specs.Lists.{every, Document, namesAllowed, charsOnly, withinTables, within, staysWithin, short, shortStrings}
+use Rattle.spec_exi.specs.Tables.{Tables, Form, hit, literal, partitionsOf, formOf}
+use Rattle.spec_exi.specs.Tables.{added, tablesAfter}
+use Rattle.spec_exi.specs.Tables.{nameAllowed}
+use Rattle.spec_exi.specs.Grammar.{Production, State, document, docContent, docEnd, finished}
+use Rattle.spec_exi.specs.Grammar.{startTag, elementContent, Code, codeOf, stateAfter}
+use Rattle.spec_exi.specs.Context.{Context, start, levelsIn, Item, item, characterRole}
+use Rattle.spec_exi.specs.Context.{nameItems, items, afterItem, afterItems, after, afterCode}
+use Rattle.spec_exi.specs.Context.{next}
+use Rattle.spec_exi.specs.Lists.{every, Document, namesAllowed, charsOnly, withinTables, within}
+use Rattle.spec_exi.specs.Lists.{staysWithin, short, shortStrings}
+use Rattle.spec_exi.proofs.Step.{sane-start}
 use Rattle.spec_exi.proofs.Fit.{ItemsFit, EventFit, ListFit, done, also}
 use Rattle.spec_exi.proofs.Shape.{allowed, Run, stop, go, run-of-document, document-of-run}
-use Rattle.spec_exi.proofs.Codes.{LearnedOk, learned-ok-start, learned-ok-after, code-of-allowed, allowed-of-code}
+use Rattle.spec_exi.proofs.Codes.{LearnedOk, learned-ok-start, learned-ok-after}
+use Rattle.spec_exi.proofs.Codes.{code-of-allowed, allowed-of-code}
 
 -- ---- tables grow: what is within the sizes after a string was so before
 
 prefix-fits : {A : Type 0} (l m : List A) (n : ℕ) → T (leb (length (l ++ m)) n) → T (leb (length l) n)
 prefix-fits l m n t = omega (arith, leb→le, le→leb, length-append l m)
 
-room-before : (t : Tables) (i : Item) → T (withinTables (afterItem t i)) → T (withinTables t)
+room-before : (t : Tables) (i : Item) → T (withinTables sizes (afterItem t i)) → T (withinTables sizes t)
 unfolding afterItem tablesAfter added withinTables
 room-before t i h = before (i .written) (formOf (partitionsOf t (i .role)) (i .text)) h
   where
-    before : (b : Bool) (f : Form) → T (withinTables (cond b (tablesAfter t (i .role) f (i .text)) t)) → T (withinTables t)
+    before : (b : Bool) (f : Form) → T (withinTables sizes (cond b (tablesAfter t (i .role) f (i .text)) t)) → T (withinTables sizes t)
     before false f h = h
     before true (hit j k) h = h
     before true literal h = search (both, left, right, prefix-fits)
 
-room-before-all : (t : Tables) (is : List Item) → T (withinTables (afterItems t is)) → T (withinTables t)
+room-before-all : (t : Tables) (is : List Item) → T (withinTables sizes (afterItems t is)) → T (withinTables sizes t)
 unfolding afterItems
 room-before-all t [] h = h
 room-before-all t (i ∷ is) h = room-before t i (room-before-all (afterItem t i) is h)
@@ -45,9 +55,9 @@ room-before-all t (i ∷ is) h = room-before t i (room-before-all (afterItem t i
 -- What they have to meet, taken together.
 record StringsFit (t : Tables) (is : List Item) : Type 0 where
   chars : T (every (λ i. allChars (i .text)) is)
-  small : T (every (λ i. short (i .text)) is)
+  small : T (every (λ i. short sizes (i .text)) is)
   named : T (every (λ i. nameAllowed (i .role) (i .text)) is)
-  room : T (withinTables (afterItems t is))
+  room : T (withinTables sizes (afterItems t is))
 
 items-of-strings : (t : Tables) (is : List Item) → StringsFit t is → ItemsFit t is
 unfolding every afterItems
@@ -55,7 +65,7 @@ items-of-strings t [] h = tt
 items-of-strings t (i ∷ is) h =
     (search (left, room-before-all (afterItem t i) is (h .room)), items-of-strings (afterItem t i) is (search right))
 
-strings-of-items : (t : Tables) (is : List Item) → T (withinTables t) → ItemsFit t is → StringsFit t is
+strings-of-items : (t : Tables) (is : List Item) → T (withinTables sizes t) → ItemsFit t is → StringsFit t is
 unfolding every afterItems
 strings-of-items t [] r h = record { chars = tt; small = tt; named = tt; room = r }
 strings-of-items t (i ∷ is) r h = let later = strings-of-items (afterItem t i) is (h .0 .room) (h .1) in search both
@@ -100,37 +110,37 @@ names-are st p =
 
 -- What holds of every context that a list that fits goes through.
 pub record Sound (s : Settings) (c : Context) : Type 0 where
-  pub room : T (withinTables (c .tables))
+  pub room : T (withinTables sizes (c .tables))
   pub learned : LearnedOk s (c .learned)
 
-sound-start : (s : Settings) → Sound s start
-unfolding start startTables addedAll initialEntries added newUri newName newEntry newValue laid xmlUri xsiUri text withinTables maxUris maxNames maxValues maxStore
-sound-start s = record { room = tt; learned = learned-ok-start s }
+sound-start : (s : Settings) → Sound s (start s)
+unfolding start
+sound-start s = record { room = sane-start s .room; learned = learned-ok-start s }
 
 -- What the scope asks of an event that comes next.
 record Meet (s : Settings) (c : Context) (e : Event Text) : Type 0 where
   shape : T (allowed s (c .state) e)
   chars : T (charsOnly e)
   names : T (namesAllowed e)
-  strings : T (shortStrings e)
-  sizes : T (within (next s c e))
+  strings : T (shortStrings sizes e)
+  sizes : T (within sizes (next s c e))
 
 module _ (s : Settings) (c : Context) (e : Event Text) where
-  next-is : (x : Code) → codeOf (levelsIn s c) e ≡ some x → next s c e ≡ after c x e
-  unfolding next afterCode
+  next-is : (x : Code) → codeOf (levelsIn s c) e ≡ some x → next s c e ≡ afterCode s c (some x) e
+  unfolding next
   next-is x h = rw h
 
   fit-of-meet : Meet s c e → EventFit s c e
-  unfolding levelsIn charsOnly shortStrings within after
+  unfolding levelsIn charsOnly shortStrings within afterCode after
   fit-of-meet m =
       let (x, h) = code-of-allowed s (c .learned) (c .state) e (m .shape) in
-      let room : T (withinTables (next s c e .tables)) = search left in
+      let room : T (withinTables sizes (next s c e .tables)) = search left in
       record {
         code = x;
         coded = h;
         strings = items-of-strings (c .tables) (items (c .state) (x .production) e) (record {
           chars = rw (strings-are allChars) (m .chars);
-          small = rw (strings-are short) (m .strings);
+          small = rw (strings-are (short sizes)) (m .strings);
           named = rw names-are (m .names);
           room = rw (next-is x h) at room;
         });
@@ -138,8 +148,8 @@ module _ (s : Settings) (c : Context) (e : Event Text) where
       }
 
   module _ (f : EventFit s c e) where
-    state-next : next s c e .state ≡ stateAfter (c .state) e
-    unfolding after
+    state-next : next s c e .state ≡ stateAfter s (c .state) e
+    unfolding afterCode after
     state-next = rw (next-is (f .code) (f .coded))
 
     module _ (o : Sound s c) where
@@ -151,11 +161,11 @@ module _ (s : Settings) (c : Context) (e : Event Text) where
       shape-fits = allowed-of-code s (c .learned) (c .state) e (f .code) (o .learned) (f .coded)
 
       sound-next : Sound s (next s c e)
-      unfolding after
+      unfolding afterCode after
       sound-next =
           rw (next-is (f .code) (f .coded)) (record {
             room = strings-fit .room;
-            learned = learned-ok-after s (c .learned) (c .state) (f .code) e shape-fits (o .learned);
+            learned = learned-ok-after s (c .learned) (c .state) (f .code) e _ shape-fits (o .learned);
           })
 
       meet-of-fit : Meet s c e
@@ -165,7 +175,7 @@ module _ (s : Settings) (c : Context) (e : Event Text) where
             shape = shape-fits;
             chars = rw (strings-are allChars) at (strings-fit .chars);
             names = rw names-are at (strings-fit .named);
-            strings = rw (strings-are short) at (strings-fit .small);
+            strings = rw (strings-are (short sizes)) at (strings-fit .small);
             sizes = search (both, sound-next .room);
           }
 
@@ -175,22 +185,22 @@ pub record Meets (s : Settings) (l : List (Event Text)) : Type 0 where
   pub shape : Document s l
   pub chars : T (every charsOnly l)
   pub names : T (every namesAllowed l)
-  pub strings : T (every shortStrings l)
-  pub sizes : T (staysWithin s start l)
+  pub strings : T (every (shortStrings sizes) l)
+  pub sizes : T (staysWithin sizes s (start s) l)
 
 -- The same from any context on.
 record MeetsFrom (s : Settings) (c : Context) (l : List (Event Text)) : Type 0 where
   shape : Run s (c .state) l
   chars : T (every charsOnly l)
   names : T (every namesAllowed l)
-  strings : T (every shortStrings l)
-  sizes : T (staysWithin s c l)
+  strings : T (every (shortStrings sizes) l)
+  sizes : T (staysWithin sizes s c l)
 
 module _ {s : Settings} where
   run-ends : {st : State} → Run s st [] → st ≡ finished
   run-ends stop = refl
 
-  run-goes : {st : State} {e : Event Text} {l : List (Event Text)} → Run s st (e ∷ l) → T (allowed s st e) × Run s (stateAfter st e) l
+  run-goes : {st : State} {e : Event Text} {l : List (Event Text)} → Run s st (e ∷ l) → T (allowed s st e) × Run s (stateAfter s st e) l
   run-goes (go e t r) = (t, r)
 
   fit-from : (c : Context) (l : List (Event Text)) → Sound s c → MeetsFrom s c l → ListFit s c l
@@ -209,10 +219,10 @@ module _ {s : Settings} where
       let later = meets-from (sound-next s c e f o) r in
       search (both, go e (first .shape) (rw (state-next s c e f) at (later .shape)))
 
-pub fit-of-good : (s : Settings) (l : List (Event Text)) → Meets s l → ListFit s start l
+pub fit-of-good : (s : Settings) (l : List (Event Text)) → Meets s l → ListFit s (start s) l
 unfolding start
-fit-of-good s l m = fit-from start l (sound-start s) (search run-of-document)
+fit-of-good s l m = fit-from (start s) l (sound-start s) (search run-of-document)
 
-pub good-of-fit : (s : Settings) (l : List (Event Text)) → ListFit s start l → Meets s l
+pub good-of-fit : (s : Settings) (l : List (Event Text)) → ListFit s (start s) l → Meets s l
 unfolding start
 good-of-fit s l f = let m = meets-from (sound-start s) f in search document-of-run

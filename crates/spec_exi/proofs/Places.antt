@@ -1,40 +1,50 @@
--- Every string of an accepted list lies where the reader says: the store that the reader leaves holds it at its place. So does a name that
--- a learned production carries: its strings have entries.
-use mathlib.Core.Path.{_≡_, refl, sym, _∙_, ap, subst, subst⁻¹}
+-- Every string of an accepted list lies where the reader says: the store that the reader leaves
+-- holds it at its place. So does a name that a learned production carries: it lies where it lay
+-- when it was learned, and the store only grows. No strict form is needed here.
+use mathlib.Core.Path.{_≡_, refl, sym, _∙_, ap, subst}
 use mathlib.Core.List.{List, [], _∷_, _++_, map, append-assoc, append-nil}
 use mathlib.Core.Bool.{Bool, true}
-use mathlib.Core.Option.{Option, none, some, Option·none-ne-some}
-use Prim.Native.Nat.{ℕ, zero, suc, _+_}
+use mathlib.Core.Option.{Option, none, some}
+use Prim.Native.Nat.{ℕ, _+_}
 use native.Mathlib.Omega.{arith}
-use lib.ListN.{length, getElem?, length-append}
+use lib.ListN.{length, length-append}
 use lib.Seq.{take-append-seam, drop-append-seam}
 use lib.Dec.{leb, le→leb}
 use Rattle.spec_fields.specs.Bits.{Bits}
-use Rattle.spec_fields.specs.Field.{Alignment}
+use Rattle.spec_fields.specs.Refusal.{accepted}
 use Rattle.spec_fields.proofs.Tests.{split, T-is}
 use Rattle.spec_fields.proofs.Exact.{Every}
-use Rattle.text.specs.Text.{Text, eqText, inside, part}
-use Rattle.text.proofs.Equal.{eqText-refl}
-use Rattle.spec_exi.specs.Event.{QName, Event, startDocument, endDocument, endElement, startElement, attribute, characters, comment, instruction, Kind, mapName, mapEvent, kindOf, nameOf, stringsOf}
+use Rattle.text.specs.Text.{Text, inside, part}
+use Rattle.spec_exi.specs.Sizes.{Sizes, sizes}
+use Rattle.spec_exi.specs.Event.{QName, Event, startDocument, endDocument, endElement}
+use Rattle.spec_exi.specs.Event.{startElement, attribute, characters, comment, instruction}
+use Rattle.spec_exi.specs.Event.{Kind, mapName, mapEvent, kindOf, nameOf, stringsOf}
 use Rattle.spec_exi.specs.Settings.{Settings}
-use Rattle.spec_exi.specs.Tables.{Placed, spanOf, Entry, Tables, partition, namesOf, Role, uri, local, partitionsOf, Form, hit, literal, newUri, newName, laid, added, tablesAfter, addedAll, startTables, initialEntries}
-use Rattle.spec_exi.specs.Grammar.{Production, unnamed, State, Code, codeOf, teaches, productionFor, taught}
-use Rattle.spec_exi.specs.Context.{contextAfter, Context, start, levelsIn, Item, items, afterItem, afterItems, after, afterCode, next}
+use Rattle.spec_exi.specs.Tables.{Placed, eventText, spanOf, Tables, Role}
+use Rattle.spec_exi.specs.Tables.{Partitions, Form, hit, literal, laid, added, tablesAfter}
+use Rattle.spec_exi.specs.Tables.{addedAll, startTables, initialEntries}
+use Rattle.spec_exi.specs.Grammar.{Production, unnamed, State, siteOf, learnedAt, teaches}
+use Rattle.spec_exi.specs.Grammar.{taught}
+use Rattle.spec_exi.specs.Context.{contextAfter, Context, start, levelsIn, after}
 use Rattle.spec_exi.specs.Lists.{every}
-use Rattle.spec_fields.specs.Refusal.{accepted}
-use Rattle.spec_exi.specs.Reader.{Reading, entryOf, carried, nameText, eventText, readEvents}
+use Rattle.spec_exi.specs.Reader.{Reading, readEvents}
 use Rattle.spec_exi.specs.Claims.{storedOf, meantOne, together, meant}
 use Rattle.spec_exi.proofs.Codes.{If-some, valid-every}
-use Rattle.spec_exi.proofs.Strings.{Hit, Means, aHit, aLiteral, partsOf, formIn, StringRead}
-use Rattle.spec_exi.proofs.Entries.{AllEntries, partition-all, hit-all, added-all}
-use Rattle.spec_exi.proofs.Content.{NameRead, carriedName, writtenName, ContentRead, anSD, anED, anEE, anSE, anAT, aCH, aCM, aPI, endTables, carried-texts}
-use Rattle.spec_exi.proofs.Step.{StepRead, Sane, levels-every, step-content, step-fit, after-every, sane-next}
+use Rattle.spec_exi.proofs.Derivation.{Spelled, compactHit, compactMiss, literalHit}
+use Rattle.spec_exi.proofs.Derivation.{literalMiss}
+use Rattle.spec_exi.proofs.Strings.{StringRead}
+use Rattle.spec_exi.proofs.Entries.{AllEntries, AllSlots, partitions-all, every-member}
+use Rattle.spec_exi.proofs.Entries.{added-all}
+use Rattle.spec_exi.proofs.Content.{NameRead, carriedName, writtenName, ContentRead, anSD}
+use Rattle.spec_exi.proofs.Content.{anED, anEE, anSE, anAT, aCH, aCM, aPI}
+use Rattle.spec_exi.proofs.Step.{StepRead, Sane, levels-every, step-next, step-fit}
+use Rattle.spec_exi.proofs.Step.{learn-every, sane-next}
 use Rattle.spec_exi.proofs.Body.{Run, ends, goes, read-runs}
 
 -- ---- strings in a store
 
 -- The store holds x at its place.
-record Lies (store : Text) (x : Placed) : Type 0 where
+pub record Lies (store : Text) (x : Placed) : Type 0 where
   front : Text
   back : Text
   begins : x .place ≡ length front
@@ -55,7 +65,7 @@ laid-lies t y = record { front = t .store; back = []; begins = refl; is = sym (a
 
 -- ---- what stays when a literal joins the tables stays throughout
 
-abbrev Stable : (Tables → Type 0) → Type 0
+abbrev pub Stable : (Tables → Type 0) → Type 0
 Stable P = (t : Tables) (r : Role) (y : Text) → P t → P (added t r y)
 
 module _ (P : Tables → Type 0) (stays : Stable P) where
@@ -64,33 +74,30 @@ module _ (P : Tables → Type 0) (stays : Stable P) where
   form-stays t r (hit j i) y h = h
   form-stays t r literal y h = stays t r y h
 
-  items-stay : (t : Tables) (is : List Item) → P t → P (afterItems t is)
-  unfolding afterItems afterItem
-  items-stay t [] h = h
-  items-stay t (i ∷ is) h =
-      items-stay (afterItem t i) is
-      (split (i .written) (λ e. rw e (form-stays t (i .role) (formIn t (i .role) (i .text)) (i .text) h)) (λ e. rw e h))
-
-  next-stays : (s : Settings) (c : Context) (e : Event Text) → P (c .tables) → P (next s c e .tables)
-  unfolding next afterCode after
-  next-stays s c e h = go (codeOf (levelsIn s c) e)
-    where
-      go : (o : Option Code) → P (afterCode c o e .tables)
-      go none = h
-      go (some x) = items-stay (c .tables) (items (c .state) (x .production) e) h
-
   all-stay : (t : Tables) (xs : List (Role × Text)) → P t → P (addedAll t xs)
   unfolding addedAll
   all-stay t [] h = h
   all-stay t (x ∷ xs) h = all-stay (added t (x .0) (x .1)) xs (stays t (x .0) (x .1) h)
 
-  string-stays : {a : Alignment} {t : Tables} {r : Role} {x : Placed × Tables} {w : Bits} → StringRead a t r x w → P t → P (x .1)
-  string-stays {t} {r} {x} h p = rw (h .after) (form-stays t r (formIn t r (x .0 .text)) (x .0 .text) p)
+  string-stays : {z : Sizes} {s : Settings} {t : Tables} {r : Role} {x : Placed × Tables} {w : Bits}
+      → StringRead z s t r x w → P t → P (x .1)
+  string-stays {t} {r} {x} h p = rw (h .after) (form-stays t r (h .form) (x .0 .text) p)
 
-  name-stays : {a : Alignment} {t : Tables} {attr : Bool} {z : QName Placed × Tables} {w : Bits} {n : Option (QName Text)}
-      → NameRead a t attr z w n → P t → P (z .1)
+  name-stays : {z : Sizes} {s : Settings} {t : Tables} {attr : Bool} {a : QName Placed × Tables} {w : Bits}
+      {n : Option (QName Placed)} → NameRead z s t attr a w n → P t → P (a .1)
   name-stays (carriedName q i e) p = rw i p
   name-stays (writtenName x y u v h l i e) p = rw i (string-stays l (string-stays h p))
+
+  pub content-stays : {z : Sizes} {s : Settings} {t : Tables} {st : State} {n : Option (QName Placed)} {c : Event Placed × Tables}
+      {w : Bits} {k : Kind} → ContentRead z s t st n c w k → P t → P (c .1)
+  content-stays (anSD i j) p = rw i p
+  content-stays (anED i j) p = rw i p
+  content-stays (anEE i j) p = rw i p
+  content-stays (anSE a h i) p = rw i (name-stays h p)
+  content-stays (anAT a x u v h l i j) p = rw i (string-stays l (name-stays h p))
+  content-stays (aCH x h i) p = rw i (string-stays h p)
+  content-stays (aCM x h i) p = rw i (string-stays h p)
+  content-stays (aPI x y u v h l i j) p = rw i (string-stays l (string-stays h p))
 
 lies-stays : (x : Placed) → Stable (λ t. Lies (t .store) x)
 unfolding added
@@ -98,7 +105,7 @@ lies-stays x t r y h = lies-longer (t .store) y x h
 
 -- ---- entries
 
-every-map : {A : Type 0} {P Q : A → Type 0} → ((x : A) → P x → Q x) → (l : List A) → Every P l → Every Q l
+pub every-map : {A : Type 0} {P Q : A → Type 0} → ((x : A) → P x → Q x) → (l : List A) → Every P l → Every Q l
 every-map f [] h = tt
 every-map f (x ∷ l) h = (f x (h .0), every-map f l (h .1))
 
@@ -119,210 +126,122 @@ filed-stays t r y g =
     (laid-lies t y)
 
 -- A string that is read lies in the store after it.
-string-lies : {a : Alignment} {t : Tables} {r : Role} {x : Placed × Tables} {w : Bits} → Filed t → StringRead a t r x w
-    → Lies (x .1 .store) (x .0)
+spelled-lies : {s : Settings} {t : Tables} {ps : Partitions} {f : Form} {x : Placed} {w : Bits} (r : Role)
+    → AllSlots (Lies (t .store)) ps → Spelled s t ps f x w → Lies (tablesAfter t r f (x .text) .store) x
 unfolding tablesAfter added laid
-string-lies {t} {r} {x} g h = rw (h .after) (go (formIn t r (x .0 .text)) (h .means))
-  where
-    go : (f : Form) → Means t (partitionsOf t r) (x .0) f → Lies (tablesAfter t r f (x .0 .text) .store) (x .0)
-    go f (aHit j i m) = hit-all (Lies (t .store)) t r j i (x .0) g m
-    go f (aLiteral y m e) = rw e (laid-lies t y)
+spelled-lies {t} r g (compactHit {es = es} {i = i} {x = x} e) = every-member (If-some (Lies (t .store))) es i (some x) g e
+spelled-lies {t} r g (compactMiss {x = y} l) = laid-lies t y
+spelled-lies {t} r g (literalHit {ess = ess} {es = es} {j = j} {i = i} {x = x} k e n) =
+    every-member (If-some (Lies (t .store))) es i (some x) (every-member (Every (If-some (Lies (t .store)))) ess j es g k) e
+spelled-lies {t} r g (literalMiss {x = y} l) = laid-lies t y
+
+string-lies : {z : Sizes} {s : Settings} {t : Tables} {r : Role} {x : Placed × Tables} {w : Bits} → Filed t
+    → StringRead z s t r x w → Lies (x .1 .store) (x .0)
+string-lies {t} {r} g h = rw (h .after) (spelled-lies r (partitions-all (Lies (t .store)) t r g) (h .spelled))
 
 -- Two strings that are read one after the other.
-strings-lie : {a : Alignment} {t : Tables} {r p : Role} {x y : Placed × Tables} {u v : Bits} → Filed t → StringRead a t r x u
-    → StringRead a (x .1) p y v → Every (Lies (y .1 .store)) (x .0 ∷ y .0 ∷ [])
+strings-lie : {z : Sizes} {s : Settings} {t : Tables} {r p : Role} {x y : Placed × Tables} {u v : Bits} → Filed t
+    → StringRead z s t r x u → StringRead z s (x .1) p y v → Every (Lies (y .1 .store)) (x .0 ∷ y .0 ∷ [])
 strings-lie {x} g h l = (string-stays _ (lies-stays (x .0)) l (string-lies g h), (string-lies (string-stays Filed filed-stays h g) l, tt))
-
--- ---- names that have entries
-
--- The text has an entry.
-record Has (es : List Placed) (x : Text) : Type 0 where
-  number : ℕ
-  entry : Placed
-  at : getElem? es number ≡ some entry
-  is : entry .text ≡ x
-
-has-more : (es new : List Placed) (x : Text) → Has es x → Has (es ++ new) x
-has-more es new x h = record { number = h .number; entry = h .entry; at = go es (h .number) (h .at); is = h .is }
-  where
-    go : (es : List Placed) (i : ℕ) → getElem? es i ≡ some (h .entry) → getElem? (es ++ new) i ≡ some (h .entry)
-    go [] i e = absurd (Option·none-ne-some (h .entry) e)
-    go (y ∷ es) zero e = e
-    go (y ∷ es) (suc i) e = go es i e
-
-has-last : (es : List Placed) (e : Placed) → Has (es ++ (e ∷ [])) (e .text)
-has-last es e = record { number = length es; entry = e; at = go es; is = refl }
-  where
-    go : (es : List Placed) → getElem? (es ++ (e ∷ [])) (length es) ≡ some e
-    go [] = refl
-    go (y ∷ es) = go es
-
--- The entry that is found for it is one of them.
-entry-all : (P : Placed → Type 0) (es : List Placed) (x : Text) → Every P es → Has es x → P (entryOf es x)
-unfolding entryOf
-entry-all P es x h k = rw (← (k .is)) (go es (k .number) h (k .at))
-  where
-    y : Placed
-    y = k .entry
-
-    go : (es : List Placed) (i : ℕ) → Every P es → getElem? es i ≡ some y → P (entryOf es (y .text))
-    go [] i h m = absurd (Option·none-ne-some y m)
-    go (e ∷ es) zero h m = let same : e ≡ y = cc in rw (← same, T-is (eqText (e .text) (e .text)) (eqText-refl (e .text))) (h .0)
-    go (e ∷ es) (suc i) h m = split (eqText (e .text) (y .text)) (λ t. rw t (h .0)) (λ t. rw t (go es i (h .1) m))
-
-partition-append : {K : Type 0} (has : K → Bool) (a b : List (Entry K)) → partition has (a ++ b) ≡ partition has a ++ partition has b
-unfolding partition
-partition-append has [] b = refl
-partition-append has (x ∷ a) b = split (has (x .key)) (λ e. rw (e, partition-append has a b)) (λ e. rw (e, partition-append has a b))
-
--- URI and local name of q have entries.
-record Known (t : Tables) (q : QName Text) : Type 0 where
-  uris : Has (t .uris) (q .uri)
-  names : Has (namesOf t (q .uri)) (q .local)
-
-uri-stays : (u : Text) → Stable (λ t. Has (t .uris) u)
-unfolding added
-uri-stays u t r y h = has-more (t .uris) (newUri r (laid t y)) u h
-
-known-stays : (n : Option (QName Text)) → Stable (λ t. If-some (Known t) n)
-unfolding added namesOf
-known-stays none t r y h = tt
-known-stays (some q) t r y h =
-    record {
-      uris = uri-stays (q .uri) t r y (h .uris);
-      names = rw partition-append
-          (has-more (namesOf t (q .uri)) (partition (eqText (q .uri)) (newName r (laid t y))) (q .local) (h .names));
-    }
-
--- A string that is read by a single partition has an entry there after it.
-string-has : {a : Alignment} {t : Tables} {r : Role} {x : Placed × Tables} {w : Bits} (table : Tables → List Placed)
-    → partsOf (partitionsOf t r) ≡ table t ∷ [] → ((y : Text) → table (added t r y) ≡ table t ++ (laid t y ∷ []))
-    → StringRead a t r x w → Has (table (x .1)) (x .0 .text)
-unfolding tablesAfter laid
-string-has {t} {r} {x} table one grows h = rw (h .after) (go (formIn t r (x .0 .text)) (h .means))
-  where
-    entry : (j i : ℕ) → Hit (table t ∷ []) j i (x .0) → getElem? (table t) i ≡ some (x .0)
-    entry zero i m = let same : table t ≡ m .table = cc in rw same (m .entry)
-    entry (suc j) i m = absurd (Option·none-ne-some (m .table) (m .counted))
-
-    go : (f : Form) → Means t (partitionsOf t r) (x .0) f → Has (table (tablesAfter t r f (x .0 .text))) (x .0 .text)
-    go f (aHit j i m) = record { number = i; entry = x .0; at = entry j i (rw one at m); is = refl }
-    go f (aLiteral y m e) = rw (e, grows y) (has-last (table t) (laid t y))
-
-names-grow : (t : Tables) (attr : Bool) (u y : Text) → namesOf (added t (local attr u) y) u ≡ namesOf t u ++ (laid t y ∷ [])
-unfolding namesOf added newName partition
-names-grow t attr u y = rw (partition-append, T-is (eqText u u) (eqText-refl u))
 
 -- ---- the strings of an event
 
--- They lie in the store, and the event's name has entries.
+-- A name's strings lie in a store.
+abbrev NameLies : Text → QName Placed → Type 0
+NameLies store q = Lies store (q .uri) × Lies store (q .local)
+
+carries-stays : (n : Option (QName Placed)) → Stable (λ t. If-some (NameLies (t .store)) n)
+carries-stays none t r y h = tt
+carries-stays (some q) t r y h = (lies-stays (q .uri) t r y (h .0), lies-stays (q .local) t r y (h .1))
+
+name-lies : {z : Sizes} {s : Settings} {t : Tables} {attr : Bool} {n : Option (QName Placed)} {a : QName Placed × Tables}
+    {w : Bits} → Filed t → If-some (NameLies (t .store)) n → NameRead z s t attr a w n → NameLies (a .1 .store) (a .0)
+name-lies g k (carriedName q i e) = rw i k
+name-lies g k (writtenName x y u v h l i e) = let m = strings-lie g h l in rw i (m .0, m .1 .0)
+
+-- They lie in the store, and so does the event's name.
 record EventLies (e : Event Placed) (t : Tables) : Type 0 where
   strings : Every (Lies (t .store)) (stringsOf e)
-  known : If-some (Known t) (nameOf (eventText e))
+  name : If-some (NameLies (t .store)) (nameOf e)
 
-name-lies : {a : Alignment} {t : Tables} {attr : Bool} {n : Option (QName Text)} {z : QName Placed × Tables} {w : Bits} → Filed t
-    → If-some (Known t) n → NameRead a t attr z w n → EventLies (startElement (z .0)) (z .1)
-unfolding stringsOf nameOf eventText mapEvent mapName nameText carried namesOf partitionsOf added newUri
-name-lies {t} g k (carriedName q i e) =
-    let L = Lies (t .store) in
-    let local-lies = entry-all L (namesOf t (q .uri)) (q .local) (partition-all L (eqText (q .uri)) (t .names) (g .names)) (k .names) in
-    rw i
-    (record {
-      strings = (entry-all L (t .uris) (q .uri) (g .uris) (k .uris), (local-lies, tt));
-      known = subst⁻¹ (Known t) (carried-texts t q) k;
-    })
-name-lies {attr} g k (writtenName x y u v h l i e) =
-    rw i
-    (record {
-      strings = strings-lie g h l;
-      known = record {
-        uris = string-stays _ (uri-stays (x .0 .text)) l (string-has (λ τ. τ .uris) refl (λ b. refl) h);
-        names = string-has (λ τ. namesOf τ (x .0 .text)) refl (names-grow (x .1) attr (x .0 .text)) l;
-      };
-    })
-
-content-lies : {a : Alignment} {t : Tables} {st : State} {n : Option (QName Text)} {e : Event Placed} {w : Bits} {k : Kind} → Filed t
-    → If-some (Known t) n → (h : ContentRead a t st n e w k) → EventLies e (endTables h)
-unfolding endTables stringsOf nameOf eventText mapEvent nameText
-content-lies g k (anSD i j) = rw i (record { strings = tt; known = tt })
-content-lies g k (anED i j) = rw i (record { strings = tt; known = tt })
-content-lies g k (anEE i j) = rw i (record { strings = tt; known = tt })
-content-lies g k (anSE z h i) = rw i (name-lies g k h)
-content-lies g k (anAT z x u v h l i j) =
-    let m = name-lies g k h in
-    rw i
-    (record {
-      strings = (
-        string-stays _ (lies-stays (z .0 .uri)) l (m .strings .0),
-        (string-stays _ (lies-stays (z .0 .local)) l (m .strings .1 .0), (string-lies (name-stays Filed filed-stays h g) l, tt)),
-      );
-      known = string-stays _ (known-stays (some (nameText (z .0)))) l (m .known);
-    })
-content-lies g k (aCH x h i) = rw i (record { strings = (string-lies g h, tt); known = tt })
-content-lies g k (aCM x h i) = rw i (record { strings = (string-lies g h, tt); known = tt })
-content-lies g k (aPI x y u v h l i j) = rw i (record { strings = strings-lie g h l; known = tt })
+content-lies : {z : Sizes} {s : Settings} {t : Tables} {st : State} {n : Option (QName Placed)} {c : Event Placed × Tables}
+    {w : Bits} {k : Kind} → Filed t → If-some (NameLies (t .store)) n → ContentRead z s t st n c w k → EventLies (c .0) (c .1)
+unfolding stringsOf nameOf
+content-lies g k (anSD i j) = rw i (record { strings = tt; name = tt })
+content-lies g k (anED i j) = rw i (record { strings = tt; name = tt })
+content-lies g k (anEE i j) = rw i (record { strings = tt; name = tt })
+content-lies g k (anSE a h i) = let m = name-lies g k h in rw i (record { strings = (m .0, (m .1, tt)); name = m })
+content-lies g k (anAT a x u v h l i j) =
+    let m = string-stays _ (carries-stays (some (a .0))) l (name-lies g k h) in
+    rw i (record { strings = (m .0, (m .1, (string-lies (name-stays Filed filed-stays h g) l, tt))); name = m })
+content-lies g k (aCH x h i) = rw i (record { strings = (string-lies g h, tt); name = tt })
+content-lies g k (aCM x h i) = rw i (record { strings = (string-lies g h, tt); name = tt })
+content-lies g k (aPI x y u v h l i j) = rw i (record { strings = strings-lie g h l; name = tt })
 
 -- ---- contexts
 
--- A name that p carries has entries.
-abbrev Carries : Tables → Production → Type 0
-Carries t p = If-some (Known t) (p .qname)
+-- A name that p carries lies in the store.
+abbrev Carries : Text → Production → Type 0
+Carries store p = If-some (NameLies store) (p .qname)
 
 pub record Settled (c : Context) : Type 0 where
   filed : Filed (c .tables)
-  learned : Every (λ x. Carries (c .tables) (x .production)) (c .learned)
+  learned : Every (λ x. Carries (c .tables .store) (x .production)) (c .learned)
 
-pub settled-start : Settled start
+pub settled-start : (s : Settings) → Settled (start s)
 unfolding start startTables
-settled-start =
+settled-start s =
     record {
-      filed = all-stay Filed filed-stays _ initialEntries (record { uris = tt; names = tt; values = tt });
+      filed = all-stay Filed filed-stays _ (initialEntries s) (record { uris = tt; names = tt; values = tt });
       learned = tt;
     }
 
--- An event leaves such a context, and its strings lie in the store.
-record Settles (e : Event Placed) (c : Context) : Type 0 where
-  settled : Settled c
-  strings : Every (Lies (c .tables .store)) (stringsOf e)
+-- An event leaves such a context, its strings lie in the store, and what lay there before does so
+-- still.
+pub record Settles (c : Context) (y : Event Placed × Context) : Type 0 where
+  pub settled : Settled (y .1)
+  pub strings : Every (Lies (y .1 .tables .store)) (stringsOf (y .0))
+  pub later : (x : Placed) → Lies (c .tables .store) x → Lies (y .1 .tables .store) x
 
-step-settles : (s : Settings) (c : Context) (e : Event Placed) (w : Bits) → Sane c → Settled c → StepRead s c e w
-    → Settles e (next s c (eventText e))
-unfolding next afterCode after taught productionFor levelsIn unnamed
-step-settles s c e w g b h =
+pub step-settles : {z : Sizes} {s : Settings} {c : Context} {y : Event Placed × Context} {w : Bits} → Settled c
+    → StepRead z s c y w → Settles c y
+unfolding after taught levelsIn unnamed
+step-settles {z} {s} {c} {y} b h =
     let t = c .tables in
-    let x = h .code in
-    let is = items (c .state) (x .production) (eventText e) in
-    let (coded, m) = step-content s c e w g h in
-    let all = levels-every (Carries t) (λ k. tt) s (c .learned) (c .state) (b .learned) in
-    let known = valid-every (Carries t) (levelsIn s c) x all (h .valid) in
-    let lies = subst (EventLies e) (m .after) (content-lies (b .filed) known (h .read)) in
-    rw coded
+    let k = siteOf (c .state) in
+    let ls = learnedAt k (c .learned) in
+    let e = eventText (y .0) in
+    let all = levels-every (Carries (t .store)) (λ k. tt) s (c .learned) (c .state) (b .learned) in
+    let carries = valid-every (Carries (t .store)) (levelsIn s c) (h .code) all (h .valid) in
+    let lies = content-lies (b .filed) carries (h .read) in
+    rw (h .leaves)
     (record {
       settled = record {
-        filed = items-stay Filed filed-stays t is (b .filed);
-        learned = after-every (Carries (afterItems t is)) (c .state) (taught x (eventText e)) (c .learned)
-            (split (teaches x (kindOf (eventText e))) (λ q. rw q (lies .known)) (λ q. rw q tt))
-            (every-map (λ y. items-stay _ (known-stays (y .production .qname)) t is) (c .learned) (b .learned));
+        filed = content-stays Filed filed-stays (h .read) (b .filed);
+        learned = learn-every (Carries (h .tables .store)) k (taught ls (h .code) (kindOf e) (nameOf (y .0))) (c .learned)
+            (split (teaches ls (h .code) (kindOf e)) (λ q. rw q (lies .name)) (λ q. rw q tt))
+            (every-map (λ x. content-stays _ (carries-stays (x .production .qname)) (h .read)) (c .learned) (b .learned));
       };
       strings = lies .strings;
+      later = λ x q. content-stays _ (lies-stays x) (h .read) q;
     })
 
 -- ---- the whole list
 
 -- What lay in the store before is there still, and every string lies in it.
-record Keeps (store : Text) (r : Reading) : Type 0 where
-  later : (x : Placed) → Lies store x → Lies (r .store) x
-  strings : Every (λ e. Every (Lies (r .store)) (stringsOf e)) (r .events)
+pub record Keeps (store : Text) (r : Reading) : Type 0 where
+  pub later : (x : Placed) → Lies store x → Lies (r .store) x
+  pub strings : Every (λ e. Every (Lies (r .store)) (stringsOf e)) (r .events)
 
-run-keeps : {s : Settings} {n : ℕ} {c : Context} {bs : Bits} {r : Reading} → Sane c → Settled c → Run s n c bs r
+run-keeps : {z : Sizes} {s : Settings} {n : ℕ} {c : Context} {bs : Bits} {r : Reading} → Settled c → Run z s n c bs r
     → Keeps (c .tables .store) r
-run-keeps g b (ends f p) = record { later = λ x h. h; strings = tt }
-run-keeps {s} {c} g b (goes e w h k) =
-    let m = step-settles s c e w g b h in
-    let rest = run-keeps (sane-next s c (eventText e) g (step-fit s c e w g h .0)) (m .settled) k in
+run-keeps b (ends f p) = record { later = λ x h. h; strings = tt }
+run-keeps b (goes y w h k) =
+    let m = step-settles b h in
+    let rest = run-keeps (m .settled) k in
     record {
-      later = λ x q. rest .later x (next-stays _ (lies-stays x) s c (eventText e) q);
-      strings = (every-map (rest .later) (stringsOf e) (m .strings), rest .strings);
+      later = λ x q. rest .later x (m .later x q);
+      strings = (every-map (rest .later) (stringsOf (y .0)) (m .strings), rest .strings);
     }
 
 -- A string that lies in the store is found there.
@@ -357,23 +276,27 @@ meant-one s (characters v) h = simp (lies-inside s, lies-part s, h .0)
 meant-one s (comment x) h = simp (lies-inside s, lies-part s, h .0)
 meant-one s (instruction x y) h = simp (lies-inside s, lies-part s, h .0, h .1 .0)
 
-meant-all : (s : Text) (es : List (Event Placed)) → Every (λ e. Every (Lies s) (stringsOf e)) es
+pub meant-all : (s : Text) (es : List (Event Placed)) → Every (λ e. Every (Lies s) (stringsOf e)) es
     → meant s (map storedOf es) ≡ some (map eventText es)
 unfolding meant together
 meant-all s [] h = refl
 meant-all s (e ∷ es) h = rw (meant-one s e (h .0), meant-all s es (h .1))
 
-pub read-places : (n : ℕ) (s : Settings) (c : Context) (bs : Bits) (r : Reading) → Sane c → Settled c → readEvents n s c bs ≡ accepted r
-    → meant (r .store) (map storedOf (r .events)) ≡ some (map eventText (r .events))
-read-places n s c bs r g b q = meant-all (r .store) (r .events) (run-keeps g b (read-runs n s c bs r q) .strings)
+pub read-places : (z : Sizes) (s : Settings) (n : ℕ) (c : Context) (bs : Bits) (r : Reading) → Settled c
+    → readEvents n z s c bs ≡ accepted r → meant (r .store) (map storedOf (r .events)) ≡ some (map eventText (r .events))
+read-places z s n c bs r b q = meant-all (r .store) (r .events) (run-keeps b (read-runs z s n c bs r q) .strings)
 
--- The store at the end is that of the context at the end.
-run-store : {s : Settings} {n : ℕ} {c : Context} {bs : Bits} {r : Reading} → Run s n c bs r
+-- The store at the end is that of the context that the strict form leaves.
+run-store : {s : Settings} {n : ℕ} {c : Context} {bs : Bits} {r : Reading} → Sane c → Run sizes s n c bs r
     → r .store ≡ contextAfter s c (map eventText (r .events)) .tables .store
 unfolding contextAfter
-run-store (ends f p) = refl
-run-store (goes e w h k) = run-store k
+run-store g (ends f p) = refl
+run-store {s} {n} {c} g (goes {r = r} y w h k) =
+    let e = eventText (y .0) in
+    let same = step-next s c y w g h in
+    run-store (subst Sane (sym same) (sane-next s c e g (step-fit s c y w g h .0))) k
+    ∙ ap (λ d. contextAfter s d (map eventText (r .events)) .tables .store) same
 
-pub read-store : (n : ℕ) (s : Settings) (c : Context) (bs : Bits) (r : Reading) → readEvents n s c bs ≡ accepted r
+pub read-store : (n : ℕ) (s : Settings) (c : Context) (bs : Bits) (r : Reading) → Sane c → readEvents n sizes s c bs ≡ accepted r
     → r .store ≡ contextAfter s c (map eventText (r .events)) .tables .store
-read-store n s c bs r q = run-store (read-runs n s c bs r q)
+read-store n s c bs r g q = run-store g (read-runs sizes s n c bs r q)

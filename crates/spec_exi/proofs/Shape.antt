@@ -1,12 +1,17 @@
--- The lists with the shape of a document (Lists.antt) are those that the states of Grammar.antt run through, from the first to the last.
+-- The lists with the shape of a document (Lists.antt) are those that the states of Grammar.antt run
+-- through, from the first to the last.
 use mathlib.Core.Bool.{Bool, true, false}
 use mathlib.Core.List.{List, [], _∷_, _++_, append-assoc}
 use lib.Dec.{T}
 use Rattle.text.specs.Text.{Text}
-use Rattle.spec_exi.specs.Event.{QName, Event, startDocument, endDocument, endElement, startElement, attribute, characters, comment, instruction, SD, ED, SE, AT, EE, CH, CM, PI, kindOf}
+use Rattle.spec_exi.specs.Event.{QName, Event, startDocument, endDocument, endElement}
+use Rattle.spec_exi.specs.Event.{startElement, attribute, characters, comment, instruction, SD}
+use Rattle.spec_exi.specs.Event.{ED, SE, AT, EE, CH, CM, PI, kindOf}
 use Rattle.spec_exi.specs.Settings.{Settings}
-use Rattle.spec_exi.specs.Grammar.{State, document, docContent, docEnd, finished, startTag, elementContent, openElements, closed, inContent, stateAfter}
-use Rattle.spec_exi.specs.Lists.{Misc, Inner, anAttribute, noMore, Content, someCharacters, anElement, Document, aDocument}
+use Rattle.spec_exi.specs.Grammar.{State, document, docContent, docEnd, finished, startTag}
+use Rattle.spec_exi.specs.Grammar.{elementContent, openElements, closed, inContent, stateAfter}
+use Rattle.spec_exi.specs.Lists.{Misc, Inner, anAttribute, noMore, Content, someCharacters}
+use Rattle.spec_exi.specs.Lists.{anElement, Document, aDocument}
 
 -- The events that a state has a production for, by kind alone.
 unfoldable pub allowed : Settings → State → Event Text → Bool
@@ -25,14 +30,15 @@ allowed s (elementContent q outer) e =
 
 pub data Run (s : Settings) : State → List (Event Text) → Type 0 where
   stop : Run s finished []
-  go : {st : State} {l : List (Event Text)} (e : Event Text) → T (allowed s st e) → Run s (stateAfter st e) l → Run s st (e ∷ l)
+  go : {st : State} {l : List (Event Text)} (e : Event Text) → T (allowed s st e) → Run s (stateAfter s st e) l → Run s st (e ∷ l)
 
 -- ---- a document is run through
 
--- From the state of any element there is a run through l, the element's end and r, if there is one through r behind the element.
+-- From the state of any element there is a run through l, the element's end and r, if there is one
+-- through r behind the element.
 abbrev Through : Settings → (QName Text → List (QName Text) → State) → List (Event Text) → Type 0
 Through s state l =
-    (q : QName Text) (outer : List (QName Text)) (r : List (Event Text)) → Run s (closed (q ∷ outer)) r
+    (q : QName Text) (outer : List (QName Text)) (r : List (Event Text)) → Run s (closed s (q ∷ outer)) r
     → Run s (state q outer) (l ++ endElement ∷ r)
 
 module _ {s : Settings} where
@@ -89,9 +95,9 @@ data Rest (s : Settings) : State → List (Event Text) → Type 0 where
   whole : {l : List (Event Text)} → Document s l → Rest s document l
   before : {m i n : List (Event Text)} (q : QName Text) → Misc s m → Inner s i → Misc s n
       → Rest s docContent (m ++ startElement q ∷ (i ++ endElement ∷ (n ++ endDocument ∷ [])))
-  inTag : {q : QName Text} {outer : List (QName Text)} {i l : List (Event Text)} → Inner s i → Rest s (closed (q ∷ outer)) l
+  inTag : {q : QName Text} {outer : List (QName Text)} {i l : List (Event Text)} → Inner s i → Rest s (closed s (q ∷ outer)) l
       → Rest s (startTag q outer) (i ++ endElement ∷ l)
-  inElement : {q : QName Text} {outer : List (QName Text)} {c l : List (Event Text)} → Content s c → Rest s (closed (q ∷ outer)) l
+  inElement : {q : QName Text} {outer : List (QName Text)} {c l : List (Event Text)} → Content s c → Rest s (closed s (q ∷ outer)) l
       → Rest s (elementContent q outer) (c ++ endElement ∷ l)
   behind : {n : List (Event Text)} → Misc s n → Rest s docEnd (n ++ endDocument ∷ [])
   none : Rest s finished []
@@ -110,7 +116,7 @@ module _ {s : Settings} where
   rest-tag (inElement c r) = inTag (noMore c) r
 
   -- One event more in front.
-  extend : {l : List (Event Text)} (st : State) (e : Event Text) → T (allowed s st e) → Rest s (stateAfter st e) l → Rest s st (e ∷ l)
+  extend : {l : List (Event Text)} (st : State) (e : Event Text) → T (allowed s st e) → Rest s (stateAfter s st e) l → Rest s st (e ∷ l)
   unfolding allowed stateAfter openElements closed inContent
   extend document startDocument t (before q m i n) = whole (aDocument q m i n)
   extend document endDocument t r = absurd t

@@ -1,4 +1,5 @@
--- The writer accepts just the stored lists that mean a fitting list (`ListFit`), and gives that list's bits.
+-- The writer accepts just the stored lists that mean a fitting list (`ListFit`), and gives that
+-- list's bits.
 use Prim.Native.Nat.{ℕ, zero, suc, _≤_, zero-le, suc-le-suc}
 use native.Mathlib.Omega.{arith}
 use mathlib.Core.Path.{_≡_, refl, ap}
@@ -14,13 +15,17 @@ use Rattle.spec_fields.proofs.Tests.{T-is, is-T, both, left, right, split}
 use Rattle.text.specs.Text.{Text, Span, inside, part}
 use Rattle.spec_exi.specs.Event.{Event, mapEvent, stringsOf}
 use Rattle.spec_exi.specs.Settings.{Settings}
-use Rattle.spec_exi.specs.Sizes.{maxUris, maxNames, maxValues, maxStore}
+use Rattle.spec_exi.specs.Sizes.{sizes, maxUris, maxNames, maxValues, maxStore}
 use Rattle.spec_exi.specs.Tables.{Tables}
-use Rattle.spec_exi.specs.Grammar.{State, document, docContent, docEnd, finished, startTag, elementContent, Learned, Code, levels, codeOf, isFinished}
+use Rattle.spec_exi.specs.Grammar.{State, document, docContent, docEnd, finished, startTag}
+use Rattle.spec_exi.specs.Grammar.{elementContent, Learned, Code, levelsWith, levels, codeOf}
+use Rattle.spec_exi.specs.Grammar.{isFinished}
 use Rattle.spec_exi.specs.Context.{Context, levelsIn, Item, afterItem, next}
 use Rattle.spec_exi.specs.Strict.{eventBits, listBits}
 use Rattle.spec_exi.specs.Lists.{every, withinTables}
-use Rattle.spec_exi.specs.Writer.{Stored, Test, firstFailed, placeTests, stringTests, contentTests, eventTests, faultOf, prepended, unless, writeEvents}
+use Rattle.spec_exi.specs.Writer.{Stored, Test, firstFailed, placeTests, stringTests}
+use Rattle.spec_exi.specs.Writer.{contentTests, eventTests, faultOf, prepended, unless}
+use Rattle.spec_exi.specs.Writer.{writeEvents}
 use Rattle.spec_exi.specs.Claims.{meantOne, together, meant}
 use Rattle.spec_exi.proofs.Fit.{ItemFit, ItemsFit, EventFit, ListFit, done, also}
 
@@ -57,21 +62,21 @@ place-passed store [] = Iff·rfl
 place-passed store (x ∷ xs) = simp (T-and, place-passed store xs) Iff·rfl
 
 -- Within the tables' sizes the store limit, which is tested by itself, is kept too.
-store-room : (t : Tables) → T (withinTables t) → T (leb (length (t .store)) maxStore)
+store-room : (t : Tables) → T (withinTables sizes t) → T (leb (length (t .store)) maxStore)
 unfolding withinTables
 store-room t =
     right
     (leb (length (t .uris)) maxUris && leb (length (t .names)) maxNames && leb (length (t .values)) maxValues)
     (leb (length (t .store)) maxStore)
 
-string-passed : (t : Tables) (i : Item) → Passed (stringTests t i) ↔ ItemFit t i
+string-passed : (t : Tables) (i : Item) → Passed (stringTests sizes t i) ↔ ItemFit t i
 unfolding stringTests
 string-passed t i = (
   (λ (small, (stored, (chars, (named, (room, u))))). record { chars = chars; small = small; named = named; room = room }),
   (λ h. (h .small, (store-room (afterItem t i) (h .room), (h .chars, (h .named, (h .room, tt)))))),
 )
 
-content-passed : (t : Tables) (is : List Item) → Passed (contentTests t is) ↔ ItemsFit t is
+content-passed : (t : Tables) (is : List Item) → Passed (contentTests sizes t is) ↔ ItemsFit t is
 unfolding contentTests
 content-passed t [] = Iff·rfl
 content-passed t (i ∷ is) = simp (both-passed, string-passed, content-passed (afterItem t i) is) Iff·rfl
@@ -79,7 +84,7 @@ content-passed t (i ∷ is) = simp (both-passed, string-passed, content-passed (
 module _ (s : Settings) (c : Context) (store : Text) (e : Event Span) where
   -- By the code that the event has here, if any.
   event-passed : (o : Option Code) → codeOf (levelsIn s c) (mapEvent (part store) e) ≡ o
-      → Passed (eventTests s c store e o) ↔ (T (every (inside store) (stringsOf e)) × EventFit s c (mapEvent (part store) e))
+      → Passed (eventTests sizes s c store e o) ↔ (T (every (inside store) (stringsOf e)) × EventFit s c (mapEvent (part store) e))
   unfolding eventTests
   event-passed none no-code =
       ((λ h. absurd (h .0)), (λ h. absurd (Option·none-ne-some (h .1 .code) (cc (h .1 .coded)))))
@@ -90,14 +95,14 @@ module _ (s : Settings) (c : Context) (store : Text) (e : Event Span) where
         ((h .0, rw same at (h .1 .strings)), (h .1 .grammars, tt))),
   )
 
-  no-fault : (faultOf s c store e ≡ none) ↔ (T (every (inside store) (stringsOf e)) × EventFit s c (mapEvent (part store) e))
+  no-fault : (faultOf sizes s c store e ≡ none) ↔ (T (every (inside store) (stringsOf e)) × EventFit s c (mapEvent (part store) e))
   unfolding faultOf
   no-fault = simp none-failed (event-passed _ refl)
 
-  pub fault-none-fit : faultOf s c store e ≡ none → T (every (inside store) (stringsOf e)) × EventFit s c (mapEvent (part store) e)
+  pub fault-none-fit : faultOf sizes s c store e ≡ none → T (every (inside store) (stringsOf e)) × EventFit s c (mapEvent (part store) e)
   fault-none-fit = no-fault .0
 
-  pub fit-no-fault : T (every (inside store) (stringsOf e)) × EventFit s c (mapEvent (part store) e) → faultOf s c store e ≡ none
+  pub fit-no-fault : T (every (inside store) (stringsOf e)) × EventFit s c (mapEvent (part store) e) → faultOf sizes s c store e ≡ none
   fit-no-fault = no-fault .1
 
 -- ---- the end of a document
@@ -116,7 +121,7 @@ unfolding isFinished
 finished-is st e = rw e tt
 
 pub finished-no-code : (s : Settings) (ls : List Learned) (e : Event Text) → codeOf (levels s ls finished) e ≡ none
-unfolding levels codeOf
+unfolding levels levelsWith codeOf
 finished-no-code s ls e = refl
 
 -- Nothing comes after the end.
@@ -138,7 +143,7 @@ going-on none w (refused k i) bs h = absurd (refused≢accepted h)
 going-on (some k) w later bs h = absurd (refused≢accepted h)
 
 pub write-sound : (n : ℕ) (s : Settings) (c : Context) (store : Text) (xs : List Stored) (bs : Bits)
-    → writeEvents n s c store xs ≡ accepted bs
+    → writeEvents n sizes s c store xs ≡ accepted bs
     → (l : List (Event Text)) × (meant store xs ≡ some l) × ListFit s c l × (length l ≤ n) × (bs ≡ listBits s c l)
 unfolding writeEvents meant meantOne together listBits
 write-sound n s c store [] bs h =
@@ -149,12 +154,13 @@ write-sound zero s c store (x ∷ xs) bs h = absurd (refused≢accepted h)
 write-sound (suc n) s c store (none ∷ xs) bs h = absurd (refused≢accepted h)
 write-sound (suc n) s c store (some e ∷ xs) bs h =
     let e′ = mapEvent (part store) e in
-    let (rest, clean, more, joined) = going-on (faultOf s c store e) (eventBits s c e′) (writeEvents n s (next s c e′) store xs) bs h in
+    let (rest, clean, more, joined) = going-on (faultOf sizes s c store e) (eventBits s c e′) (writeEvents n sizes s (next s c e′) store xs) bs h in
     let (placed, fit) = fault-none-fit s c store e clean in
     let (l, means, fits, small, same) = write-sound n s (next s c e′) store xs rest more in
     (e′ ∷ l, rw (T-is (every (inside store) (stringsOf e)) placed, means), also e′ fit fits, suc-le-suc small, cc)
 
--- A stored event followed by others means something only where its strings lie inside (b) and the others mean something.
+-- A stored event followed by others means something only where its strings lie inside (b) and the
+-- others mean something.
 meant-on : (b : Bool) (e : Event Text) (later : Option (List (Event Text))) (l : List (Event Text))
     → together (cond b (some e) none) later ≡ some l
     → (rest : List (Event Text)) × T b × (later ≡ some rest) × (l ≡ e ∷ rest)
@@ -172,7 +178,7 @@ fit-on (also e fit fits) = (fit, fits)
 
 pub write-complete : (n : ℕ) (s : Settings) (c : Context) (store : Text) (xs : List Stored) (l : List (Event Text))
     → meant store xs ≡ some l → ListFit s c l → length l ≤ n
-    → writeEvents n s c store xs ≡ accepted (listBits s c l)
+    → writeEvents n sizes s c store xs ≡ accepted (listBits s c l)
 unfolding writeEvents unless prepended meant meantOne together listBits
 write-complete n s c store [] l m f h =
     let empty : l ≡ [] = cc in

@@ -1,13 +1,20 @@
--- Everything that the events before leave behind: state, string tables, learned productions and element grammars. One definition
--- says what an event leaves, for the strict form, the reader and the writer.
+-- Everything that the events before leave behind: state, string tables, learned productions and
+-- element grammars. One definition says what an event leaves, for the strict form, the reader and
+-- the writer.
 use mathlib.Core.Bool.{Bool, true, false, cond}
 use mathlib.Core.List.{List, [], _∷_, _++_}
-use mathlib.Core.Option.{Option, none, some}
-use Rattle.text.specs.Text.{Text}
-use Rattle.spec_exi.specs.Event.{QName, Event, startDocument, endDocument, endElement, startElement, attribute, characters, comment, instruction}
+use mathlib.Core.Option.{Option, none, some, Option·map}
+use Rattle.text.specs.Text.{Text, eqText}
+use Rattle.spec_exi.specs.Event.{QName, Event, startDocument, endDocument, endElement}
+use Rattle.spec_exi.specs.Event.{startElement, attribute, characters, comment, instruction}
+use Rattle.spec_exi.specs.Event.{kindOf, nameOf}
 use Rattle.spec_exi.specs.Settings.{Settings}
-use Rattle.spec_exi.specs.Tables.{Tables, Role, uri, local, value, target, plain, partitionsOf, formOf, tablesAfter, startTables}
-use Rattle.spec_exi.specs.Grammar.{Production, State, document, docContent, docEnd, finished, startTag, elementContent, Learned, Code, isWildcard, levels, codeOf, taught, learnedAfter, grammarsAfter, stateAfter}
+use Rattle.spec_exi.specs.Tables.{Placed, Tables, namesOf, Role, uri, local, value, target}
+use Rattle.spec_exi.specs.Tables.{plain, partitionsOf, formOf, tablesAfter, startTables}
+use Rattle.spec_exi.specs.Grammar.{Production, State, document, docContent, docEnd, finished}
+use Rattle.spec_exi.specs.Grammar.{startTag, elementContent, Learned, Code, isWildcard, levels}
+use Rattle.spec_exi.specs.Grammar.{codeOf, siteOf, learnedAt, taught, learn, grammarsAfter}
+use Rattle.spec_exi.specs.Grammar.{stateAfter}
 
 pub record Context : Type 0 where
   pub state : State
@@ -16,15 +23,16 @@ pub record Context : Type 0 where
   -- the names of the elements that have a grammar
   pub grammars : List (QName Text)
 
-unfoldable pub start : Context
-start = record { state = document; tables = startTables; learned = []; grammars = [] }
+unfoldable pub start : Settings → Context
+start s = record { state = document; tables = startTables s; learned = []; grammars = [] }
 
 unfoldable pub levelsIn : Settings → Context → List (List Production)
 levelsIn s c = levels s (c .learned) (c .state)
 
 -- ---- the strings of an event
 
--- A string of an event's content (EXI 4; a qname has two), where it stands, and whether it is written. A name that a learned production carries is not.
+-- A string of an event's content (EXI 4; a qname has two), where it stands, and whether it is
+-- written. A name that a learned production carries is not.
 pub record Item : Type 0 where
   pub role : Role
   pub written : Bool
@@ -36,7 +44,14 @@ item r x = record { role = r; written = true; text = x }
 -- Characters stand only inside an element, and are values of its name.
 unfoldable pub characterRole : State → Role
 characterRole st =
-    elim st [ document ↦ plain | docContent ↦ plain | docEnd ↦ plain | finished ↦ plain | startTag q o ↦ value q | elementContent q o ↦ value q ]
+    elim st [
+      | document ↦ plain
+      | docContent ↦ plain
+      | docEnd ↦ plain
+      | finished ↦ plain
+      | startTag q outer ↦ value q
+      | elementContent q outer ↦ value q
+    ]
 
 -- The two parts of a QName (EXI 7.1.7; prefixes are not kept).
 unfoldable pub nameItems : Production → Bool → QName Text → List Item
@@ -58,29 +73,54 @@ items st p (instruction x y) = item target x ∷ item plain y ∷ []
 
 -- What a string leaves, by the form that it has in the strict form.
 unfoldable pub afterItem : Tables → Item → Tables
-afterItem t i = cond (i .written) (tablesAfter t (i .role) (formOf (partitionsOf t (i .role)) (i .text)) (i .text)) t
+afterItem t i =
+    let form = formOf (partitionsOf t (i .role)) (i .text) in
+    cond (i .written) (tablesAfter t (i .role) form (i .text)) t
 
 unfoldable pub afterItems : Tables → List Item → Tables
 afterItems t [] = t
 afterItems t (i ∷ is) = afterItems (afterItem t i) is
 
--- ---- what an event with a code leaves
-unfoldable pub after : Context → Code → Event Text → Context
-after c x e =
+-- ---- what an event leaves
+
+-- What an event with this code leaves, where its strings leave these tables and its name lies
+-- there.
+unfoldable pub after :
+    Settings → Context → Code → Tables → Option (QName Placed) → Event Text → Context
+after s c x t q e =
     record {
-      state = stateAfter (c .state) e;
-      tables = afterItems (c .tables) (items (c .state) (x .production) e);
-      learned = learnedAfter (c .state) (taught x e) (c .learned);
+      state = stateAfter s (c .state) e;
+      tables = t;
+      learned =
+          let k = siteOf (c .state) in
+          learn k (taught (learnedAt k (c .learned)) x (kindOf e) q) (c .learned);
       grammars = grammarsAfter (c .grammars) e;
     }
 
-unfoldable pub afterCode : Context → Option Code → Event Text → Context
-afterCode c none e = c
-afterCode c (some x) e = after c x e
+-- The first entry with this text.
+unfoldable pub entryOf : List Placed → Text → Placed
+entryOf [] x = record { place = 0; text = x }
+entryOf (e ∷ es) x = cond (eqText (e .text) x) e (entryOf es x)
 
--- An event that no production fits stands in no well-formed list, and leaves nothing.
+-- Where the entries of a name lie.
+unfoldable pub entriesOf : Tables → QName Text → QName Placed
+entriesOf t q =
+    record {
+      uri = entryOf (t .uris) (q .uri);
+      local = entryOf (namesOf t (q .uri)) (q .local);
+    }
+
+-- Its strings leave what their strict forms leave, and its name lies where its entries lie.
+unfoldable pub afterCode : Settings → Context → Option Code → Event Text → Context
+afterCode s c none e = c
+afterCode s c (some x) e =
+    let t = afterItems (c .tables) (items (c .state) (x .production) e) in
+    after s c x t (Option·map (entriesOf t) (nameOf e)) e
+
+-- What an event leaves in the strict form. One that no production fits stands in no well-formed
+-- list, and leaves nothing.
 unfoldable pub next : Settings → Context → Event Text → Context
-next s c e = afterCode c (codeOf (levelsIn s c) e) e
+next s c e = afterCode s c (codeOf (levelsIn s c) e) e
 
 -- What a list leaves behind.
 unfoldable pub contextAfter : Settings → Context → List (Event Text) → Context

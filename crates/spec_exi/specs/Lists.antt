@@ -1,14 +1,16 @@
--- Which lists are well-formed and which are inside the limits (scope, "What is bought" and "Sizes"), by the lists themselves and their
--- strict forms.
+-- Which lists are well-formed and which are inside the limits (scope, "What is bought" and
+-- "Sizes"), by the lists themselves and their strict forms.
 use Prim.Native.Nat.{_≤_}
 use mathlib.Core.Bool.{Bool, true, false, _&&_}
 use mathlib.Core.List.{List, [], _∷_, _++_}
 use lib.ListN.{length}
 use lib.Dec.{T, leb}
 use Rattle.text.specs.Text.{Text, allChars}
-use Rattle.spec_exi.specs.Event.{QName, Event, startDocument, endDocument, endElement, startElement, attribute, characters, comment, instruction, stringsOf}
+use Rattle.spec_exi.specs.Event.{QName, Event, startDocument, endDocument, endElement}
+use Rattle.spec_exi.specs.Event.{startElement, attribute, characters, comment, instruction}
+use Rattle.spec_exi.specs.Event.{stringsOf}
 use Rattle.spec_exi.specs.Settings.{Settings}
-use Rattle.spec_exi.specs.Sizes.{maxStream, maxEvents, maxOpen, maxUris, maxNames, maxValues, maxGrammars, maxLearned, maxString, maxStore}
+use Rattle.spec_exi.specs.Sizes.{Sizes}
 use Rattle.spec_exi.specs.Tables.{Tables, local, target, nameAllowed}
 use Rattle.spec_exi.specs.Grammar.{openElements}
 use Rattle.spec_exi.specs.Context.{Context, start, next}
@@ -18,32 +20,41 @@ unfoldable pub every : {A : Type 0} → (A → Bool) → List A → Bool
 every f [] = true
 every f (x ∷ xs) = f x && every f xs
 
--- ---- well-formed: start document; comments and instructions; one element, balanced; comments and instructions; end document;
--- nothing after
+-- ---- well-formed: start document; comments and instructions; one element, balanced; comments and
+-- instructions; end document; nothing after
 
 -- Comments and instructions, as the settings keep them.
 pub data Misc (s : Settings) : List (Event Text) → Type 0 where
   nothing : Misc s []
-  aComment : {l : List (Event Text)} (x : Text) → T (s .comments) → Misc s l → Misc s (comment x ∷ l)
-  anInstruction : {l : List (Event Text)} (x y : Text) → T (s .instructions) → Misc s l → Misc s (instruction x y ∷ l)
+  aComment : {l : List (Event Text)} (x : Text) → T (s .comments) → Misc s l
+      → Misc s (comment x ∷ l)
+  anInstruction : {l : List (Event Text)} (x y : Text) → T (s .instructions) → Misc s l
+      → Misc s (instruction x y ∷ l)
 
 mutual
-  -- What stands between a start element and its end element: attributes come before any other event.
+  -- What stands between a start element and its end element: attributes come before any other
+  -- event.
   pub data Inner (s : Settings) : List (Event Text) → Type 0 where
-    anAttribute : {l : List (Event Text)} (q : QName Text) (v : Text) → Inner s l → Inner s (attribute q v ∷ l)
+    anAttribute : {l : List (Event Text)} (q : QName Text) (v : Text) → Inner s l
+        → Inner s (attribute q v ∷ l)
     noMore : {l : List (Event Text)} → Content s l → Inner s l
 
   pub data Content (s : Settings) : List (Event Text) → Type 0 where
     nothing : Content s []
     someCharacters : {l : List (Event Text)} (v : Text) → Content s l → Content s (characters v ∷ l)
-    aComment : {l : List (Event Text)} (x : Text) → T (s .comments) → Content s l → Content s (comment x ∷ l)
-    anInstruction : {l : List (Event Text)} (x y : Text) → T (s .instructions) → Content s l → Content s (instruction x y ∷ l)
+    aComment : {l : List (Event Text)} (x : Text) → T (s .comments) → Content s l
+        → Content s (comment x ∷ l)
+    anInstruction : {l : List (Event Text)} (x y : Text) → T (s .instructions) → Content s l
+        → Content s (instruction x y ∷ l)
     anElement : {inner l : List (Event Text)} (q : QName Text) → Inner s inner → Content s l
         → Content s (startElement q ∷ (inner ++ endElement ∷ l))
 
 pub data Document (s : Settings) : List (Event Text) → Type 0 where
-  aDocument : {before inner behind : List (Event Text)} (q : QName Text) → Misc s before → Inner s inner → Misc s behind
-      → Document s (startDocument ∷ (before ++ startElement q ∷ (inner ++ endElement ∷ (behind ++ endDocument ∷ []))))
+  aDocument : {before inner behind : List (Event Text)} (q : QName Text) → Misc s before
+      → Inner s inner → Misc s behind
+      → Document s
+      (startDocument ∷ (before ++ startElement q ∷ (inner ++ endElement
+      ∷ (behind ++ endDocument ∷ []))))
 
 -- No name that row 11 refuses.
 unfoldable pub namesAllowed : Event Text → Bool
@@ -59,8 +70,8 @@ namesAllowed (instruction x y) = nameAllowed target x
 unfoldable pub charsOnly : Event Text → Bool
 charsOnly e = every allChars (stringsOf e)
 
--- The scope's "well-formed list", over the texts. (That no stored event is SHAPE by itself and every string lies inside its store is said by
--- `meant`, in Claims.)
+-- The scope's "well-formed list", over the texts. (That no stored event is SHAPE by itself and
+-- every string lies inside its store is said by `meant`, in Claims.)
 pub record WellFormed (s : Settings) (l : List (Event Text)) : Type 0 where
   pub shape : Document s l
   pub chars : T (every charsOnly l)
@@ -68,32 +79,37 @@ pub record WellFormed (s : Settings) (l : List (Event Text)) : Type 0 where
 
 -- ---- inside the limits (scope, "Sizes"): the list and its strict form pass no size
 
-unfoldable pub withinTables : Tables → Bool
-withinTables t =
-    leb (length (t .uris)) maxUris && leb (length (t .names)) maxNames && leb (length (t .values)) maxValues
-    && leb (length (t .store)) maxStore
+module _ (z : Sizes) where
+  unfoldable pub withinTables : Tables → Bool
+  withinTables t =
+      leb (length (t .uris)) (z .uris)
+      && leb (length (t .names)) (z .names)
+      && leb (length (t .values)) (z .values)
+      && leb (length (t .store)) (z .store)
 
-unfoldable pub withinGrammars : Context → Bool
-withinGrammars c =
-    leb (length (openElements (c .state))) maxOpen && leb (length (c .grammars)) maxGrammars && leb (length (c .learned)) maxLearned
+  unfoldable pub withinGrammars : Context → Bool
+  withinGrammars c =
+      leb (length (openElements (c .state))) (z .opened)
+      && leb (length (c .grammars)) (z .grammars)
+      && leb (length (c .learned)) (z .learned)
 
-unfoldable pub within : Context → Bool
-within c = withinTables (c .tables) && withinGrammars c
+  unfoldable pub within : Context → Bool
+  within c = withinTables (c .tables) && withinGrammars c
 
--- Every context that the strict form goes through is within the sizes.
-unfoldable pub staysWithin : Settings → Context → List (Event Text) → Bool
-staysWithin s c [] = true
-staysWithin s c (e ∷ l) = within (next s c e) && staysWithin s (next s c e) l
+  -- Every context that the strict form goes through is within the sizes.
+  unfoldable pub staysWithin : Settings → Context → List (Event Text) → Bool
+  staysWithin s c [] = true
+  staysWithin s c (e ∷ l) = within (next s c e) && staysWithin s (next s c e) l
 
-unfoldable pub short : Text → Bool
-short x = leb (length x) maxString
+  unfoldable pub short : Text → Bool
+  short x = leb (length x) (z .string)
 
-unfoldable pub shortStrings : Event Text → Bool
-shortStrings e = every short (stringsOf e)
+  unfoldable pub shortStrings : Event Text → Bool
+  shortStrings e = every short (stringsOf e)
 
--- The scope's "inside the limits".
-pub record InsideLimits (s : Settings) (l : List (Event Text)) : Type 0 where
-  pub events : length l ≤ maxEvents
-  pub strings : T (every shortStrings l)
-  pub sizes : T (staysWithin s start l)
-  pub octets : length (strict s l) ≤ maxStream
+  -- The scope's "inside the limits".
+  pub record InsideLimits (s : Settings) (l : List (Event Text)) : Type 0 where
+    pub events : length l ≤ z .events
+    pub strings : T (every shortStrings l)
+    pub sizes : T (staysWithin s (start s) l)
+    pub octets : length (strict s l) ≤ z .stream

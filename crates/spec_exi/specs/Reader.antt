@@ -1,4 +1,5 @@
--- The reader's answer for any octets (scope, "Refusal numbers"): what it refuses, in order, or what it reads.
+-- The reader's answer for any octets (scope, "Refusal numbers"): what it refuses, in order, or what
+-- it reads.
 use Prim.Native.Nat.{ℕ, zero, suc, _+_, _-_}
 use mathlib.Core.Bool.{Bool, true, false, cond, _&&_, not}
 use mathlib.Core.List.{List, [], _∷_, map}
@@ -6,115 +7,121 @@ use mathlib.Core.Option.{Option, none, some}
 use lib.ListN.{length, getElem?}
 use lib.Dec.{leb, eqb}
 use Rattle.spec_fields.specs.Bits.{Bits, unpack, isPadding}
-use Rattle.spec_fields.specs.Refusal.{numberOf, room, settings, long, header, code, character, reference, loose, name, limit, tail, Answer, refused, accepted}
-use Rattle.spec_fields.specs.Parser.{Result, bad, got, Parser, return, fail, need, times, _>>=_, _>>_}
+use Rattle.spec_fields.specs.Refusal.{numberOf, room, settings, long, header, code, character, reference}
+use Rattle.spec_fields.specs.Refusal.{loose, name, limit, tail, Answer, refused, accepted}
+use Rattle.spec_fields.specs.Parser.{Result, bad, got, Parser, return, fail, present, need, times, _>>=_}
+use Rattle.spec_fields.specs.Parser.{_>>_}
 use Rattle.spec_fields.specs.Field.{Alignment, octet, choice, unsigned}
-use Rattle.text.specs.Text.{Text, eqText, isChar}
-use Rattle.spec_exi.specs.Event.{QName, Event, startDocument, endDocument, endElement, startElement, attribute, characters, comment, instruction, Kind, SD, ED, SE, AT, EE, CH, CM, PI, mapName, mapEvent}
+use Rattle.text.specs.Text.{Text, isChar}
+use Rattle.spec_exi.specs.Event.{QName, Event, startDocument, endDocument, endElement}
+use Rattle.spec_exi.specs.Event.{startElement, attribute, characters, comment, instruction}
+use Rattle.spec_exi.specs.Event.{Kind, SD, ED, SE, AT, EE, CH, CM, PI, nameOf}
 use Rattle.spec_exi.specs.Settings.{Settings, SettingNumbers, meaningful, settingsOf, headerOf}
-use Rattle.spec_exi.specs.Sizes.{maxStream, maxEvents, maxString, maxStore, eventCells, readerWork}
-use Rattle.spec_exi.specs.Tables.{Placed, Tables, Role, uri, local, value, target, plain, Partitions, compact, literals, partitionsOf, namesOf, Form, hit, literal, eqForm, formOf, laid, tablesAfter, nameAllowed}
-use Rattle.spec_exi.specs.Grammar.{Production, Code, State, isFinished, choices, atLevel, below, codeOf}
-use Rattle.spec_exi.specs.Context.{Context, start, levelsIn, characterRole, next}
+use Rattle.spec_exi.specs.Sizes.{Sizes, sizes, maxStore, eventCells, readerWork}
+use Rattle.spec_exi.specs.Tables.{Placed, nameText, eventText, Slot, Tables, Role, uri, local}
+use Rattle.spec_exi.specs.Tables.{value, target, plain, Partitions, compact, literals}
+use Rattle.spec_exi.specs.Tables.{partitionsOf, Form, hit, literal, eqForm, formOf, laid}
+use Rattle.spec_exi.specs.Tables.{tablesAfter, nameAllowed}
+use Rattle.spec_exi.specs.Grammar.{Production, Code, State, isFinished, choices, atLevel, below}
+use Rattle.spec_exi.specs.Grammar.{codeOf, sameCode}
+use Rattle.spec_exi.specs.Context.{Context, start, levelsIn, characterRole, after}
 use Rattle.spec_exi.specs.Lists.{withinTables, withinGrammars}
 
 -- ---- strings
 
-unfoldable pub readCharacter : Parser ℕ
-readCharacter = do
+-- A code point of a String (EXI 7.1.10): an Unsigned Integer that is a Char; else CHARACTER.
+unfoldable pub readCharacter : Settings → Parser ℕ
+readCharacter s = do
   p ← unsigned
   need (isChar p) character
   return p
 
--- A literal of n code points: the length limit, the store limit, then the characters.
-unfoldable pub readLiteral : Tables → ℕ → Parser (Form × Placed)
-readLiteral t n = do
-  need (leb n maxString) limit
-  need (leb (length (t .store) + n) maxStore) limit
-  x ← times n readCharacter
-  return (literal, laid t x)
+module _ (z : Sizes) (s : Settings) where
+  -- A literal of n code points: the length limit, the store limit, then the characters.
+  unfoldable pub readLiteral : Tables → ℕ → Parser (Form × Placed)
+  readLiteral t n = do
+    need (leb n (z .string)) limit
+    need (leb (length (t .store) + n) (z .store)) limit
+    x ← times n (readCharacter s)
+    return (literal, laid t x)
 
-unfoldable pub readHit : Alignment → ℕ → List Placed → Parser (Form × Placed)
-readHit a j es = do
-  (i, e) ← choice a reference es
-  return (hit j i, e)
+  -- A number that names no entry is REFERENCE.
+  unfoldable pub readHit : ℕ → List Slot → Parser (Form × Placed)
+  readHit j es = do
+    (i, slot) ← choice (s .alignment) reference es
+    e ← present reference slot
+    return (hit j i, e)
 
--- By partitions for literals (EXI 7.3.3): a number below the count of partitions is a hit in that one; any other is a literal's length,
--- raised by that count.
-unfoldable pub readIn : Alignment → Tables → ℕ → ℕ → Option (List Placed) → Parser (Form × Placed)
-readIn a t k v none = readLiteral t (v - k)
-readIn a t k v (some es) = readHit a v es
+  -- By partitions for literals (EXI 7.3.3): a number below the count of partitions is a hit in that
+  -- one; any other is a literal's length, raised by that count.
+  unfoldable pub readIn : Tables → ℕ → ℕ → Option (List Slot) → Parser (Form × Placed)
+  readIn t k v none = readLiteral t (v - k)
+  readIn t k v (some es) = readHit v es
 
-unfoldable pub readByLiterals : Alignment → Tables → List (List Placed) → Parser (Form × Placed)
-readByLiterals a t ess = do
-  v ← unsigned
-  readIn a t (length ess) v (getElem? ess v)
+  -- The number, and what it stands for.
+  unfoldable pub readByLiterals : Tables → List (List Slot) → Parser (Form × Placed)
+  readByLiterals t ess = do
+    v ← unsigned
+    readIn t (length ess) v (getElem? ess v)
 
--- By a partition for compact identifiers (EXI 7.3.2): 0 is a miss, i + 1 is entry i.
-unfoldable pub readEntry : Alignment → Tables → ℕ → Option Placed → Parser (Form × Placed)
-readEntry a t v none = readByLiterals a t []
-readEntry a t v (some e) = return (hit 0 (v - 1), e)
+  -- By a partition for compact identifiers (EXI 7.3.2): 0 is a miss, i + 1 is entry i.
+  unfoldable pub readEntry : Tables → ℕ → Option Slot → Parser (Form × Placed)
+  readEntry t v none = readByLiterals t []
+  readEntry t v (some slot) = do
+    e ← present reference slot
+    return (hit 0 (v - 1), e)
 
--- The form of a string, by its partitions.
-unfoldable pub readForm : Alignment → Tables → Partitions → Parser (Form × Placed)
-readForm a t (compact es) = do
-  (v, e) ← choice a reference (none ∷ map some es)
-  readEntry a t v e
-readForm a t (literals ess) = readByLiterals a t ess
+  -- The form of a string, by its partitions.
+  unfoldable pub readForm : Tables → Partitions → Parser (Form × Placed)
+  readForm t (compact es) = do
+    (v, e) ← choice (s .alignment) reference (none ∷ map some es)
+    readEntry t v e
+  readForm t (literals ess) = readByLiterals t ess
 
--- A string and the tables after it: its form, then LOOSE, NAME, its table's limit.
-unfoldable pub readString : Alignment → Tables → Role → Parser (Placed × Tables)
-readString a t r = do
-  (f, x) ← readForm a t (partitionsOf t r)
-  need (eqForm f (formOf (partitionsOf t r) (x .text))) loose
-  need (nameAllowed r (x .text)) name
-  let t′ = tablesAfter t r f (x .text)
-  need (withinTables t′) limit
-  return (x, t′)
+  -- A string and the tables after it: its form, then LOOSE, NAME, its table's limit.
+  unfoldable pub readString : Tables → Role → Parser (Placed × Tables)
+  readString t r = do
+    (f, x) ← readForm t (partitionsOf t r)
+    need (eqForm f (formOf (partitionsOf t r) (x .text))) loose
+    need (nameAllowed r (x .text)) name
+    let t′ = tablesAfter t r f (x .text)
+    need (withinTables z t′) limit
+    return (x, t′)
 
--- ---- events
+  -- ---- events
 
--- The first entry with this text. (A name that a learned production carries always has one.)
-unfoldable pub entryOf : List Placed → Text → Placed
-entryOf [] x = record { place = 0; text = x }
-entryOf (e ∷ es) x = cond (eqText (e .text) x) e (entryOf es x)
+  -- A name that a learned production carries is not read, and lies where the production has it.
+  unfoldable pub readName :
+      Tables → Bool → Option (QName Placed) → Parser (QName Placed × Tables)
+  readName t attr (some q) = return (q, t)
+  readName t attr none = do
+    (u, t₁) ← readString t uri
+    (n, t₂) ← readString t₁ (local attr (u .text))
+    return (record { uri = u; local = n }, t₂)
 
--- A name that a learned production carries lies where its entries lie.
-unfoldable pub carried : Tables → QName Text → QName Placed
-carried t q = record { uri = entryOf (t .uris) (q .uri); local = entryOf (namesOf t (q .uri)) (q .local) }
-
-unfoldable pub nameText : QName Placed → QName Text
-nameText = mapName (λ x. x .text)
-
-unfoldable pub readName : Alignment → Tables → Bool → Option (QName Text) → Parser (QName Placed × Tables)
-readName a t attr (some q) = return (carried t q, t)
-readName a t attr none = do
-  (u, t₁) ← readString a t uri
-  (n, t₂) ← readString a t₁ (local attr (u .text))
-  return (record { uri = u; local = n }, t₂)
-
--- The content of an event of this kind (EXI 4); the name that a learned production carries is not read.
-unfoldable pub readContent : Alignment → Tables → State → Kind → Option (QName Text) → Parser (Event Placed)
-readContent a t st SD n = return startDocument
-readContent a t st ED n = return endDocument
-readContent a t st EE n = return endElement
-readContent a t st SE n = do
-  (q, t₁) ← readName a t false n
-  return (startElement q)
-readContent a t st AT n = do
-  (q, t₁) ← readName a t true n
-  (v, t₂) ← readString a t₁ (value (nameText q))
-  return (attribute q v)
-readContent a t st CH n = do
-  (v, t₁) ← readString a t (characterRole st)
-  return (characters v)
-readContent a t st CM n = do
-  (x, t₁) ← readString a t plain
-  return (comment x)
-readContent a t st PI n = do
-  (x, t₁) ← readString a t target
-  (y, t₂) ← readString a t₁ plain
-  return (instruction x y)
+  -- The content of an event of this kind (EXI 4), and the tables after it.
+  unfoldable pub readContent :
+      Tables → State → Kind → Option (QName Placed) → Parser (Event Placed × Tables)
+  readContent t st SD n = return (startDocument, t)
+  readContent t st ED n = return (endDocument, t)
+  readContent t st EE n = return (endElement, t)
+  readContent t st SE n = do
+    (q, t₁) ← readName t false n
+    return (startElement q, t₁)
+  readContent t st AT n = do
+    (q, t₁) ← readName t true n
+    (v, t₂) ← readString t₁ (value (nameText q))
+    return (attribute q v, t₂)
+  readContent t st CH n = do
+    (v, t₁) ← readString t (characterRole st)
+    return (characters v, t₁)
+  readContent t st CM n = do
+    (x, t₁) ← readString t plain
+    return (comment x, t₁)
+  readContent t st PI n = do
+    (x, t₁) ← readString t target
+    (y, t₂) ← readString t₁ plain
+    return (instruction x y, t₂)
 
 unfoldable pub readPart : ℕ → Option Production → Parser Code → Parser Code
 readPart v (some p) deeper = return (atLevel v p)
@@ -129,22 +136,16 @@ readCode a (l ∷ ls) = do
   (v, p) ← choice a code (choices l ls)
   readPart v p (readCode a ls)
 
--- Whether these parts are the code's. (Parts are numbers, as code points are, and are compared alike.)
-unfoldable pub sameCode : List ℕ → Option Code → Bool
-sameCode vs none = false
-sameCode vs (some x) = eqText vs (x .parts)
-
-unfoldable pub eventText : Event Placed → Event Text
-eventText = mapEvent (λ x. x .text)
-
--- One event: its code, its content, LOOSE for the production, then open elements, element grammars and learned productions.
-unfoldable pub step : Settings → Context → Parser (Event Placed)
-step s c = do
+-- One event and the context that it leaves: its code, its content, LOOSE for the production, then
+-- open elements, element grammars and learned productions.
+unfoldable pub step : Sizes → Settings → Context → Parser (Event Placed × Context)
+step z s c = do
   x ← readCode (s .alignment) (levelsIn s c)
-  e ← readContent (s .alignment) (c .tables) (c .state) (x .production .kind) (x .production .qname)
+  (e, t) ← readContent z s (c .tables) (c .state) (x .production .kind) (x .production .qname)
   need (sameCode (x .parts) (codeOf (levelsIn s c) (eventText e))) loose
-  need (withinGrammars (next s c (eventText e))) limit
-  return e
+  let c′ = after s c x t (nameOf e) (eventText e)
+  need (withinGrammars z c′) limit
+  return (e, c′)
 
 -- ---- the whole stream
 
@@ -158,21 +159,23 @@ unfoldable pub following : Event Placed → Answer Reading → Answer Reading
 following e (refused k i) = refused k (suc i)
 following e (accepted r) = accepted (record { events = e ∷ r .events; store = r .store })
 
-unfoldable pub ending : Context → Bits → Answer Reading
-ending c rest = cond (isPadding rest) (accepted (record { events = []; store = c .tables .store })) (refused tail 0)
+-- Behind the end of the document only pad bits may stand; else TAIL.
+unfoldable pub ending : Settings → Context → Bits → Answer Reading
+ending s c rest =
+    let reading : Reading = record { events = []; store = c .tables .store } in
+    cond (isPadding rest) (accepted reading) (refused tail 0)
 
 -- What a step's result leads to; rest answers for the events after it.
-unfoldable pub onward : Settings → Context → (Context → Bits → Answer Reading) → Result (Event Placed) → Answer Reading
-onward s c rest (bad k) = refused k 0
-onward s c rest (got e bs) =
-    let c′ = next s c (eventText e) in
-    let more = rest c′ bs in
-    following e (cond (isFinished (c′ .state)) (ending c′ bs) more)
+unfoldable pub onward :
+    Settings → (Context → Bits → Answer Reading) → Result (Event Placed × Context) → Answer Reading
+onward s rest (bad k) = refused k 0
+onward s rest (got (e, c) bs) =
+    let more = rest c bs in following e (cond (isFinished (c .state)) (ending s c bs) more)
 
 -- At most n more events.
-unfoldable pub readEvents : ℕ → Settings → Context → Bits → Answer Reading
-readEvents zero s c bs = refused limit 0
-readEvents (suc n) s c bs = onward s c (λ c′ rest. readEvents n s c′ rest) (step s c bs)
+unfoldable pub readEvents : ℕ → Sizes → Settings → Context → Bits → Answer Reading
+readEvents zero z s c bs = refused limit 0
+readEvents (suc n) z s c bs = onward s (λ c′ rest. readEvents n z s c′ rest) (step z s c bs)
 
 -- Each octet of the header is a field.
 unfoldable pub readHeader : List ℕ → Parser (Unit {0})
@@ -182,13 +185,13 @@ readHeader (h ∷ hs) = do
   need (eqb o h) header
   readHeader hs
 
-unfoldable pub readBody : Settings → Result (Unit {0}) → Answer Reading
-readBody s (bad k) = refused k 0
-readBody s (got u bs) = readEvents maxEvents s start bs
+unfoldable pub readBody : Sizes → Settings → Result (Unit {0}) → Answer Reading
+readBody z s (bad k) = refused k 0
+readBody z s (got u bs) = readEvents (z .events) z s (start s) bs
 
 -- The header, then the events.
-unfoldable pub readStream : Settings → List ℕ → Answer Reading
-readStream s stream = readBody s (readHeader (headerOf s) (unpack stream))
+unfoldable pub readStream : Sizes → Settings → List ℕ → Answer Reading
+readStream z s stream = readBody z s (readHeader (headerOf s) (unpack stream))
 
 -- The lengths of the parts that are lent, in cells.
 pub record ReaderRoom : Type 0 where
@@ -199,13 +202,17 @@ pub record ReaderRoom : Type 0 where
 unfoldable pub enoughToRead : ReaderRoom → Bool
 enoughToRead r = leb eventCells (r .events) && leb maxStore (r .text) && leb readerWork (r .work)
 
--- The reader's answer: ROOM, SETTINGS, LONG, then in stream order.
-unfoldable pub read : ReaderRoom → SettingNumbers → List ℕ → Answer Reading
-read r o stream =
+-- The reader's answer under these sizes: ROOM, SETTINGS, LONG, then in stream order.
+unfoldable pub readSized : Sizes → ReaderRoom → SettingNumbers → List ℕ → Answer Reading
+readSized z r o stream =
     cond (not (enoughToRead r)) (refused room 0)
     (cond (not (meaningful o)) (refused settings 0)
-    (cond (not (leb (length stream) maxStream)) (refused long 0)
-    (readStream (settingsOf o) stream)))
+    (cond (not (leb (length stream) (z .stream))) (refused long 0)
+    (readStream z (settingsOf o) stream)))
+
+-- The reader's answer.
+unfoldable pub read : ReaderRoom → SettingNumbers → List ℕ → Answer Reading
+read = readSized sizes
 
 -- The list of an answer, without the places.
 unfoldable pub listOf : Answer Reading → Answer (List (Event Text))
@@ -221,4 +228,10 @@ pub record ReadReply : Type 0 where
 
 unfoldable pub readReply : Answer Reading → ReadReply
 readReply (refused k i) = record { number = numberOf k; index = i; events = 0; codePoints = 0 }
-readReply (accepted r) = record { number = 0; index = 0; events = length (r .events); codePoints = length (r .store) }
+readReply (accepted r) =
+    record {
+      number = 0;
+      index = 0;
+      events = length (r .events);
+      codePoints = length (r .store);
+    }

@@ -1,28 +1,49 @@
--- What the two sides agree on outside the stream (scope, "What is bought"), and the header that follows from it.
+-- What the two sides agree on outside the stream (scope, "What is bought"), and the header that
+-- follows from it.
 use Prim.Native.Nat.{ℕ}
 use mathlib.Core.Bool.{Bool, cond, _&&_}
 use mathlib.Core.List.{List, [], _∷_, _++_}
 use lib.Dec.{eqb, leb}
 use Rattle.spec_fields.specs.Field.{Alignment, bitPacked, byteAligned}
 
--- There is no schema. All else is as EXI's default options have it: no prefixes, DTD, lexical values or self-contained elements are kept, nothing is compressed or a
--- fragment, and value capacity and length are unbounded.
+-- There is no schema. All else is as EXI's default options have it: no prefixes, DTD, lexical
+-- values or self-contained elements are kept, nothing is compressed or a fragment, and value
+-- capacity and length are unbounded.
 pub record Settings : Type 0 where
   pub alignment : Alignment
   pub cookie : Bool
   pub comments : Bool
   pub instructions : Bool
 
--- The settings' numbers, as a caller hands them over.
+-- The settings' numbers, as a caller hands them over: all 0 is the base.
 pub record SettingNumbers : Type 0 where
   pub alignment : ℕ
   pub cookie : ℕ
   pub comments : ℕ
   pub instructions : ℕ
+  -- reserved: 0 is EXI's default (EXI 5.4), and no other number has a meaning yet. Of the two
+  -- for values 0 is unbounded, and a bound n is to be n + 1
+  pub fragment : ℕ
+  pub valueLength : ℕ
+  pub valueCapacity : ℕ
+  pub loose : ℕ
+  pub prefixes : ℕ
+  pub grammarCap : ℕ
 
--- Each number has a meaning (which numbers is our choice): alignment 0 is bit-packed and 1 byte-aligned, each of the others 0 is no and 1 yes.
+-- Each number has a meaning (which numbers is our choice): alignment 0 is bit-packed and 1
+-- byte-aligned, cookie, comments and instructions 0 is no and 1 yes.
 unfoldable pub meaningful : SettingNumbers → Bool
-meaningful o = leb (o .alignment) 1 && leb (o .cookie) 1 && leb (o .comments) 1 && leb (o .instructions) 1
+meaningful o =
+    leb (o .alignment) 1
+    && leb (o .cookie) 1
+    && leb (o .comments) 1
+    && leb (o .instructions) 1
+    && eqb (o .fragment) 0
+    && eqb (o .valueLength) 0
+    && eqb (o .valueCapacity) 0
+    && eqb (o .loose) 0
+    && eqb (o .prefixes) 0
+    && eqb (o .grammarCap) 0
 
 unfoldable pub settingsOf : SettingNumbers → Settings
 settingsOf o =
@@ -33,6 +54,7 @@ settingsOf o =
       instructions = eqb (o .instructions) 1;
     }
 
--- The octets of the header (EXI 5; scope, "Fields"): the cookie "$EXI" if set, then bits 10, no options, version 1.
+-- The octets of the header (EXI 5; scope, "Fields"): the cookie "$EXI" if set, then bits 10, no
+-- options, version 1.
 unfoldable pub headerOf : Settings → List ℕ
 headerOf s = cond (s .cookie) (0x24 ∷ 0x45 ∷ 0x58 ∷ 0x49 ∷ []) [] ++ (0x80 ∷ [])

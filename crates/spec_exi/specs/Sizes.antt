@@ -39,10 +39,40 @@ maxString = 1024
 unfoldable pub maxStore : ℕ
 maxStore = 16384
 
+-- The sizes that LIMIT and LONG speak of. Definitions take them as z: a claim can speak of two
+-- sets.
+pub record Sizes : Type 0 where
+  pub stream : ℕ
+  pub events : ℕ
+  pub opened : ℕ
+  pub uris : ℕ
+  pub names : ℕ
+  pub values : ℕ
+  pub grammars : ℕ
+  pub learned : ℕ
+  pub string : ℕ
+  pub store : ℕ
+
+-- The scope's.
+abbrev pub sizes : Sizes
+sizes =
+    record {
+      stream = maxStream;
+      events = maxEvents;
+      opened = maxOpen;
+      uris = maxUris;
+      names = maxNames;
+      values = maxValues;
+      grammars = maxGrammars;
+      learned = maxLearned;
+      string = maxString;
+      store = maxStore;
+    }
+
 -- ---- what is lent, in cells of 32 bits (ours: docs/MEMORY.md)
 
 unfoldable pub cellsPerEvent : ℕ
-cellsPerEvent = 7
+cellsPerEvent = 9
 
 unfoldable pub eventCells : ℕ
 eventCells = cellsPerEvent * maxEvents

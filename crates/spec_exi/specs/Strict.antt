@@ -1,5 +1,5 @@
--- The strict form of a list (scope, "Grammars"; ours): the header, then each event's code and content in list order, by the tables and
--- grammars as everything before has left them.
+-- The strict form of a list (scope, "Grammars"; ours): the header, then each event's code and
+-- content in list order, by the tables and grammars as everything before has left them.
 use mathlib.Core.Bool.{cond}
 use mathlib.Core.List.{List, [], _∷_, _++_}
 use mathlib.Core.Option.{Option, none, some}
@@ -15,13 +15,16 @@ use Rattle.spec_exi.specs.Context.{Context, start, levelsIn, Item, items
 
 -- A string of an event, as the tables before it have it written.
 unfoldable pub itemBits : Alignment → Tables → Item → Bits
-itemBits a t i = cond (i .written) (formBits a (partitionsOf t (i .role)) (formOf (partitionsOf t (i .role)) (i .text)) (i .text)) []
+itemBits a t i =
+    let ps = partitionsOf t (i .role) in
+    cond (i .written) (formBits a ps (formOf ps (i .text)) (i .text)) []
 
 unfoldable pub itemsBits : Alignment → Tables → List Item → Bits
 itemsBits a t [] = []
 itemsBits a t (i ∷ is) = itemBits a t i ++ itemsBits a (afterItem t i) is
 
--- The code and the content. An event that no production fits stands in no well-formed list, and has no bits.
+-- The code and the content. An event that no production fits stands in no well-formed list, and has
+-- no bits.
 unfoldable pub codedBits : Settings → Context → Option Code → Event Text → Bits
 codedBits s c none e = []
 codedBits s c (some x) e =
@@ -38,4 +41,4 @@ listBits s c (e ∷ l) = eventBits s c e ++ listBits s (next s c e) l
 
 -- The scope's "strict form of a list".
 unfoldable pub strict : Settings → List (Event Text) → List ℕ
-strict s l = pack (unpack (headerOf s) ++ listBits s start l)
+strict s l = pack (unpack (headerOf s) ++ listBits s (start s) l)

@@ -8,12 +8,20 @@ use lib.Dec.{eqb}
 use Rattle.spec_fields.specs.Bits.{Bits, each}
 use Rattle.spec_fields.specs.Field.{Alignment, choiceBits, unsignedBits}
 use Rattle.text.specs.Text.{Text, Span, text, eqText, isEmpty}
-use Rattle.spec_exi.specs.Event.{QName, eqName}
+use Rattle.spec_exi.specs.Event.{QName, Event, mapName, mapEvent, eqName}
+use Rattle.spec_exi.specs.Settings.{Settings}
 
 -- A text and where it begins in the text store.
 pub record Placed : Type 0 where
   pub place : ℕ
   pub text : Text
+
+-- A name and an event, by their texts.
+unfoldable pub nameText : QName Placed → QName Text
+nameText = mapName (λ x. x .text)
+
+unfoldable pub eventText : Event Placed → Event Text
+eventText = mapEvent (λ x. x .text)
 
 unfoldable pub spanOf : Placed → Span
 spanOf x = record { place = x .place; size = length (x .text) }
@@ -23,8 +31,8 @@ pub record Entry (K : Type 0) : Type 0 where
   pub key : K
   pub string : Placed
 
--- The tables, each in order of insertion, and the text store: the initial entries in table order, then every literal in stream order (scope,
--- "Sizes").
+-- The tables, each in order of insertion, and the text store: the initial entries in table order,
+-- then every literal in stream order (scope, "Sizes").
 pub record Tables : Type 0 where
   pub uris : List Placed
   -- local names, by URI
@@ -33,24 +41,37 @@ pub record Tables : Type 0 where
   pub values : List (Entry (QName Text))
   pub store : Text
 
--- The entries of a partition. An entry's compact identifier there is its number in this list.
+-- The entries of a partition, in order.
 unfoldable pub partition : {K : Type 0} → (K → Bool) → List (Entry K) → List Placed
 partition has [] = []
-partition has (x ∷ xs) = cond (has (x .key)) (x .string ∷ partition has xs) (partition has xs)
+partition has (x ∷ xs) =
+    cond (has (x .key)) (x .string ∷ partition has xs) (partition has xs)
 
 unfoldable pub namesOf : Tables → Text → List Placed
 namesOf t u = partition (eqText u) (t .names)
 
-unfoldable pub valuesOf : Tables → QName Text → List Placed
-valuesOf t q = partition (eqName q) (t .values)
+-- What a compact identifier of a partition stands for: the entry with this number (EXI 7.3.2,
+-- 7.3.3), or none where it has none. (Every entry is there to stay, as yet.)
+abbrev pub Slot : Type 0
+Slot = Option Placed
 
-unfoldable pub allValues : Tables → List Placed
-allValues t = map (λ x. x .string) (t .values)
+-- The values local to a name, and all values (EXI 7.3.3).
+unfoldable pub valuesOf : Tables → QName Text → List Slot
+valuesOf t q = map some (partition (eqName q) (t .values))
+
+unfoldable pub allValues : Tables → List Slot
+allValues t = map (λ x. some (x .string)) (t .values)
+
+-- A number without an entry has no text.
+unfoldable pub hasText : Slot → Text → Bool
+hasText none x = false
+hasText (some e) x = eqText (e .text) x
 
 -- The compact identifier of a text.
-unfoldable pub indexOf : List Placed → Text → Option ℕ
+unfoldable pub indexOf : List Slot → Text → Option ℕ
 indexOf [] x = none
-indexOf (e ∷ es) x = let later = Option·map suc (indexOf es x) in cond (eqText (e .text) x) (some 0) later
+indexOf (e ∷ es) x =
+    let later = Option·map suc (indexOf es x) in cond (hasText e x) (some 0) later
 
 -- ---- where a string stands, and by which partitions
 
@@ -68,15 +89,15 @@ pub data Role : Type 0 where
 
 pub data Partitions : Type 0 where
   -- optimized for frequent use of compact identifiers (EXI 7.3.2)
-  compact : List Placed → Partitions
-  -- optimized for frequent use of string literals (EXI 7.3.3): none, the local names of a URI, or a name's values and all values. A
-  -- String by no table (EXI 7.1.10) is the case of none
-  literals : List (List Placed) → Partitions
+  compact : List Slot → Partitions
+  -- optimized for frequent use of string literals (EXI 7.3.3): none, the local names of a URI, or a
+  -- name's values and all values. A String by no table (EXI 7.1.10) is the case of none
+  literals : List (List Slot) → Partitions
 
 -- The partitions of a role (EXI 7.3.1; scope, "String tables").
 unfoldable pub partitionsOf : Tables → Role → Partitions
-partitionsOf t uri = compact (t .uris)
-partitionsOf t (local attr u) = literals (namesOf t u ∷ [])
+partitionsOf t uri = compact (map some (t .uris))
+partitionsOf t (local attr u) = literals (map some (namesOf t u) ∷ [])
 partitionsOf t (value q) = literals (valuesOf t q ∷ allValues t ∷ [])
 partitionsOf t target = literals []
 partitionsOf t plain = literals []
@@ -100,11 +121,12 @@ hitOr j none f = f
 hitOr j (some i) f = hit j i
 
 -- A hit in the first of these partitions that has the text, counted from j, or else the literal.
-unfoldable pub firstHit : ℕ → List (List Placed) → Text → Form
+unfoldable pub firstHit : ℕ → List (List Slot) → Text → Form
 firstHit j [] x = literal
 firstHit j (es ∷ ess) x = let later = firstHit (suc j) ess x in hitOr j (indexOf es x) later
 
--- The form in the strict form of a list (scope, "Grammars"): a table hit where one exists, local before global.
+-- The form in the strict form of a list (scope, "Grammars"): a table hit where one exists, local
+-- before global.
 unfoldable pub formOf : Partitions → Text → Form
 formOf (compact es) x = firstHit 0 (es ∷ []) x
 formOf (literals ess) x = firstHit 0 ess x
@@ -113,27 +135,37 @@ formOf (literals ess) x = firstHit 0 ess x
 unfoldable pub stringBits : ℕ → Text → Bits
 stringBits k x = unsignedBits (length x + k) ++ each unsignedBits x
 
--- A URI: a choice among m + 1, i + 1 for a hit, 0 for a miss, and the String (EXI 7.3.2). Else a miss is the String, its length raised by the number of
--- partitions; a hit is the partition's number, then a choice among its entries (EXI 7.3.3; scope, "String tables").
+-- A URI: a choice among m + 1, i + 1 for a hit, 0 for a miss, and the String (EXI 7.3.2). Else a
+-- miss is the String, its length raised by the number of partitions; a hit is the partition's
+-- number, then a choice among its entries (EXI 7.3.3; scope, "String tables").
 unfoldable pub formBits : Alignment → Partitions → Form → Text → Bits
 formBits a (compact es) (hit j i) x = choiceBits a (suc (length es)) (suc i)
 formBits a (compact es) literal x = choiceBits a (suc (length es)) 0 ++ stringBits 0 x
 formBits a (literals ess) (hit j i) x = unsignedBits j ++ choiceBits a (length (getD ess j [])) i
 formBits a (literals ess) literal x = stringBits (length ess) x
 
--- ---- what a string leaves in the tables (EXI 7.3: a hit leaves nothing, a literal joins its partition; 7.3.3: an empty value joins none)
+-- ---- what a string leaves in the tables (EXI 7.3: a hit leaves nothing, a literal joins its
+-- partition; 7.3.3: an empty value joins none)
 
 unfoldable pub newUri : Role → Placed → List Placed
 newUri r x = elim r [ uri ↦ x ∷ [] | local attr u ↦ [] | value q ↦ [] | target ↦ [] | plain ↦ [] ]
 
 unfoldable pub newName : Role → Placed → List (Entry Text)
-newName r x = elim r [ uri ↦ [] | local attr u ↦ record { key = u; string = x } ∷ [] | value q ↦ [] | target ↦ [] | plain ↦ [] ]
+newName r x =
+    elim r [
+      | uri ↦ []
+      | local attr u ↦ record { key = u; string = x } ∷ []
+      | value q ↦ []
+      | target ↦ []
+      | plain ↦ []
+    ]
 
 unfoldable pub newEntry : QName Text → Placed → List (Entry (QName Text))
 newEntry q x = cond (isEmpty (x .text)) [] (record { key = q; string = x } ∷ [])
 
 unfoldable pub newValue : Role → Placed → List (Entry (QName Text))
-newValue r x = elim r [ uri ↦ [] | local attr u ↦ [] | value q ↦ newEntry q x | target ↦ [] | plain ↦ [] ]
+newValue r x =
+    elim r [ uri ↦ [] | local attr u ↦ [] | value q ↦ newEntry q x | target ↦ [] | plain ↦ [] ]
 
 -- A literal lies at the end of the store so far.
 unfoldable pub laid : Tables → Text → Placed
@@ -161,9 +193,10 @@ xmlUri = text "http://www.w3.org/XML/1998/namespace"
 unfoldable pub xsiUri : Text
 xsiUri = text "http://www.w3.org/2001/XMLSchema-instance"
 
--- Role and text of each, in table order. (Whether a local name is an attribute's does not matter here.)
-unfoldable pub initialEntries : List (Role × Text)
-initialEntries =
+-- Role and text of each, in table order. (Whether a local name is an attribute's does not matter
+-- here.)
+unfoldable pub initialEntries : Settings → List (Role × Text)
+initialEntries s =
     (uri, [])
     ∷ (uri, xmlUri)
     ∷ (uri, xsiUri)
@@ -179,14 +212,18 @@ unfoldable pub addedAll : Tables → List (Role × Text) → Tables
 addedAll t [] = t
 addedAll t (x ∷ xs) = addedAll (added t (x .0) (x .1)) xs
 
-unfoldable pub startTables : Tables
-startTables = addedAll (record { uris = []; names = []; values = []; store = [] }) initialEntries
+unfoldable pub startTables : Settings → Tables
+startTables s =
+    addedAll (record { uris = []; names = []; values = []; store = [] }) (initialEntries s)
 
--- ---- names that are refused (scope, row 11): an empty local name or target; attribute nil or type in the XMLSchema-instance URI
+-- ---- names that are refused (scope, row 11): an empty local name or target; attribute nil or type
+-- in the XMLSchema-instance URI
 
 unfoldable pub nameAllowed : Role → Text → Bool
 nameAllowed uri x = true
-nameAllowed (local attr u) x = not (isEmpty x) && not (attr && eqText u xsiUri && (eqText x (text "nil") || eqText x (text "type")))
+nameAllowed (local attr u) x =
+    not (isEmpty x)
+    && not (attr && eqText u xsiUri && (eqText x (text "nil") || eqText x (text "type")))
 nameAllowed (value q) x = true
 nameAllowed target x = not (isEmpty x)
 nameAllowed plain x = true

@@ -1,4 +1,5 @@
--- The writer's answer for any list (scope, "Refusal numbers"): what it refuses, in order, or the octets.
+-- The writer's answer for any list (scope, "Refusal numbers"): what it refuses, in order, or the
+-- octets.
 use Prim.Native.Nat.{ℕ, zero, suc}
 use mathlib.Core.Bool.{Bool, false, cond, _&&_, not}
 use mathlib.Core.List.{List, [], _∷_, _++_}
@@ -6,11 +7,12 @@ use mathlib.Core.Option.{Option, none, some}
 use lib.ListN.{length}
 use lib.Dec.{leb}
 use Rattle.spec_fields.specs.Bits.{Bits, unpack, pack}
-use Rattle.spec_fields.specs.Refusal.{Refusal, numberOf, room, settings, long, character, name, limit, shape, place, Answer, refused, accepted}
+use Rattle.spec_fields.specs.Refusal.{Refusal, numberOf, room, settings, long, character, name, limit}
+use Rattle.spec_fields.specs.Refusal.{shape, place, Answer, refused, accepted}
 use Rattle.text.specs.Text.{Text, Span, inside, part, allChars}
 use Rattle.spec_exi.specs.Event.{Event, mapEvent, stringsOf}
 use Rattle.spec_exi.specs.Settings.{Settings, SettingNumbers, meaningful, settingsOf, headerOf}
-use Rattle.spec_exi.specs.Sizes.{maxStream, maxEvents, maxStore, writerWork}
+use Rattle.spec_exi.specs.Sizes.{Sizes, sizes, maxStream, writerWork}
 use Rattle.spec_exi.specs.Tables.{Tables, nameAllowed}
 use Rattle.spec_exi.specs.Grammar.{Code, codeOf, isFinished}
 use Rattle.spec_exi.specs.Context.{Context, start, levelsIn, Item, items, afterItem, next}
@@ -35,30 +37,34 @@ unfoldable pub placeTests : Text → List Span → List Test
 placeTests store [] = []
 placeTests store (x ∷ xs) = (inside store x, place) ∷ placeTests store xs
 
--- One string: the length limit, the store limit (a string that is no literal leaves the store as it is), characters, NAME, its table's limit.
-unfoldable pub stringTests : Tables → Item → List Test
-stringTests t i =
-    (short (i .text), limit)
-    ∷ (leb (length (afterItem t i .store)) maxStore, limit)
-    ∷ (allChars (i .text), character)
-    ∷ (nameAllowed (i .role) (i .text), name)
-    ∷ (withinTables (afterItem t i), limit)
-    ∷ []
+module _ (z : Sizes) where
+  -- One string: the length limit, the store limit (a string that is no literal leaves the store as
+  -- it is), characters, NAME, its table's limit.
+  unfoldable pub stringTests : Tables → Item → List Test
+  stringTests t i =
+      (short z (i .text), limit)
+      ∷ (leb (length (afterItem t i .store)) (z .store), limit)
+      ∷ (allChars (i .text), character)
+      ∷ (nameAllowed (i .role) (i .text), name)
+      ∷ (withinTables z (afterItem t i), limit)
+      ∷ []
 
-unfoldable pub contentTests : Tables → List Item → List Test
-contentTests t [] = []
-contentTests t (i ∷ is) = stringTests t i ++ contentTests (afterItem t i) is
+  unfoldable pub contentTests : Tables → List Item → List Test
+  contentTests t [] = []
+  contentTests t (i ∷ is) = stringTests t i ++ contentTests (afterItem t i) is
 
--- SHAPE comes first: no production fits.
-unfoldable pub eventTests : Settings → Context → Text → Event Span → Option Code → List Test
-eventTests s c store e none = (false, shape) ∷ []
-eventTests s c store e (some x) =
-    placeTests store (stringsOf e)
-    ++ contentTests (c .tables) (items (c .state) (x .production) (mapEvent (part store) e))
-    ++ ((withinGrammars (next s c (mapEvent (part store) e)), limit) ∷ [])
+  -- SHAPE comes first: no production fits.
+  unfoldable pub eventTests : Settings → Context → Text → Event Span → Option Code → List Test
+  eventTests s c store e none = (false, shape) ∷ []
+  eventTests s c store e (some x) =
+      placeTests store (stringsOf e)
+      ++ contentTests (c .tables) (items (c .state) (x .production) (mapEvent (part store) e))
+      ++ ((withinGrammars z (next s c (mapEvent (part store) e)), limit) ∷ [])
 
-unfoldable pub faultOf : Settings → Context → Text → Event Span → Option Refusal
-faultOf s c store e = firstFailed (eventTests s c store e (codeOf (levelsIn s c) (mapEvent (part store) e)))
+  unfoldable pub faultOf : Settings → Context → Text → Event Span → Option Refusal
+  faultOf s c store e =
+      let x = codeOf (levelsIn s c) (mapEvent (part store) e) in
+      firstFailed (eventTests s c store e x)
 
 -- ---- the list
 
@@ -72,24 +78,24 @@ unless none x = x
 unless (some k) x = refused k 0
 
 -- At most n more events. A list that ends early is SHAPE at its length.
-unfoldable pub writeEvents : ℕ → Settings → Context → Text → List Stored → Answer Bits
-writeEvents n s c store [] = cond (isFinished (c .state)) (accepted []) (refused shape 0)
-writeEvents zero s c store (x ∷ xs) = refused limit 0
-writeEvents (suc n) s c store (none ∷ xs) = refused shape 0
-writeEvents (suc n) s c store (some e ∷ xs) =
+unfoldable pub writeEvents : ℕ → Sizes → Settings → Context → Text → List Stored → Answer Bits
+writeEvents n z s c store [] = cond (isFinished (c .state)) (accepted []) (refused shape 0)
+writeEvents zero z s c store (x ∷ xs) = refused limit 0
+writeEvents (suc n) z s c store (none ∷ xs) = refused shape 0
+writeEvents (suc n) z s c store (some e ∷ xs) =
     let e′ = mapEvent (part store) e in
-    let more = prepended (eventBits s c e′) (writeEvents n s (next s c e′) store xs) in
-    unless (faultOf s c store e) more
+    let more = prepended (eventBits s c e′) (writeEvents n z s (next s c e′) store xs) in
+    unless (faultOf z s c store e) more
 
 -- LONG comes last.
-unfoldable pub asOctets : Settings → Answer Bits → Answer (List ℕ)
-asOctets s (refused k i) = refused k i
-asOctets s (accepted bs) =
+unfoldable pub asOctets : Sizes → Settings → Answer Bits → Answer (List ℕ)
+asOctets z s (refused k i) = refused k i
+asOctets z s (accepted bs) =
     let octets = pack (unpack (headerOf s) ++ bs) in
-    cond (leb (length octets) maxStream) (accepted octets) (refused long 0)
+    cond (leb (length octets) (z .stream)) (accepted octets) (refused long 0)
 
-unfoldable pub writeList : Settings → List Stored → Text → Answer (List ℕ)
-writeList s xs store = asOctets s (writeEvents maxEvents s start store xs)
+unfoldable pub writeList : Sizes → Settings → List Stored → Text → Answer (List ℕ)
+writeList z s xs store = asOctets z s (writeEvents (z .events) z s (start s) store xs)
 
 -- The lengths of the parts that are lent: octets, and cells of work memory.
 pub record WriterRoom : Type 0 where
@@ -104,7 +110,7 @@ unfoldable pub write : WriterRoom → SettingNumbers → List Stored → Text �
 write r o xs store =
     cond (not (enoughToWrite r)) (refused room 0)
     (cond (not (meaningful o)) (refused settings 0)
-    (writeList (settingsOf o) xs store))
+    (writeList sizes (settingsOf o) xs store))
 
 pub record WriteReply : Type 0 where
   pub number : ℕ

@@ -1,5 +1,5 @@
--- What it means that a parser reads exactly: `Reads p R` says that p gives a value a and the rest just where bits w with `R a w` stand
--- before the rest. The laws below put such parsers together.
+-- What it means that a parser reads exactly: `Reads p R` says that p gives a value a and the rest
+-- just where bits w with `R a w` stand before the rest. The laws below put such parsers together.
 use mathlib.Core.Path.{_≡_, refl, sym, _∙_, ap, subst}
 use mathlib.Core.List.{List, [], _∷_, _++_, append-assoc, append-nil}
 use mathlib.Core.Bool.{Bool, true, false, cond, not}
@@ -10,7 +10,8 @@ use native.Mathlib.Omega.{arith}
 use lib.Dec.{T}
 use Rattle.spec_fields.specs.Bits.{Bits, each}
 use Rattle.spec_fields.specs.Refusal.{Refusal}
-use Rattle.spec_fields.specs.Parser.{Result, bad, got, Parser, return, fail, present, need, andThen, _>>=_, _>>_, times}
+use Rattle.spec_fields.specs.Parser.{Result, bad, got, Parser, return, fail, present, need}
+use Rattle.spec_fields.specs.Parser.{andThen, _>>=_, _>>_, times}
 
 pub record Reads {A : Type 0} (p : Parser A) (R : A → Bits → Type 0) : Type 0 where
   -- what is read stands there

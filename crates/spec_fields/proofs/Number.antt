@@ -1,22 +1,30 @@
--- The fields are read exactly: each parser gives a number and the rest just where the number's bits stand before the rest.
+-- The fields are read exactly: each parser gives a number and the rest just where the number's bits
+-- stand before the rest.
 use mathlib.Core.Path.{_≡_, refl, sym, _∙_, ap, subst}
 use mathlib.Core.List.{List, [], _∷_, _++_, append-nil}
-use mathlib.Core.Bool.{Bool, true, false, cond}
+use mathlib.Core.Bool.{Bool, true, false, cond, _&&_}
 use mathlib.Core.Option.{some, Option·none-ne-some}
 use mathlib.Core.Logic.{⊎-elim}
 use Prim.Native.Nat.{ℕ, zero, suc, _+_, _*_, _-_, _/_, _%_, _^_, _≤_, _<_, zero-le, suc-le-suc}
-use native.Mathlib.Nat.{pow-suc, add-zero, zero-add, add-suc, suc-add, lt-of-lt-of-le, eq-or-lt-of-le, mod-lt, one-le-pow, zero-mul, one-mul, div-lt-iff-lt-mul, mul-comm}
+use native.Mathlib.Nat.{pow-suc, add-zero, zero-add, add-suc, suc-add, lt-of-lt-of-le}
+use native.Mathlib.Nat.{eq-or-lt-of-le, mod-lt, zero-mul, one-mul, div-lt-iff-lt-mul}
+use native.Mathlib.Nat.{mul-comm}
 use native.Mathlib.Omega.{arith}
 use lib.ListN.{length, getElem?}
-use lib.Dec.{T, leb, ltb, eqb, ltb→lt, nltb→le, lt→ltb, leb→le, le→leb}
+use lib.Dec.{T, leb, ltb, eqb, ltb→lt, nltb→le, leb→le, le→leb}
 use lib.Pow.{pow-pos, pow-add, pow-mono, high, low, split as recomposed}
 use borrow.Author.Tests.{leb-true, leb-false, ltb-true, ltb-false, lt-ltb, le-ltb}
 use Rattle.spec_fields.specs.Bits.{Bits, bitsOf, valueOf, each, unpack, octetsFor}
 use Rattle.spec_fields.specs.Refusal.{Refusal, number}
-use Rattle.spec_fields.specs.Parser.{got, return, need, _>>=_, _>>_, times}
-use Rattle.spec_fields.specs.Field.{Alignment, bitPacked, byteAligned, bit, octet, littleEndian, littleValue, numberBits, numberField, widthFrom, width, choiceBits, choice, maxOctets, maxUnsigned, groups, unsignedBits, grouped, unsigned}
-use Rattle.spec_fields.proofs.Tests.{split}
-use Rattle.spec_fields.proofs.Exact.{Reads, Returned, Then, reads-as, reads-return, reads-fail, reads-present, reads-cond, reads-then, reads-map, reads-guard, reads-checked, reads-times, Every, not-got}
+use Rattle.spec_fields.specs.Parser.{got, return, _>>=_, _>>_, times}
+use Rattle.spec_fields.specs.Field.{Alignment, bitPacked, byteAligned, bit, octet, littleEndian}
+use Rattle.spec_fields.specs.Field.{littleValue, numberBits, numberField, widthFrom, width}
+use Rattle.spec_fields.specs.Field.{choiceBits, choice, maxOctets, maxUnsigned, groups}
+use Rattle.spec_fields.specs.Field.{unsignedBits, grouped, unsigned}
+use Rattle.spec_fields.proofs.Tests.{split, both, left, right}
+use Rattle.spec_fields.proofs.Exact.{Reads, Returned, Then, Mapped, reads-as, reads-return}
+use Rattle.spec_fields.proofs.Exact.{reads-fail, reads-present, reads-cond, reads-then, reads-map}
+use Rattle.spec_fields.proofs.Exact.{reads-guard, reads-times, Every, not-got}
 
 -- ---- bits and the number that they stand for
 
@@ -225,92 +233,172 @@ choice-reads a k l =
 
 -- ---- Unsigned Integer
 
--- What follows an octet o in a number v of at most k more octets: nothing, or the higher groups.
-data Tail (k o v : ℕ) (w : Bits) : Type 0 where
-  last : o < 128 → v ≡ o → w ≡ [] → Tail k o v w
-  more : (high : ℕ) → 128 ≤ o → 0 < high → 0 < k → high < 128 ^ k → v ≡ (o - 128) + 128 * high → w ≡ unpack (groups k high) → Tail k o v w
+-- In up to k octets: 7 bits an octet, least significant group first, the top bit set on all but the
+-- last; and whether they are the fewest.
+pub data Groups : ℕ → ℕ → Bool → List ℕ → Type 0 where
+  last : {k v : ℕ} → v < 128 → Groups (suc k) v true (v ∷ [])
+  more : {k v h : ℕ} {fewest : Bool} {os : List ℕ} → v < 128 → Groups k h fewest os
+      → Groups (suc k) (v + 128 * h) (fewest && ltb 0 h) ((v + 128) ∷ os)
 
-tail-reads : (k o : ℕ) → Reads (grouped k) (λ v w. (0 < k) × (v < 128 ^ k) × (w ≡ unpack (groups k v)))
-    → Reads (cond (ltb o 128) (return o) (grouped k >>= λ high. need (ltb 0 high) number >> return ((o - 128) + 128 * high))) (Tail k o)
+record Grouped (k : ℕ) (x : ℕ × Bool) (w : Bits) : Type 0 where
+  octets : List ℕ
+  groups : Groups k (x .0) (x .1) octets
+  bits : w ≡ unpack octets
+
+no-groups : {v : ℕ} {b : Bool} {os : List ℕ} → Groups zero v b os → ⊥
+no-groups g = positive g refl
+  where
+    positive : {k v : ℕ} {b : Bool} {os : List ℕ} → Groups k v b os → k ≡ 0 → ⊥
+    positive (last l) e = omega arith
+    positive (more l g) e = omega arith
+
+-- What follows the octet o: nothing, or the higher groups.
+data Tail (k o : ℕ) : ℕ × Bool → Bits → Type 0 where
+  lone : o < 128 → Tail k o (o, true) []
+  higher : {h : ℕ} {b : Bool} {w : Bits} → 128 ≤ o → Grouped k (h, b) w
+      → Tail k o ((o - 128) + 128 * h, b && ltb 0 h) w
+
+tail-reads : (k o : ℕ) → Reads (grouped k) (Grouped k)
+    → Reads
+    (cond (ltb o 128) (return (o, true))
+    (grouped k >>= λ x. return ((o - 128) + 128 * x .0, x .1 && ltb 0 (x .0))))
+    (Tail k o)
 tail-reads k o h =
     reads-cond (ltb o 128)
-    (λ t. reads-as (reads-return o) (λ v w x. last (ltb→lt o 128 t) (x .is) (x .empty))
-    (λ v w x. lone (ltb→lt o 128 t) v w x))
-    (λ t. reads-as (reads-then h (λ high u x. reads-guard (ltb 0 high) number (λ t. reads-return ((o - 128) + 128 * high))))
-    (λ v w x. more (x .first) (nltb→le o 128 t) (ltb→lt 0 (x .first) (x .two .0)) (x .one .0) (x .one .1) (x .two .1 .is)
-    (x .joined ∙ ap (λ b. x .front ++ b) (x .two .1 .empty) ∙ append-nil (x .front) ∙ x .one .2))
-    (λ v w x. higher (nltb→le o 128 t) v w x))
+    (λ t. reads-as (reads-return (o, true)) (λ x w r. rw (r .is, r .empty) (lone (ltb→lt o 128 t)))
+    (λ x w r. one (ltb→lt o 128 t) x w r))
+    (λ t. reads-as (reads-map h onward) (λ x w m. rw (m .is) (higher (nltb→le o 128 t) (m .by)))
+    (λ x w r. many (nltb→le o 128 t) x w r))
   where
-    lone : o < 128 → (v : ℕ) (w : Bits) → Tail k o v w → Returned o v w
-    lone l v w (last h₁ e e′) = record { is = e; empty = e′ }
-    lone l v w (more high h₁ h₂ h₃ h₄ e e′) = absurd (omega arith)
+    onward : ℕ × Bool → ℕ × Bool
+    onward x = ((o - 128) + 128 * x .0, x .1 && ltb 0 (x .0))
 
-    higher : 128 ≤ o → (v : ℕ) (w : Bits) → Tail k o v w
-        → Then (λ v w. (0 < k) × (v < 128 ^ k) × (w ≡ unpack (groups k v))) (λ high v w. T (ltb 0 high) × Returned ((o - 128) + 128 * high) v w) v w
-    higher l v w (last h₁ e e′) = absurd (omega arith)
-    higher l v w (more high h₁ h₂ h₃ h₄ e e′) =
-        record {
-          first = high;
-          front = w;
-          back = [];
-          one = (h₃, h₄, e′);
-          two = (lt→ltb 0 high h₂, record { is = e; empty = refl });
-          joined = sym (append-nil w);
-        }
+    one : o < 128 → (x : ℕ × Bool) (w : Bits) → Tail k o x w → Returned (o, true) x w
+    one l x w (lone m) = record { is = refl; empty = refl }
+    one l x w (higher m r) = absurd (omega arith)
 
-pub grouped-reads : (k : ℕ) → Reads (grouped k) (λ v w. (0 < k) × (v < 128 ^ k) × (w ≡ unpack (groups k v)))
-unfolding grouped groups unpack each
-grouped-reads zero = reads-as (reads-fail number) (λ v w h. absurd h) (λ v w h. absurd (omega arith))
+    many : 128 ≤ o → (x : ℕ × Bool) (w : Bits) → Tail k o x w → Mapped (Grouped k) onward x w
+    many l x w (lone m) = absurd (omega arith)
+    many l x w (higher m r) = record { from = _; by = r; is = refl }
+
+grouped-reads : (k : ℕ) → Reads (grouped k) (Grouped k)
+unfolding grouped unpack each
+grouped-reads zero = reads-as (reads-fail number) (λ x w h. absurd h) (λ x w h. no-groups (h .groups))
 grouped-reads (suc k) =
     reads-as (reads-then octet-reads (λ o u h. tail-reads k o (grouped-reads k)))
-    (λ v w h. to v w (h .first) (h .front) (h .back) (h .one) (h .two) (h .joined))
-    (λ v w h. split (ltb v 128) (small v w h) (large v w h))
+    (λ x w h. to x w (h .first) (h .front) (h .back) (h .one) (h .two) (h .joined))
+    (λ x w h. from (x .0) (x .1) w (h .octets) (h .groups) (h .bits))
   where
-    to : (v : ℕ) (w : Bits) (o : ℕ) (u b : Bits) → IsOctet o × (u ≡ bitsOf 8 o) → Tail k o v b → w ≡ u ++ b
-        → (0 < suc k) × (v < 128 ^ suc k) × (w ≡ unpack (groups (suc k) v))
-    to v w o u b h (last l e e′) j =
-        let t : ltb v 128 ≡ true = lt-ltb v 128 (omega arith) in
-        let i : w ≡ bitsOf 8 v ++ [] = cc in
-        (omega arith, rw (pow-suc 128 k) (omega (arith, one-le-pow k 128 (omega arith))), rw t i)
-    to v w o u b h (more high l p q r e e′) j =
-        let low : v % 128 + 128 ≡ o = omega arith in
-        let rest : v / 128 ≡ high = omega arith in
-        let t : ltb v 128 ≡ false = le-ltb v 128 (omega arith) in
-        let i : w ≡ bitsOf 8 (v % 128 + 128) ++ each (bitsOf 8) (groups k (v / 128)) = cc in
-        (omega arith, rw (pow-suc 128 k) (omega arith), rw t i)
-
-    small : (v : ℕ) (w : Bits) → (0 < suc k) × (v < 128 ^ suc k) × (w ≡ unpack (groups (suc k) v)) → ltb v 128 ≡ true
-        → Then (λ o u. IsOctet o × (u ≡ bitsOf 8 o)) (λ o. Tail k o) v w
-    small v w h e =
-        let l = ltb-true v 128 e in
-        record { first = v; front = bitsOf 8 v; back = []; one = (omega arith, refl); two = last l refl refl; joined = rw e at (h .2) }
-
-    some-left : (k : ℕ) {v : ℕ} → 128 ≤ v → v < 128 ^ k * 128 → 0 < k
-    some-left zero l b = absurd (omega arith)
-    some-left (suc k) l b = omega arith
-
-    large : (v : ℕ) (w : Bits) → (0 < suc k) × (v < 128 ^ suc k) × (w ≡ unpack (groups (suc k) v)) → ltb v 128 ≡ false
-        → Then (λ o u. IsOctet o × (u ≡ bitsOf 8 o)) (λ o. Tail k o) v w
-    large v w h e =
-        let l = ltb-false v 128 e in
-        let b : v < 128 ^ k * 128 = rw (← pow-suc 128 k) (h .1) in
+    to : (x : ℕ × Bool) (w : Bits) (o : ℕ) (u b : Bits) → IsOctet o × (u ≡ bitsOf 8 o) → Tail k o x b
+        → w ≡ u ++ b → Grouped (suc k) x w
+    to x w o u b h (lone l) j = record { octets = o ∷ []; groups = last l; bits = cc }
+    to x w o u b h (higher l r) j =
+        let e : (o - 128) + 128 ≡ o = omega arith in
         record {
-          first = v % 128 + 128;
-          front = bitsOf 8 (v % 128 + 128);
-          back = unpack (groups k (v / 128));
-          one = (omega arith, refl);
-          two = more (v / 128) (omega arith) (omega arith) (some-left k l b) (omega arith) (omega arith) refl;
-          joined = rw e at (h .2);
+          octets = ((o - 128) + 128) ∷ r .octets;
+          groups = more {v = o - 128} (omega (arith, h .0)) (r .groups);
+          bits = rw e (let q = r .bits in cc);
         }
 
-pub unsigned-reads : Reads unsigned (λ v w. (v ≤ maxUnsigned) × (w ≡ unsignedBits v))
-unfolding unsigned unsignedBits maxOctets maxUnsigned
-unsigned-reads =
-    reads-as (reads-checked (grouped-reads 5) (λ v. leb v 2147483647) number)
-    (λ v w h. (leb→le v 2147483647 (h .1), h .0 .2))
-    (λ v w h. ((omega arith, omega arith, h .1), le→leb v 2147483647 (h .0)))
+    from : (v : ℕ) (b : Bool) (w : Bits) (os : List ℕ) → Groups (suc k) v b os → w ≡ unpack os
+        → Then (λ o u. IsOctet o × (u ≡ bitsOf 8 o)) (λ o. Tail k o) (v, b) w
+    from v b w os (last l) e =
+        record { first = v; front = bitsOf 8 v; back = []; one = (omega arith, refl); two = lone l; joined = e }
+    from v b w os (more {v = low} {h = high} {fewest = short} {os = others} l g) e =
+        let s : (low + 128) - 128 ≡ low = omega arith in
+        let r : Grouped k (high, short) (unpack others) = record { octets = others; groups = g; bits = refl } in
+        record {
+          first = low + 128;
+          front = bitsOf 8 (low + 128);
+          back = unpack others;
+          one = (omega arith, refl);
+          two = subst (λ z. Tail k (low + 128) (z + 128 * high, short && ltb 0 high) (unpack others)) s
+              (higher (omega arith) r);
+          joined = e;
+        }
 
--- The least significant octet comes first. (A reversal on both sides would leave every law above true.)
+-- A number and its bits. That it is in fewest octets is a condition of its own.
+pub record Unsigned (v : ℕ) (w : Bits) : Type 0 where
+  pub fewest : Bool
+  pub octets : List ℕ
+  pub groups : Groups maxOctets v fewest octets
+  pub allowed : T fewest
+  pub small : v ≤ maxUnsigned
+  pub bits : w ≡ unpack octets
+
+pub unsigned-reads : Reads unsigned Unsigned
+unfolding unsigned
+unsigned-reads =
+    reads-as
+    (reads-then (grouped-reads maxOctets) (λ x u h.
+    reads-guard (leb (x .0) maxUnsigned && x .1) number (λ t. reads-return (x .0))))
+    (λ v w h.
+    let t = h .two .0 in
+    let r = h .two .1 in
+    let i : w ≡ h .front = h .joined ∙ ap (λ b. h .front ++ b) (r .empty) ∙ append-nil (h .front) in
+    rw (r .is, i)
+    (record {
+      fewest = h .first .1;
+      octets = h .one .octets;
+      groups = h .one .groups;
+      allowed = right (leb (h .first .0) maxUnsigned) (h .first .1) t;
+      small = leb→le (h .first .0) maxUnsigned (left (leb (h .first .0) maxUnsigned) (h .first .1) t);
+      bits = h .one .bits;
+    }))
+    (λ v w h.
+    record {
+      first = (v, h .fewest);
+      front = w;
+      back = [];
+      one = record { octets = h .octets; groups = h .groups; bits = h .bits };
+      two = (
+        both (leb v maxUnsigned) (h .fewest) (le→leb v maxUnsigned (h .small)) (h .allowed),
+        record { is = refl; empty = refl },
+      );
+      joined = sym (append-nil w);
+    })
+
+-- The fewest octets are those of the strict form.
+fewest-are : {k v : ℕ} {b : Bool} {os : List ℕ} → Groups k v b os → T b → os ≡ groups k v
+unfolding groups
+fewest-are {v} (last l) t = rw (lt-ltb v 128 l)
+fewest-are {v} {b} (more {k = k} {v = low} {h = high} {fewest = fewest} {os = os} l g) t =
+    let p = ltb→lt 0 high (right fewest (ltb 0 high) t) in
+    let rest : v / 128 ≡ high = omega arith in
+    let first : v % 128 ≡ low = omega arith in
+    let i = fewest-are g (left fewest (ltb 0 high) t) in
+    rw (le-ltb v 128 (omega arith), rest, first, i)
+
+are-fewest : (k v : ℕ) → v < 128 ^ suc k → Groups (suc k) v true (groups (suc k) v)
+unfolding groups
+are-fewest zero v l = let h : v < 128 = omega arith in rw (lt-ltb v 128 h) (last h)
+are-fewest (suc k) v l =
+    split (ltb v 128) (λ e. rw e (last (ltb-true v 128 e))) (λ e.
+    let b : v < 128 ^ suc k * 128 = rw (← pow-suc 128 (suc k)) l in
+    let h = ltb-false v 128 e in
+    let whole : v % 128 + 128 * (v / 128) ≡ v = omega arith in
+    let fewest : ltb 0 (v / 128) ≡ true = lt-ltb 0 (v / 128) (omega arith) in
+    let g = more {v = v % 128} (omega arith) (are-fewest k (v / 128) (omega arith)) in
+    rw e (subst (λ x. Groups (suc (suc k)) x true ((v % 128 + 128) ∷ groups (suc k) (v / 128))) whole (rw fewest at g)))
+
+pub unsigned-bits : {v : ℕ} {w : Bits} → Unsigned v w → w ≡ unsignedBits v
+unfolding unsignedBits
+unsigned-bits h = h .bits ∙ ap unpack (fewest-are (h .groups) (h .allowed))
+
+pub bits-unsigned : (v : ℕ) → v ≤ maxUnsigned → Unsigned v (unsignedBits v)
+unfolding unsignedBits maxOctets maxUnsigned
+bits-unsigned v l =
+    record {
+      fewest = true;
+      octets = groups 5 v;
+      groups = are-fewest 4 v (omega arith);
+      allowed = tt;
+      small = l;
+      bits = refl;
+    }
+
+-- The least significant octet comes first. (A reversal on both sides would leave every law above
+-- true.)
 pub octet-order : numberBits byteAligned 9 258 ≡ unpack (2 ∷ 1 ∷ [])
 unfolding numberBits littleEndian octetsFor unpack each bitsOf
 octet-order = refl

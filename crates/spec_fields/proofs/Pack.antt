@@ -7,7 +7,8 @@ use mathlib.Core.List.{List, [], _∷_, _++_, append-assoc}
 use lib.ListN.{length, take, drop, replicate, length-append, length-replicate}
 use lib.Seq.{length-take-le, drop-nil, take-all}
 use lib.Dec.{T, leb, leb→le, le→leb}
-use Rattle.spec_fields.specs.Bits.{Bits, bitsOf, valueOf, each, unpack, octetsFrom, octetsFor, pack, allZero, isPadding}
+use Rattle.spec_fields.specs.Bits.{Bits, bitsOf, valueOf, each, unpack, octetsFrom, octetsFor}
+use Rattle.spec_fields.specs.Bits.{pack, allZero, isPadding}
 use Rattle.spec_fields.proofs.Tests.{both, left, right}
 use Rattle.spec_fields.proofs.Exact.{Every}
 use Rattle.spec_fields.proofs.Number.{bits-of-value, value-of-bits, value-bound, IsOctet}
@@ -53,7 +54,8 @@ unpack-injective a b ha hb e =
     let l : length a ≡ length b = omega (arith, length-unpack a, length-unpack b, ap length e) in
     sym (from-unpack a ha) ∙ ap₂ octetsFrom l e ∙ from-unpack b hb
 
--- Zeros behind the bits stand where `octetsFrom` puts zeros for missing bits: after k bits, y is what is left of them.
+-- Zeros behind the bits stand where `octetsFrom` puts zeros for missing bits: after k bits, y is
+-- what is left of them.
 cut : (k m : ℕ) (bs z : Bits) → k ≤ m → T (allZero z) → k ≤ length (bs ++ z)
     → (y : Bits) × T (allZero y) × (take k (bs ++ replicate m false) ++ (drop k bs ++ y) ≡ bs ++ z)
 unfolding allZero

@@ -1,7 +1,9 @@
 -- The numbers of refusals.
 use Prim.Native.Nat.{_<_}
 use native.Mathlib.Omega.{arith}
-use Rattle.spec_fields.specs.Refusal.{Refusal, numberOf, room, settings, long, header, ended, code, number, character, reference, loose, name, limit, tail, shape, place}
+use Rattle.spec_fields.specs.Refusal.{Refusal, numberOf, room, settings, long, header, ended, code}
+use Rattle.spec_fields.specs.Refusal.{number, character, reference, loose, name, limit, tail}
+use Rattle.spec_fields.specs.Refusal.{shape, place}
 
 -- No refusal has the number 0.
 pub refusal-number : (k : Refusal) → 0 < numberOf k

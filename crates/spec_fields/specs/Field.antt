@@ -1,12 +1,13 @@
 -- The fields that streams are made of, each as its bits and as its parser.
 use Prim.Native.Nat.{ℕ, zero, suc, _+_, _*_, _-_, _/_, _%_, _^_}
-use mathlib.Core.Bool.{Bool, cond}
+use mathlib.Core.Bool.{Bool, true, cond, _&&_}
 use mathlib.Core.List.{List, [], _∷_}
 use lib.ListN.{length, getElem?}
 use lib.Dec.{leb, ltb}
 use Rattle.spec_fields.specs.Bits.{Bits, bitsOf, valueOf, unpack, octetsFor}
 use Rattle.spec_fields.specs.Refusal.{Refusal, ended, number}
-use Rattle.spec_fields.specs.Parser.{bad, got, Parser, return, fail, present, need, times, _>>=_, _>>_}
+use Rattle.spec_fields.specs.Parser.{bad, got, Parser, return, fail, present, need, times, _>>=_}
+use Rattle.spec_fields.specs.Parser.{_>>_}
 
 pub data Alignment : Type 0 where
   bitPacked byteAligned : Alignment
@@ -22,8 +23,8 @@ octet = do
   bs ← times 8 bit
   return (valueOf bs)
 
--- ---- n-bit Unsigned Integer (EXI 7.1.9): n bits, most significant first; byte-aligned the fewest octets that hold n bits, least
--- significant octet first
+-- ---- n-bit Unsigned Integer (EXI 7.1.9): n bits, most significant first; byte-aligned the fewest
+-- octets that hold n bits, least significant octet first
 
 unfoldable pub littleEndian : ℕ → ℕ → List ℕ
 littleEndian zero v = []
@@ -65,8 +66,9 @@ choice a k l = do
   x ← present k (getElem? l v)
   return (v, x)
 
--- ---- Unsigned Integer (EXI 7.1.6; scope, "Fields"): 7 bits an octet, least significant group first, the top bit set on all but the
--- last; at most 5 octets, and a number up to 2,147,483,647 (scope, "Refusal numbers", 7)
+-- ---- Unsigned Integer (EXI 7.1.6; scope, "Fields"): 7 bits an octet, least significant group
+-- first, the top bit set on all but the last; at most 5 octets, and a number up to 2,147,483,647
+-- (scope, "Refusal numbers", 7)
 
 unfoldable pub maxOctets : ℕ
 maxOctets = 5
@@ -82,19 +84,20 @@ groups (suc k) v = let more = (v % 128 + 128) ∷ groups k (v / 128) in cond (lt
 unfoldable pub unsignedBits : ℕ → Bits
 unsignedBits v = unpack (groups maxOctets v)
 
--- At most k more octets. The number is not in fewest octets where the groups after this one are all zero.
-unfoldable pub grouped : ℕ → Parser ℕ
+-- At most k more octets: the number, and whether it is in fewest octets. (It is not where the
+-- groups after this one are all zero.)
+unfoldable pub grouped : ℕ → Parser (ℕ × Bool)
 grouped zero = fail number
 grouped (suc k) = do
   o ← octet
-  let more : Parser ℕ = do
-    high ← grouped k
-    need (ltb 0 high) number
-    return ((o - 128) + 128 * high)
-  cond (ltb o 128) (return o) more
+  let more : Parser (ℕ × Bool) = do
+    (high, fewest) ← grouped k
+    return ((o - 128) + 128 * high, fewest && ltb 0 high)
+  cond (ltb o 128) (return (o, true)) more
 
+-- A number that is too large, or not in fewest octets, is NUMBER.
 unfoldable pub unsigned : Parser ℕ
 unsigned = do
-  v ← grouped maxOctets
-  need (leb v maxUnsigned) number
+  (v, fewest) ← grouped maxOctets
+  need (leb v maxUnsigned && fewest) number
   return v

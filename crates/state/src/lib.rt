@@ -4,10 +4,11 @@ ghost use mathlib.Core.Path.{_≡_};
 ghost use Prim.Native.Nat.{_≤_, _<_};
 ghost use Rattle.spec_exi.specs.Sizes.{maxOpen};
 ghost use Rattle.state.specs.Stack.{noElements, pushed, popped, topOf, started};
+use sizes::MAX_OPEN;
 
 // The names of the open elements, each by its number in the table of names, the innermost last.
 pub struct Stack {
-    pub names: [u16; 100],
+    pub names: [u16; MAX_OPEN],
     pub depth: usize,
 }
 
@@ -34,7 +35,7 @@ fn empty() -> Stack
     ensures { λ r. ⌜ r ≡ noElements ⌝ }
 {
     Stack {
-        names: [0u16; 100],
+        names: [0u16; MAX_OPEN],
         depth: 0,
     }
 }
@@ -44,7 +45,7 @@ pub fn push(s: Stack, name: u16) -> Pushed
     ensures { λ r. ⌜ r ≡ pushed s name ⌝ }
 {
     let at = s.depth;
-    if 100 <= at {
+    if MAX_OPEN <= at {
         return Pushed {
             ok: false,
             stack: s,

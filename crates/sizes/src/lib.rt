@@ -1,0 +1,33 @@
+// The sizes, one constant each: crates/spec_exi/specs/Sizes.antt has them by the same names, and the
+// contracts of the functions that use them hold each to its definition.
+
+// Octets of a stream.
+pub const MAX_STREAM: usize = 16384;
+
+pub const MAX_EVENTS: usize = 4096;
+// Elements open at once.
+pub const MAX_OPEN: usize = 100;
+
+pub const MAX_URIS: usize = 16;
+// Local names over all URIs.
+pub const MAX_NAMES: usize = 128;
+// Distinct non-empty values.
+pub const MAX_VALUES: usize = 512;
+// Element grammars.
+pub const MAX_GRAMMARS: usize = 64;
+// Learned productions in all.
+pub const MAX_LEARNED: usize = 512;
+// Code points of one string.
+pub const MAX_STRING: usize = 1024;
+// Code points of the text store.
+pub const MAX_STORE: usize = 16384;
+
+// ---- what is lent, in cells of 32 bits (docs/MEMORY.md)
+
+pub const CELLS_PER_EVENT: usize = 9;
+
+pub const EVENT_CELLS: usize = CELLS_PER_EVENT * MAX_EVENTS;
+// Work memory of the reader, and of the writer, which has a text store behind it.
+pub const READER_WORK: usize = 4096;
+
+pub const WRITER_WORK: usize = READER_WORK + MAX_STORE;
