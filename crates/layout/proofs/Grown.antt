@@ -12,7 +12,7 @@ use Rattle.rows.specs.declared.Row.{Row}
 use Rattle.rows.specs.Rows.{rowAt}
 use Rattle.rows.proofs.Laws.{withRow-length}
 use Rattle.layout.specs.Layout.{learnedAt, grammarsAt}
-use Rattle.layout.specs.Meaning.{Memory, Counts, uriText, placedName, nameAt, tablesIn, carries, carriedName, siteFor, learnedFrom, grammarsFrom}
+use Rattle.layout.specs.Meaning.{Memory, Counts, uriText, placedName, nameAt, tablesIn, carries, productionAt, siteFor, learnedFrom, grammarsFrom}
 use Rattle.layout.specs.Tidy.{Teachable, Tidy}
 use Rattle.layout.proofs.Kept.{same-row, learned-kept, grammars-kept}
 use Rattle.layout.proofs.Productions.{productionRow, key-parts, kind-at, Behind, uri-kept, names-kept, places-kept, tables-kept, recounted, learned-room, grammars-room, learned-added, learned-apart, learned-tidy, grammar-added, grammar-apart, grammar-tidy}
@@ -26,7 +26,7 @@ pub record LearnedMore (m m′ : Memory) (c : Counts) (e : ℕ) (tag : Bool) (k 
   pub names : (n : ℕ) → n < c .names → nameAt m′ n ≡ nameAt m n
   pub places : (n : ℕ) → n < c .names → placedName m′ n ≡ placedName m n
   pub learned : learnedFrom m′ (c .learned + 1)
-      ≡ learn (some (siteFor (nameAt m e) tag)) (some (record { kind = k; qname = carriedName m k i })) (learnedFrom m (c .learned))
+      ≡ learn (some (siteFor (nameAt m e) tag)) (some (productionAt m k i)) (learnedFrom m (c .learned))
   pub grammars : grammarsFrom m′ (c .grammars) ≡ grammarsFrom m (c .grammars)
 
 -- The row was not there, and has size 0 where it carries no name.

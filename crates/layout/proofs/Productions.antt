@@ -29,7 +29,7 @@ use Rattle.rows.proofs.Answers.{nth-hit}
 use Rattle.layout.proofs.Kept.{name-placed, names-placed, same-row, text-in, map-rows, learned-row-kept, learned-kept, grammar-names}
 use Rattle.layout.proofs.Adding.{drop-row}
 use Rattle.layout.specs.Layout.{urisAt, namesAt, valuesAt, learnedAt, grammarsAt, tableCells}
-use Rattle.layout.specs.Meaning.{Memory, Counts, placedAt, uriText, nameEntry, placedName, nameAt, valueEntry, tablesIn, kindAt, carries, carriedName, learnedKey, siteFor, learnedRow, newestFirst, learnedFrom, grammarsFrom}
+use Rattle.layout.specs.Meaning.{Memory, Counts, placedAt, uriText, nameEntry, placedName, nameAt, valueEntry, tablesIn, kindAt, carries, carriedName, productionAt, learnedKey, siteFor, learnedRow, newestFirst, learnedFrom, grammarsFrom}
 use Rattle.layout.specs.Tidy.{Bare, Lies, Sized, Strings, Distinct, Teachable, Grammars, Tidy}
 
 -- The row of a production, by the number of the name that it carries.
@@ -208,7 +208,7 @@ key-parts e false = (omega arith, ne-eqb (2 * e % 2) 1 (λ z. omega arith))
 -- What it means.
 pub learned-as : (m : Memory) (e : ℕ) (tag : Bool) (k : Kind) (i : ℕ)
     → learnedRow m (productionRow e tag k i)
-    ≡ record { site = siteFor (nameAt m e) tag; production = record { kind = k; qname = carriedName m k i } }
+    ≡ record { site = siteFor (nameAt m e) tag; production = productionAt m k i }
 unfolding learnedRow
 learned-as m e tag k i = rw (key-parts e tag .0, key-parts e tag .1, kind-at k)
 
@@ -219,7 +219,7 @@ module _ (m m′ : Memory) (c : Counts) (g : Grammars m c) (places : (i : ℕ) �
   pub learned-added : (e : ℕ) (tag : Bool) (k : Kind) (i : ℕ) → e < c .names → i < c .names
       → m′ .work ≡ withRow (m .work) learnedAt (c .learned) (productionRow e tag k i)
       → learnedAt + 3 * (c .learned + 1) ≤ length (m .work)
-      → learnedFrom m′ (c .learned + 1) ≡ learn (some (siteFor (nameAt m e) tag)) (some (record { kind = k; qname = carriedName m k i })) (learnedFrom m (c .learned))
+      → learnedFrom m′ (c .learned + 1) ≡ learn (some (siteFor (nameAt m e) tag)) (some (productionAt m k i)) (learnedFrom m (c .learned))
   unfolding learnedFrom newestFirst learn
   learned-added e tag k i a b w room =
       let r : Row = productionRow e tag k i in

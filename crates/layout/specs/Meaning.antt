@@ -17,7 +17,7 @@ use lib.Dec.{eqb}
 use Rattle.text.specs.Text.{Text}
 use Rattle.spec_exi.specs.Event.{QName, Kind, SD, ED, SE, AT, EE, CH, CM, PI}
 use Rattle.spec_exi.specs.Tables.{Placed, Entry, Tables}
-use Rattle.spec_exi.specs.Grammar.{Learned, Site, tagOf, contentOf, State, document, docContent, docEnd, finished, startTag, elementContent}
+use Rattle.spec_exi.specs.Grammar.{Production, Learned, Site, tagOf, contentOf, State, document, docContent, docEnd, finished, startTag, elementContent}
 use Rattle.spec_exi.specs.Context.{Context}
 use Rattle.rows.specs.declared.Row.{Row}
 use Rattle.rows.specs.Rows.{rowAt, rows, textOf}
@@ -98,6 +98,10 @@ carriedName m CH n = none
 carriedName m CM n = none
 carriedName m PI n = none
 
+-- The production of this kind, with the name of this number if it carries one.
+abbrev pub productionAt : Memory → Kind → ℕ → Production
+productionAt m k n = record { kind = k; qname = carriedName m k n }
+
 -- The key of an element's learned rows, by its name's number, in its start tag (true) or in its content.
 abbrev pub learnedKey : ℕ → Bool → ℕ
 learnedKey e true = 2 * e + 1
@@ -112,7 +116,7 @@ unfoldable pub learnedRow : Memory → Row → Learned
 learnedRow m r =
     record {
       site = siteFor (nameAt m (r .key / 2)) (eqb (r .key % 2) 1);
-      production = record { kind = kindAt (r .place); qname = carriedName m (kindAt (r .place)) (r .size) };
+      production = productionAt m (kindAt (r .place)) (r .size);
     }
 
 -- The newest row is first.
