@@ -220,14 +220,14 @@ fixed-teaches (startTag p outer) ls e x n c i l parts is new q = rw (tag-teaches
 fixed-teaches (elementContent p outer) ls e x n c i l parts is new q =
     rw (content-teaches (learnedAt (siteOf (elementContent p outer)) ls) x n c i e l parts is new)
 
-learn-none : (st : State) (ls : List Learned) → learn (siteOf st) none ls ≡ ls
-unfolding siteOf learn
-learn-none document ls = refl
-learn-none docContent ls = refl
-learn-none docEnd ls = refl
-learn-none finished ls = refl
-learn-none (startTag q outer) ls = refl
-learn-none (elementContent q outer) ls = refl
+pub learnt-none : (st : State) (ls : List Learned) (k : Kind) (q : Option (QName Placed)) → learnt st false k q ls ≡ ls
+unfolding siteOf learn learnt
+learnt-none document ls k q = refl
+learnt-none docContent ls k q = refl
+learnt-none docEnd ls k q = refl
+learnt-none finished ls k q = refl
+learnt-none (startTag p outer) ls k q = refl
+learnt-none (elementContent p outer) ls k q = refl
 
 -- ---- both
 
@@ -277,7 +277,3 @@ module _ (s : Settings) (ls : List Learned) (st : State) (e : Event Text) where
       coded false
       (defined-learned s here e v _ st (λ z. Option·none-ne-some _ (rw z at h)) h)
       (λ x is l p. ap (λ t. learn (siteOf st) t ls) (untaught here x e q p (ap (λ p. p .qname) is) l named))
-
-  pub learnt-none : (k : Kind) (q : Option (QName Placed)) → learnt st false k q ls ≡ ls
-  unfolding learnt
-  learnt-none k q = learn-none st ls

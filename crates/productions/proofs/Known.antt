@@ -13,6 +13,8 @@ use Rattle.spec_fields.proofs.Number.{member-below}
 use Rattle.text.specs.Text.{Text}
 use Rattle.spec_exi.specs.Event.{Event, startDocument, endDocument, startElement, attribute, endElement, characters, comment, instruction, Kind, SD, ED, SE, AT, EE, CH, CM, PI, kindOf, nameOf}
 use Rattle.spec_exi.specs.Grammar.{Production, kindNumber, fitsName, fits, Site, eqSite, learnedIn, raised, firstFit, hasKind, hasName}
+use Rattle.spec_exi.specs.Tables.{nameText}
+use Rattle.spec_exi.specs.Context.{entriesOf}
 use Rattle.spec_exi.specs.Grammar as grammar
 use Rattle.rows.specs.declared.Row.{Row}
 use Rattle.rows.specs.declared.Found.{Found}
@@ -21,8 +23,9 @@ use Rattle.rows.specs.Rows.{rowAt, rows, countOf, findThat, found}
 use Rattle.rows.proofs.Laws.{rows-length, rows-at}
 use Rattle.rows.specs.Hit.{Hit}
 use Rattle.layout.specs.Layout.{learnedAt, grammarsAt}
-use Rattle.layout.specs.Meaning.{Memory, Counts, nameAt, kindAt, carries, carriedName, productionAt, learnedKey, siteFor, learnedRow, newestFirst, learnedFrom, grammarsFrom}
-use Rattle.layout.specs.Tidy.{Distinct, Grammars}
+use Rattle.layout.specs.Meaning.{Memory, Counts, nameAt, kindAt, carries, carriedName, productionAt, learnedKey, siteFor, learnedRow, newestFirst, tablesIn, learnedFrom, grammarsFrom}
+use Rattle.layout.specs.Tidy.{Distinct, Grammars, Tidy}
+use Rattle.layout.proofs.Entries.{entries-row}
 use Rattle.layout.proofs.Kept.{name-placed}
 use Rattle.layout.proofs.Productions.{name-test, kind-test, carried-test, kind-at, learned-count, learned-as, learned-at, learned-hit}
 use Rattle.productions.specs.Locate.{hasCells, hasKey}
@@ -164,6 +167,18 @@ module _ (m : Memory) (c : Counts) where
   pub characters-numbered : (v : Text) → 0 < c .names → Numbered m c (characters v) 0
   unfolding kindOf nameOf kindNumber carriedName
   characters-numbered v h = record { kind = omega arith; name = refl; below = h; plain = λ z. refl }
+
+  -- The name lies where the tables have its entries.
+  carried-entries : Tidy m c → (i : ℕ) → i < c .names → (k : Kind)
+      → Option·map (entriesOf (tablesIn m c)) (Option·map nameText (carriedName m k i)) ≡ carriedName m k i
+  unfolding carriedName
+  carried-entries t i b =
+      let e = ap some (ap (entriesOf (tablesIn m c)) (name-placed m i) ∙ entries-row t i b) in
+      elim [ SD ↦ refl | ED ↦ refl | SE ↦ e | AT ↦ e | EE ↦ refl | CH ↦ refl | CM ↦ refl | PI ↦ refl ]
+
+  pub numbered-entries : Tidy m c → (ev : Event Text) (i : ℕ) → Numbered m c ev i
+      → Option·map (entriesOf (tablesIn m c)) (nameOf ev) ≡ carriedName m (kindOf ev) i
+  numbered-entries t ev i n = rw (n .name) (carried-entries t i (n .below) (kindOf ev))
 
   module _ (d : Distinct m c) (g : Grammars m c) (e : ℕ) (tag : Bool) (h : e < c .names)
       (ev : Event Text) (i : ℕ) (n : Numbered m c ev i) where

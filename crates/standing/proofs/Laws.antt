@@ -4,6 +4,7 @@ use native.Mathlib.Omega.{arith}
 use mathlib.Core.Path.{_≡_, refl, sym, ap, _∙_}
 use mathlib.Core.Bool.{cond}
 use mathlib.Core.List.{List, [], _∷_, map}
+use mathlib.Core.Option.{none, some}
 use lib.ListN.{length, set, length-map, length-set}
 use lib.Seq.{getD-set-same, getD-set-other}
 use lib.Dec.{T, leb, eqb}
@@ -13,11 +14,11 @@ use Rattle.text.specs.Text.{Text}
 use Rattle.spec_exi.specs.Sizes.{sizes, maxOpen, maxNames, maxLearned, maxGrammars}
 use Rattle.spec_exi.specs.Event.{QName}
 use Rattle.spec_exi.specs.Settings.{Settings}
-use Rattle.spec_exi.specs.Grammar.{document, docContent, docEnd, finished, startTag, elementContent, openElements, inContent, closed}
+use Rattle.spec_exi.specs.Grammar.{document, docContent, docEnd, finished, startTag, elementContent, openElements, siteOf, inContent, closed}
 use Rattle.spec_exi.specs.Grammar as grammar
 use Rattle.spec_exi.specs.Lists.{withinTables, withinGrammars}
 use Rattle.rows.specs.Rows.{rows}
-use Rattle.layout.specs.Meaning.{Memory, nameAt, stateIn, tablesIn, learnedFrom, grammarsFrom, newestFirst, contextIn}
+use Rattle.layout.specs.Meaning.{Memory, nameAt, siteFor, stateIn, tablesIn, learnedFrom, grammarsFrom, newestFirst, contextIn}
 use Rattle.layout.specs.Tidy.{Tidy}
 use Rattle.layout.proofs.Sizes.{within-tables, length-learned, length-grammars}
 use Rattle.state.specs.declared.Stack.{Stack}
@@ -32,6 +33,17 @@ use Rattle.state.specs.Changed.{reached, restated}
 state-is : (m : Memory) (st : State) → contextOf m st .state ≡ stateIn (st .mode) (map (nameAt m) (openNumbers (st .stack)))
 unfolding contextOf contextIn
 state-is m st = refl
+
+no-site : (k : ℕ) → siteOf (stateIn k []) ≡ none
+unfolding siteOf stateIn
+no-site zero = refl
+no-site (suc zero) = refl
+no-site (suc (suc zero)) = refl
+no-site (suc (suc (suc k))) = refl
+
+site-in : (k : ℕ) (q : QName Text) (outer : List (QName Text)) → siteOf (stateIn k (q ∷ outer)) ≡ some (siteFor q (eqb k 4))
+unfolding siteOf stateIn
+site-in k q outer = split (eqb k 4) (λ e. rw e) (λ e. rw e)
 
 module _ {m : Memory} {st : State} (h : Standing m st) where
   -- Outside any element.
@@ -68,6 +80,13 @@ module _ {m : Memory} {st : State} (h : Standing m st) where
       → contextOf m st .state ≡ elementContent (nameAt m (topOf (st .stack))) (map (nameAt m) (openNumbers (popped (st .stack))))
   unfolding stateIn
   elementContent-state e = rw (inner-state (omega arith), e)
+
+  -- Where the state learns.
+  pub outer-site : st .mode < 4 → siteOf (contextOf m st .state) ≡ none
+  outer-site l = rw (outer-state l) (no-site (st .mode))
+
+  pub inner-site : 4 ≤ st .mode → siteOf (contextOf m st .state) ≡ some (siteFor (nameAt m (topOf (st .stack))) (eqb (st .mode) 4))
+  inner-site l = rw (inner-state l) (site-in (st .mode) (nameAt m (topOf (st .stack))) (map (nameAt m) (openNumbers (popped (st .stack)))))
 
   pub top-below : 4 ≤ st .mode → topOf (st .stack) < st .names
   unfolding topOf
