@@ -75,7 +75,7 @@ fit-of s l g =
 
 -- What an accepting answer rests on.
 record Accepting (r : ReaderRoom) (o : SettingNumbers) (stream : List ℕ) (x : Reading) : Type 0 where
-  enough : T (enoughToRead r)
+  enough : T (enoughToRead sizes r)
   means : T (meaningful o)
   short : length stream ≤ maxStream
   answer : readStream sizes (settingsOf o) stream ≡ accepted x
@@ -83,11 +83,11 @@ record Accepting (r : ReaderRoom) (o : SettingNumbers) (stream : List ℕ) (x : 
 accepting : (r : ReaderRoom) (o : SettingNumbers) (stream : List ℕ) (x : Reading) → read r o stream ≡ accepted x → Accepting r o stream x
 unfolding read readSized
 accepting r o stream x q =
-    split (enoughToRead r)
+    split (enoughToRead sizes r)
     (λ e. split (meaningful o)
     (λ m. split (leb (length stream) maxStream)
     (λ h. record {
-      enough = is-T (enoughToRead r) e;
+      enough = is-T (enoughToRead sizes r) e;
       means = is-T (meaningful o) m;
       short = leb→le (length stream) maxStream (is-T (leb (length stream) maxStream) h);
       answer = rw (e, m, h) at q;
@@ -96,10 +96,10 @@ accepting r o stream x q =
     (λ m. not-accepted (rw (e, m) at q)))
     (λ e. not-accepted (rw e at q))
 
-read-accepts : (r : ReaderRoom) (o : SettingNumbers) (stream : List ℕ) → T (enoughToRead r) → T (meaningful o) → length stream ≤ maxStream
+read-accepts : (r : ReaderRoom) (o : SettingNumbers) (stream : List ℕ) → T (enoughToRead sizes r) → T (meaningful o) → length stream ≤ maxStream
     → read r o stream ≡ readStream sizes (settingsOf o) stream
 unfolding read readSized
-read-accepts r o stream e m h = rw (T-is (enoughToRead r) e, T-is (meaningful o) m, T-is (leb (length stream) maxStream) (le→leb (length stream) maxStream h))
+read-accepts r o stream e m h = rw (T-is (enoughToRead sizes r) e, T-is (meaningful o) m, T-is (leb (length stream) maxStream) (le→leb (length stream) maxStream h))
 
 -- ---- where the strings lie
 
@@ -169,7 +169,7 @@ accepts-good r o stream l h q =
     let i = f .is in
     subst (λ k. Good s k × (stream ≡ strict s k)) e (good-of s (map eventText (x .events)) (f .fit) (f .few) (subst (λ b. length b ≤ maxStream) i (m .short)), i)
 
-good-accepted : (r : ReaderRoom) (o : SettingNumbers) (l : List (Event Text)) → T (enoughToRead r) → T (meaningful o) → Good (settingsOf o) l
+good-accepted : (r : ReaderRoom) (o : SettingNumbers) (l : List (Event Text)) → T (enoughToRead sizes r) → T (meaningful o) → Good (settingsOf o) l
     → Accepts r o (strict (settingsOf o) l) l
 good-accepted r o l e m g =
     let s = settingsOf o in
@@ -229,7 +229,7 @@ demand-3 =
 
 -- What an accepting answer rests on.
 record Writing (r : WriterRoom) (o : SettingNumbers) (xs : List Stored) (store : Text) (stream : List ℕ) : Type 0 where
-  enough : T (enoughToWrite r)
+  enough : T (enoughToWrite sizes r)
   means : T (meaningful o)
   answer : writeList sizes (settingsOf o) xs store ≡ accepted stream
 
@@ -237,15 +237,15 @@ writing : (r : WriterRoom) (o : SettingNumbers) (xs : List Stored) (store : Text
     → Writing r o xs store stream
 unfolding write
 writing r o xs store stream q =
-    split (enoughToWrite r)
-    (λ e. split (meaningful o) (λ m. record { enough = is-T (enoughToWrite r) e; means = is-T (meaningful o) m; answer = rw (e, m) at q })
+    split (enoughToWrite sizes r)
+    (λ e. split (meaningful o) (λ m. record { enough = is-T (enoughToWrite sizes r) e; means = is-T (meaningful o) m; answer = rw (e, m) at q })
     (λ m. not-accepted (rw (e, m) at q)))
     (λ e. not-accepted (rw e at q))
 
-write-accepts : (r : WriterRoom) (o : SettingNumbers) (xs : List Stored) (store : Text) → T (enoughToWrite r) → T (meaningful o)
+write-accepts : (r : WriterRoom) (o : SettingNumbers) (xs : List Stored) (store : Text) → T (enoughToWrite sizes r) → T (meaningful o)
     → write r o xs store ≡ writeList sizes (settingsOf o) xs store
 unfolding write
-write-accepts r o xs store e m = rw (T-is (enoughToWrite r) e, T-is (meaningful o) m)
+write-accepts r o xs store e m = rw (T-is (enoughToWrite sizes r) e, T-is (meaningful o) m)
 
 -- The list behind a written stream.
 record Behind (s : Settings) (xs : List Stored) (store : Text) (stream : List ℕ) : Type 0 where
@@ -286,7 +286,7 @@ behind : (r : WriterRoom) (o : SettingNumbers) (xs : List Stored) (store : Text)
     → Behind (settingsOf o) xs store stream
 behind r o xs store stream q = written-list (settingsOf o) xs store stream (writing r o xs store stream q .answer)
 
-gives-back : (r : WriterRoom) (p : ReaderRoom) (o : SettingNumbers) (stream : List ℕ) (x : Reading) → T (enoughToWrite r) → AreOctets stream
+gives-back : (r : WriterRoom) (p : ReaderRoom) (o : SettingNumbers) (stream : List ℕ) (x : Reading) → T (enoughToWrite sizes r) → AreOctets stream
     → read p o stream ≡ accepted x → write r o (map storedOf (x .events)) (x .store) ≡ accepted stream
 gives-back r p o stream x e h q =
     let l = map eventText (x .events) in

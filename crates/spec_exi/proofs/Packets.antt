@@ -394,7 +394,7 @@ module _ (s : Settings) where
 
 -- ---- the claims
 
-receive-is : (r : ReaderRoom) (o : SettingNumbers) (os : List ℕ) → enoughToRead r ≡ true → meaningful o ≡ true
+receive-is : (r : ReaderRoom) (o : SettingNumbers) (os : List ℕ) → enoughToRead sizes r ≡ true → meaningful o ≡ true
     → length os ≤ maxStream → receive r o os ≡ received (settingsOf o) os
 unfolding receive received read readSized
 receive-is r o os a b l = rw (a, b, T-is (leb (length os) maxStream) (le→leb (length os) maxStream l))
@@ -406,7 +406,7 @@ stays : (r : ReaderRoom) (o : SettingNumbers) (os more : List ℕ) (k : Refusal)
     → receive r o os ≡ refused k i → receive r o (os ++ more) ≡ refused k i
 unfolding receive read readSized soFar numberOf
 stays r o os more k i l e =
-    split (enoughToRead r)
+    split (enoughToRead sizes r)
     (λ a. split (meaningful o)
     (λ b. receive-is r o (os ++ more) a b l
     ∙ received-stays (settingsOf o) os more k i (sym (receive-is r o os a b (shorter os more l)) ∙ e))
@@ -417,7 +417,7 @@ growing : (r : ReaderRoom) (o : SettingNumbers) (os more : List ℕ) (x y : Read
     → receive r o (os ++ more) ≡ accepted y → Begins x y
 unfolding receive read readSized soFar numberOf
 growing r o os more x y e f =
-    split (enoughToRead r)
+    split (enoughToRead sizes r)
     (λ a. split (meaningful o)
     (λ b. split (leb (length (os ++ more)) maxStream)
     (λ c.
@@ -431,7 +431,7 @@ counting : (r : ReaderRoom) (o : SettingNumbers) (os : List ℕ) (i : ℕ) → r
     → length (complete (settingsOf o) os i .events) ≡ i
 unfolding read readSized numberOf
 counting r o os i e =
-    split (enoughToRead r)
+    split (enoughToRead sizes r)
     (λ a. split (meaningful o)
     (λ b. split (leb (length os) maxStream)
     (λ c. stream-count (settingsOf o) os i (rw (a, b, c) at e))
@@ -505,7 +505,7 @@ unfolding receive soFar numberOf read readSized
 in-pieces-more =
     record {
       store = λ r o os x e. store-so-far r o os x e;
-      too-long = λ r o os a b l. rw (T-is (enoughToRead r) a, T-is (meaningful o) b, lt-leb (length os) maxStream l);
-      no-room = λ r o os a. rw (not-T (enoughToRead r) a);
-      no-meaning = λ r o os a b. rw (T-is (enoughToRead r) a, not-T (meaningful o) b);
+      too-long = λ r o os a b l. rw (T-is (enoughToRead sizes r) a, T-is (meaningful o) b, lt-leb (length os) maxStream l);
+      no-room = λ r o os a. rw (not-T (enoughToRead sizes r) a);
+      no-meaning = λ r o os a b. rw (T-is (enoughToRead sizes r) a, not-T (meaningful o) b);
     }

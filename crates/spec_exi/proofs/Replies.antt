@@ -242,16 +242,16 @@ module _ (s : Settings) where
 
 -- What `read` can answer.
 data Outcome (r : ReaderRoom) (o : SettingNumbers) (stream : List ℕ) : Answer Reading → Type 0 where
-  noRoom : T (not (enoughToRead r)) → Outcome r o stream (refused room 0)
-  noMeaning : T (enoughToRead r) → T (not (meaningful o)) → Outcome r o stream (refused settings 0)
-  tooLong : T (enoughToRead r) → T (meaningful o) → maxStream < length stream → Outcome r o stream (refused long 0)
-  inside : {a : Answer Reading} → T (enoughToRead r) → T (meaningful o) → length stream ≤ maxStream → Inside a
+  noRoom : T (not (enoughToRead sizes r)) → Outcome r o stream (refused room 0)
+  noMeaning : T (enoughToRead sizes r) → T (not (meaningful o)) → Outcome r o stream (refused settings 0)
+  tooLong : T (enoughToRead sizes r) → T (meaningful o) → maxStream < length stream → Outcome r o stream (refused long 0)
+  inside : {a : Answer Reading} → T (enoughToRead sizes r) → T (meaningful o) → length stream ≤ maxStream → Inside a
       → Outcome r o stream a
 
 outcome : (r : ReaderRoom) (o : SettingNumbers) (stream : List ℕ) → Outcome r o stream (read r o stream)
 unfolding read readSized
 outcome r o stream =
-    split (enoughToRead r)
+    split (enoughToRead sizes r)
     (λ e. split (meaningful o)
     (λ m. split (leb (length stream) maxStream)
     (λ l. rw (e, m, l) (inside (is-T _ e) (is-T _ m) (leb→le _ _ (is-T _ l)) (stream-inside (settingsOf o) stream)))
@@ -272,27 +272,27 @@ module _ {r : ReaderRoom} {o : SettingNumbers} {stream : List ℕ} where
   numbers (inside e m l (stopped least most i z)) = most
   numbers (inside e m l (whole n c)) = zero-le
 
-  no-room : {a : Answer Reading} → Outcome r o stream a → (readReply a .number ≡ 1) ↔ T (not (enoughToRead r))
+  no-room : {a : Answer Reading} → Outcome r o stream a → (readReply a .number ≡ 1) ↔ T (not (enoughToRead sizes r))
   unfolding readReply numberOf
   no-room (noRoom e) = (λ q. e, λ f. refl)
-  no-room (noMeaning e m) = (λ q. absurd (omega arith), λ f. contrary (enoughToRead r) e f)
-  no-room (tooLong e m l) = (λ q. absurd (omega arith), λ f. contrary (enoughToRead r) e f)
-  no-room (inside e m l (stopped least most i z)) = (λ q. absurd (omega (arith, least)), λ f. contrary (enoughToRead r) e f)
-  no-room (inside e m l (whole n c)) = (λ q. absurd (omega arith), λ f. contrary (enoughToRead r) e f)
+  no-room (noMeaning e m) = (λ q. absurd (omega arith), λ f. contrary (enoughToRead sizes r) e f)
+  no-room (tooLong e m l) = (λ q. absurd (omega arith), λ f. contrary (enoughToRead sizes r) e f)
+  no-room (inside e m l (stopped least most i z)) = (λ q. absurd (omega (arith, least)), λ f. contrary (enoughToRead sizes r) e f)
+  no-room (inside e m l (whole n c)) = (λ q. absurd (omega arith), λ f. contrary (enoughToRead sizes r) e f)
 
   no-meaning : {a : Answer Reading} → Outcome r o stream a
-      → (readReply a .number ≡ 2) ↔ (T (enoughToRead r) × T (not (meaningful o)))
+      → (readReply a .number ≡ 2) ↔ (T (enoughToRead sizes r) × T (not (meaningful o)))
   unfolding readReply numberOf
-  no-meaning (noRoom e) = (λ q. absurd (omega arith), λ f. contrary (enoughToRead r) (f .0) e)
+  no-meaning (noRoom e) = (λ q. absurd (omega arith), λ f. contrary (enoughToRead sizes r) (f .0) e)
   no-meaning (noMeaning e m) = (λ q. (e, m), λ f. refl)
   no-meaning (tooLong e m l) = (λ q. absurd (omega arith), λ f. contrary (meaningful o) m (f .1))
   no-meaning (inside e m l (stopped least most i z)) = (λ q. absurd (omega (arith, least)), λ f. contrary (meaningful o) m (f .1))
   no-meaning (inside e m l (whole n c)) = (λ q. absurd (omega arith), λ f. contrary (meaningful o) m (f .1))
 
   too-long : {a : Answer Reading} → Outcome r o stream a
-      → (readReply a .number ≡ 3) ↔ (T (enoughToRead r) × T (meaningful o) × (maxStream < length stream))
+      → (readReply a .number ≡ 3) ↔ (T (enoughToRead sizes r) × T (meaningful o) × (maxStream < length stream))
   unfolding readReply numberOf
-  too-long (noRoom e) = (λ q. absurd (omega arith), λ f. contrary (enoughToRead r) (f .0) e)
+  too-long (noRoom e) = (λ q. absurd (omega arith), λ f. contrary (enoughToRead sizes r) (f .0) e)
   too-long (noMeaning e m) = (λ q. absurd (omega arith), λ f. contrary (meaningful o) (f .1) m)
   too-long (tooLong e m l) = (λ q. (e, m, l), λ f. refl)
   too-long (inside e m l (stopped least most i z)) = (λ q. absurd (omega (arith, least)), λ f. absurd (omega (arith, f .2)))
@@ -368,7 +368,7 @@ written-index : (r : WriterRoom) (o : SettingNumbers) (xs : List Stored) (store 
     → writeReply (write r o xs store) .index ≤ length xs
 unfolding write writeList writeReply
 written-index r o xs store =
-    split (enoughToWrite r)
+    split (enoughToWrite sizes r)
     (λ e. split (meaningful o)
     (λ m. rw (e, m) (list-most sizes (settingsOf o) (length xs) _ (events-most maxEvents sizes (settingsOf o) (start (settingsOf o)) store xs)))
     (λ m. rw (e, m) zero-le))
@@ -385,7 +385,7 @@ written-octets : (r : WriterRoom) (o : SettingNumbers) (xs : List Stored) (store
     → writeReply (write r o xs store) .octets ≤ maxStream
 unfolding write writeList writeReply
 written-octets r o xs store =
-    split (enoughToWrite r)
+    split (enoughToWrite sizes r)
     (λ e. split (meaningful o) (λ m. rw (e, m) (octets-most (settingsOf o) _)) (λ m. rw (e, m) zero-le))
     (λ e. rw e zero-le)
 

@@ -25,7 +25,7 @@ use Rattle.spec_exi.specs.Reader.{readLiteral, readHit, readIn, readByLi
 use Rattle.spec_exi.specs.Reader.{readForm, readString, readName, readContent, step, Reading}
 use Rattle.spec_exi.specs.Reader.{following, onward, readEvents, readHeader, readBody}
 use Rattle.spec_exi.specs.Reader.{readStream, ReaderRoom, enoughToRead, readSized}
-use Rattle.spec_exi.specs.Claims.{NoLarger, LargerSizes, LargerRoom}
+use Rattle.spec_exi.specs.Claims.{NoLarger, LargerSizes}
 
 not-accepted : {X A : Type 0} {k : Refusal} {i : ℕ} {a : A} → _≡_ {A = Answer A} (refused k i) (accepted a) → X
 not-accepted e = let n : _≡_ {A = ℕ} 0 1 = cc in absurd (omega arith)
@@ -153,25 +153,19 @@ module _ (y z : Sizes) (h : NoLarger y z) where
       go (bad k) q = not-accepted q
       go (got u bs) q = events-still s (y .events) (z .events) (h .events) (start s) bs r q
 
-  pub read-still : (r : ReaderRoom) (o : SettingNumbers) (stream : List ℕ) (x : Reading) → readSized y r o stream ≡ accepted x
-      → readSized z r o stream ≡ accepted x
+  pub read-still : (p r : ReaderRoom) (o : SettingNumbers) (stream : List ℕ) (x : Reading)
+      → T (enoughToRead z r) → readSized y p o stream ≡ accepted x → readSized z r o stream ≡ accepted x
   unfolding readSized
-  read-still r o stream x e =
-      split (enoughToRead r)
+  read-still p r o stream x w e =
+      let long = larger (length stream) (y .stream) (z .stream) (h .stream) in
+      split (enoughToRead y p)
       (λ a. split (meaningful o)
       (λ b. split (leb (length stream) (y .stream))
-      (λ c. rw (a, b, T-is (leb (length stream) (z .stream)) (larger (length stream) (y .stream) (z .stream) (h .stream) (is-T (leb (length stream) (y .stream)) c))) (stream-still (settingsOf o) stream x (rw (a, b, c) at e)))
+      (λ c. rw (T-is (enoughToRead z r) w, b, T-is (leb (length stream) (z .stream)) (long (is-T (leb (length stream) (y .stream)) c)))
+      (stream-still (settingsOf o) stream x (rw (a, b, c) at e)))
       (λ c. not-accepted (rw (a, b, c) at e)))
       (λ b. not-accepted (rw (a, b) at e)))
       (λ a. not-accepted (rw a at e))
 
 pub larger-sizes : LargerSizes
 larger-sizes = record { accepted-still = read-still }
-
-still-with : (y z : Sizes) → NoLarger y z → (p r : ReaderRoom) (o : SettingNumbers) (stream : List ℕ) (x : Reading) → T (enoughToRead r)
-    → readSized y p o stream ≡ accepted x → readSized z r o stream ≡ accepted x
-unfolding readSized
-still-with y z h p r o stream x a e = read-still y z h r o stream x (rw (T-is (enoughToRead r) a) (split (enoughToRead p) (λ b. rw b at e) (λ b. not-accepted (rw b at e))))
-
-pub larger-room : LargerRoom
-larger-room = record { accepted-still = still-with }

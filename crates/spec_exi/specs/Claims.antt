@@ -43,13 +43,13 @@ pub record Demand1 : Type 0 where
       → readReply (read r o stream) .number ≤ 13
   -- ROOM, SETTINGS and LONG come first, in this order.
   pub room : (r : ReaderRoom) (o : SettingNumbers) (stream : List ℕ)
-      → (readReply (read r o stream) .number ≡ 1) ↔ T (not (enoughToRead r))
+      → (readReply (read r o stream) .number ≡ 1) ↔ T (not (enoughToRead sizes r))
   pub settings : (r : ReaderRoom) (o : SettingNumbers) (stream : List ℕ)
       → (readReply (read r o stream) .number ≡ 2)
-      ↔ (T (enoughToRead r) × T (not (meaningful o)))
+      ↔ (T (enoughToRead sizes r) × T (not (meaningful o)))
   pub long : (r : ReaderRoom) (o : SettingNumbers) (stream : List ℕ)
       → (readReply (read r o stream) .number ≡ 3)
-      ↔ (T (enoughToRead r) × T (meaningful o) × (maxStream < length stream))
+      ↔ (T (enoughToRead sizes r) × T (meaningful o) × (maxStream < length stream))
   -- The index is that of an event, or the number of events; 0 for these three and HEADER.
   pub index : (r : ReaderRoom) (o : SettingNumbers) (stream : List ℕ)
       → readReply (read r o stream) .index ≤ maxEvents
@@ -103,7 +103,7 @@ pub record Demand3 : Type 0 where
       → (readReply (read r o stream) .number ≡ 0) ↔ ((l : List (Event Text)) × Accepts r o stream l)
   pub exact : (r : ReaderRoom) (o : SettingNumbers) (stream : List ℕ) (l : List (Event Text))
       → AreOctets stream → Accepts r o stream l
-      ↔ (T (enoughToRead r) × T (meaningful o) × Good (settingsOf o) l
+      ↔ (T (enoughToRead sizes r) × T (meaningful o) × Good (settingsOf o) l
       × (stream ≡ strict (settingsOf o) l))
   pub one-list : (s : Settings) (l m : List (Event Text)) → Good s l → Good s m
       → strict s l ≡ strict s m → l ≡ m
@@ -135,16 +135,16 @@ pub record Demand2 : Type 0 where
   pub written : (r : WriterRoom) (o : SettingNumbers) (xs : List Stored) (store : Text)
       (stream : List ℕ)
       → (write r o xs store ≡ accepted stream)
-      ↔ ((T (enoughToWrite r) × T (meaningful o))
+      ↔ ((T (enoughToWrite sizes r) × T (meaningful o))
       × ((l : List (Event Text)) × (meant store xs ≡ some l) × Good (settingsOf o) l
       × (stream ≡ strict (settingsOf o) l)))
   pub read-back : (r : WriterRoom) (p : ReaderRoom) (o : SettingNumbers) (xs : List Stored)
       (store : Text) (l : List (Event Text)) (stream : List ℕ)
-      → T (enoughToRead p) → meant store xs ≡ some l → write r o xs store ≡ accepted stream
+      → T (enoughToRead sizes p) → meant store xs ≡ some l → write r o xs store ≡ accepted stream
       → Accepts p o stream l
   pub written-back : (r : WriterRoom) (p : ReaderRoom) (o : SettingNumbers) (stream : List ℕ)
       (x : Reading)
-      → T (enoughToWrite r) → AreOctets stream → read p o stream ≡ accepted x
+      → T (enoughToWrite sizes r) → AreOctets stream → read p o stream ≡ accepted x
       → write r o (map storedOf (x .events)) (x .store) ≡ accepted stream
 
 -- ---- larger sizes take nothing away: what is read under smaller ones is read alike, with its
@@ -165,8 +165,9 @@ pub record NoLarger (y z : Sizes) : Type 0 where
 
 pub record LargerSizes : Type 0 where
   pub accepted-still : (y z : Sizes) → NoLarger y z
-      → (r : ReaderRoom) (o : SettingNumbers) (stream : List ℕ) (x : Reading)
-      → readSized y r o stream ≡ accepted x → readSized z r o stream ≡ accepted x
+      → (p r : ReaderRoom) (o : SettingNumbers) (stream : List ℕ) (x : Reading)
+      → T (enoughToRead z r) → readSized y p o stream ≡ accepted x
+      → readSized z r o stream ≡ accepted x
 
 -- ---- a stream in pieces: the answer goes by the octets so far alone, and only grows
 
@@ -208,19 +209,13 @@ pub record InPiecesMore : Type 0 where
       .tables .store
   -- Past 16,384 octets: LONG at 0, if not ROOM or SETTINGS.
   pub too-long : (r : ReaderRoom) (o : SettingNumbers) (octets : List ℕ)
-      → T (enoughToRead r) → T (meaningful o) → maxStream < length octets
+      → T (enoughToRead sizes r) → T (meaningful o) → maxStream < length octets
       → receive r o octets ≡ refused long 0
   -- ROOM and SETTINGS stay, however long.
   pub no-room : (r : ReaderRoom) (o : SettingNumbers) (octets : List ℕ)
-      → T (not (enoughToRead r)) → receive r o octets ≡ refused room 0
+      → T (not (enoughToRead sizes r)) → receive r o octets ≡ refused room 0
   pub no-meaning : (r : ReaderRoom) (o : SettingNumbers) (octets : List ℕ)
-      → T (enoughToRead r) → T (not (meaningful o)) → receive r o octets ≡ refused settings 0
-
--- The old sizes with the memory that was enough for them, the new ones with enough.
-pub record LargerRoom : Type 0 where
-  pub accepted-still : (y z : Sizes) → NoLarger y z → (p r : ReaderRoom) (o : SettingNumbers)
-      (stream : List ℕ) (x : Reading) → T (enoughToRead r)
-      → readSized y p o stream ≡ accepted x → readSized z r o stream ≡ accepted x
+      → T (enoughToRead sizes r) → T (not (meaningful o)) → receive r o octets ≡ refused settings 0
 
 -- ---- the worked examples: K1 to K12; others; where strings lie; the order of the tests, of the
 -- reader and of the writer

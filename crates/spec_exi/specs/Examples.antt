@@ -422,6 +422,7 @@ sizesOf a b c d e f g h i j =
       learned = h;
       string = i;
       store = j;
+      work = 4096;
     }
 
 unfoldable pub settingsAt : ℕ → ℕ → ℕ → ℕ → ℕ → ℕ → ℕ → ℕ → ℕ → ℕ → SettingNumbers

@@ -1,6 +1,6 @@
 -- The reader's answer for any octets (scope, "Refusal numbers"): what it refuses, in order, or what
 -- it reads.
-use Prim.Native.Nat.{ℕ, zero, suc, _+_, _-_}
+use Prim.Native.Nat.{ℕ, zero, suc, _+_, _*_, _-_}
 use mathlib.Core.Bool.{Bool, true, false, cond, _&&_, not}
 use mathlib.Core.List.{List, [], _∷_, map}
 use mathlib.Core.Option.{Option, none, some}
@@ -17,7 +17,7 @@ use Rattle.spec_exi.specs.Event.{QName, Event, startDocument, endDocumen
 use Rattle.spec_exi.specs.Event.{startElement, attribute, characters, comment, instruction}
 use Rattle.spec_exi.specs.Event.{Kind, SD, ED, SE, AT, EE, CH, CM, PI, nameOf}
 use Rattle.spec_exi.specs.Settings.{Settings, SettingNumbers, meaningful, settingsOf, headerOf}
-use Rattle.spec_exi.specs.Sizes.{Sizes, sizes, maxStore, eventCells, readerWork}
+use Rattle.spec_exi.specs.Sizes.{Sizes, sizes, cellsPerEvent}
 use Rattle.spec_exi.specs.Tables.{Placed, nameText, eventText, Slot, Tables, Role, uri, local}
 use Rattle.spec_exi.specs.Tables.{value, target, plain, Partitions, compact, literals}
 use Rattle.spec_exi.specs.Tables.{partitionsOf, Form, hit, literal, eqForm, formOf, laid}
@@ -199,13 +199,17 @@ pub record ReaderRoom : Type 0 where
   pub text : ℕ
   pub work : ℕ
 
-unfoldable pub enoughToRead : ReaderRoom → Bool
-enoughToRead r = leb eventCells (r .events) && leb maxStore (r .text) && leb readerWork (r .work)
+-- Cells for the events and the code points that there may be, and work memory (scope, "Sizes").
+unfoldable pub enoughToRead : Sizes → ReaderRoom → Bool
+enoughToRead z r =
+    leb (cellsPerEvent * z .events) (r .events)
+    && leb (z .store) (r .text)
+    && leb (z .work) (r .work)
 
 -- The reader's answer under these sizes: ROOM, SETTINGS, LONG, then in stream order.
 unfoldable pub readSized : Sizes → ReaderRoom → SettingNumbers → List ℕ → Answer Reading
 readSized z r o stream =
-    cond (not (enoughToRead r)) (refused room 0)
+    cond (not (enoughToRead z r)) (refused room 0)
     (cond (not (meaningful o)) (refused settings 0)
     (cond (not (leb (length stream) (z .stream))) (refused long 0)
     (readStream z (settingsOf o) stream)))

@@ -39,8 +39,15 @@ maxString = 1024
 unfoldable pub maxStore : ℕ
 maxStore = 16384
 
--- The sizes that LIMIT and LONG speak of. Definitions take them as z: a claim can speak of two
--- sets.
+-- cells per event, and of work memory (ours: docs/MEMORY.md)
+unfoldable pub cellsPerEvent : ℕ
+cellsPerEvent = 9
+
+unfoldable pub readerWork : ℕ
+readerWork = 4096
+
+-- The sizes that LONG, LIMIT and ROOM speak of. Definitions take them as z: a claim can speak of
+-- two sets.
 pub record Sizes : Type 0 where
   pub stream : ℕ
   pub events : ℕ
@@ -52,6 +59,8 @@ pub record Sizes : Type 0 where
   pub learned : ℕ
   pub string : ℕ
   pub store : ℕ
+  -- cells of work memory
+  pub work : ℕ
 
 -- The scope's.
 abbrev pub sizes : Sizes
@@ -67,19 +76,14 @@ sizes =
       learned = maxLearned;
       string = maxString;
       store = maxStore;
+      work = readerWork;
     }
 
--- ---- what is lent, in cells of 32 bits (ours: docs/MEMORY.md)
-
-unfoldable pub cellsPerEvent : ℕ
-cellsPerEvent = 9
+-- ---- what is lent, in cells of 32 bits
 
 unfoldable pub eventCells : ℕ
 eventCells = cellsPerEvent * maxEvents
 
--- work memory of the reader, and of the writer, which has a text store behind it
-unfoldable pub readerWork : ℕ
-readerWork = 4096
-
+-- The writer's work memory has a text store behind it.
 unfoldable pub writerWork : ℕ
 writerWork = readerWork + maxStore

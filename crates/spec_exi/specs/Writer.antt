@@ -1,6 +1,6 @@
 -- The writer's answer for any list (scope, "Refusal numbers"): what it refuses, in order, or the
 -- octets.
-use Prim.Native.Nat.{ℕ, zero, suc}
+use Prim.Native.Nat.{ℕ, zero, suc, _+_}
 use mathlib.Core.Bool.{Bool, false, cond, _&&_, not}
 use mathlib.Core.List.{List, [], _∷_, _++_}
 use mathlib.Core.Option.{Option, none, some}
@@ -12,7 +12,7 @@ use Rattle.spec_fields.specs.Refusal.{shape, place, Answer, refused, accepted}
 use Rattle.text.specs.Text.{Text, Span, inside, part, allChars}
 use Rattle.spec_exi.specs.Event.{Event, mapEvent, stringsOf}
 use Rattle.spec_exi.specs.Settings.{Settings, SettingNumbers, meaningful, settingsOf, headerOf}
-use Rattle.spec_exi.specs.Sizes.{Sizes, sizes, maxStream, writerWork}
+use Rattle.spec_exi.specs.Sizes.{Sizes, sizes}
 use Rattle.spec_exi.specs.Tables.{Tables, nameAllowed}
 use Rattle.spec_exi.specs.Grammar.{Code, codeOf, isFinished}
 use Rattle.spec_exi.specs.Context.{Context, start, levelsIn, Item, items, afterItem, next}
@@ -102,13 +102,14 @@ pub record WriterRoom : Type 0 where
   pub octets : ℕ
   pub work : ℕ
 
-unfoldable pub enoughToWrite : WriterRoom → Bool
-enoughToWrite r = leb maxStream (r .octets) && leb writerWork (r .work)
+-- Octets for the longest stream, and work memory with a text store behind it.
+unfoldable pub enoughToWrite : Sizes → WriterRoom → Bool
+enoughToWrite z r = leb (z .stream) (r .octets) && leb (z .work + z .store) (r .work)
 
 -- The writer's answer for the events xs over this text store.
 unfoldable pub write : WriterRoom → SettingNumbers → List Stored → Text → Answer (List ℕ)
 write r o xs store =
-    cond (not (enoughToWrite r)) (refused room 0)
+    cond (not (enoughToWrite sizes r)) (refused room 0)
     (cond (not (meaningful o)) (refused settings 0)
     (writeList sizes (settingsOf o) xs store))
 
