@@ -1,43 +1,42 @@
 -- A stream in pieces: a refusal stays whatever follows, and what goes on begins with what was
 -- complete before.
-use Prim.Native.Nat.{ℕ, zero, suc, _+_, _*_, _≤_, _<_}
+use Prim.Native.Nat.{ℕ, zero, suc, _+_, _≤_, _<_}
 use native.Mathlib.Omega.{arith}
 use mathlib.Core.Path.{_≡_, refl, sym, _∙_, ap, subst}
 use mathlib.Core.Logic.{_↔_}
 use mathlib.Core.Bool.{Bool, true, false, cond, _&&_, not}
 use mathlib.Core.List.{List, [], _∷_, _++_, map, append-assoc, append-nil}
 use mathlib.Core.Option.{some}
-use lib.ListN.{length, drop, length-append}
-use lib.Seq.{drop-append-seam}
+use lib.ListN.{length, length-append}
 use lib.Dec.{T, leb, eqb, le→leb, leb→le}
 use borrow.Author.Tests.{lt-leb, leb-false}
 use Rattle.spec_fields.specs.Bits.{Bits, unpack, allZero, isPadding}
 use Rattle.spec_fields.specs.Refusal.{Refusal, numberOf, room, settings, long, header, ended, code}
 use Rattle.spec_fields.specs.Refusal.{number, character, reference, loose, name, limit, tail, shape}
 use Rattle.spec_fields.specs.Refusal.{place, Answer, refused, accepted}
-use Rattle.spec_fields.specs.Parser.{Result, bad, got}
+use Rattle.spec_fields.specs.Parser.{Result, bad, got, fail, andThen, _>>=_}
 use Rattle.spec_fields.proofs.Tests.{split, T-is, is-T}
-use Rattle.spec_fields.proofs.Pack.{unpack-append, length-unpack}
+use Rattle.spec_fields.proofs.Pack.{unpack-append}
 use Rattle.text.specs.Text.{Text}
 use Rattle.spec_exi.specs.Event.{Event, stringsOf}
 use Rattle.spec_exi.specs.Settings.{Settings, SettingNumbers, meaningful, settingsOf, headerOf}
 use Rattle.spec_exi.specs.Sizes.{Sizes, sizes, maxStream, maxEvents}
 use Rattle.spec_exi.specs.Tables.{Placed, eventText, added}
-use Rattle.spec_exi.specs.Grammar.{isFinished}
-use Rattle.spec_exi.specs.Context.{Context, start, after, contextAfter}
-use Rattle.spec_exi.specs.Reader.{Reading, step, following, ending, onward, readEvents}
+use Rattle.spec_exi.specs.Grammar.{levelsWith, levels, isFinished}
+use Rattle.spec_exi.specs.Context.{Context, start, levelsIn, after, contextAfter}
+use Rattle.spec_exi.specs.Reader.{Reading, readCode, step, following, ending, onward, readEvents}
 use Rattle.spec_exi.specs.Reader.{readHeader, readBody, readStream, ReaderRoom, enoughToRead}
-use Rattle.spec_exi.specs.Reader.{readSized, read}
-use Rattle.spec_exi.specs.Packets.{nothingYet, withFirst, firstThen, firstEvents, complete}
-use Rattle.spec_exi.specs.Packets.{soFar, receive}
-use Rattle.spec_exi.specs.Claims.{storedOf, meant, Begins, InPieces, InPiecesMore}
+use Rattle.spec_exi.specs.Reader.{readSized, read, readReply}
+use Rattle.spec_exi.specs.Packets.{nothingYet, withFirst, firstThen, firstEvents, afterHeader}
+use Rattle.spec_exi.specs.Packets.{complete, soFar, receive, Begins}
+use Rattle.spec_exi.specs.Meaning.{storedOf, meant}
 use Rattle.spec_exi.proofs.Step.{StepRead, step-reads, Sane, sane-next, sane-start, step-next, step-fit}
 use Rattle.spec_exi.proofs.Body.{not-accepted, accepted-same}
-use Rattle.spec_exi.proofs.Stream.{header-reads, header-octets}
 use Rattle.spec_exi.proofs.Places.{Stable, content-stays, every-map, Settled}
 use Rattle.spec_exi.proofs.Places.{settled-start, step-settles, Keeps, meant-all}
 use Rattle.spec_exi.proofs.Steady.{steady-step, steady-header}
-use Rattle.spec_exi.proofs.Claims.{lookup}
+use Rattle.spec_exi.proofs.Writes.{is-finished}
+use Rattle.spec_exi.proofs.Demands.{texts, store}
 
 -- ---- padding
 
@@ -144,19 +143,32 @@ unfolding withFirst
 begins-with e x y b =
     record { events = b .events; literals = b .literals; more = ap (λ l. e ∷ l) (b .more); store = b .store }
 
+-- ---- the last event
+
+-- After the last event no code is read.
+no-code : (s : Settings) (c : Context) (bs : Bits) → isFinished (c .state) ≡ true
+    → readCode (s .alignment) (levelsIn s c) bs ≡ bad code
+unfolding levelsIn levels levelsWith readCode fail
+no-code s c bs f =
+    subst (λ st. readCode (s .alignment) (levels s (c .learned) st) bs ≡ bad code) (sym (is-finished (c .state) (is-T _ f))) refl
+
+no-step : (s : Settings) (c : Context) (bs : Bits) → isFinished (c .state) ≡ true → step sizes s c bs ≡ bad code
+unfolding step _>>=_ andThen
+no-step s c bs f = rw (no-code s c bs f)
+
 -- ---- the events, however the bits go on
 
 module _ (s : Settings) where
   -- What at most n more events are answered where bits that end are no refusal.
   going : ℕ → Context → Bits → Answer Reading
-  going n c bs = soFar (λ j. firstEvents j s c bs) (readEvents n sizes s c bs)
+  going n c bs = soFar (firstEvents n s c bs) (readEvents n sizes s c bs)
 
   -- An event that is refused.
   stopped : Context → Refusal → Answer Reading
   stopped c k = cond (isEnded k) (accepted (nothingYet c)) (refused k 0)
 
   going-bad : (n : ℕ) (c : Context) (bs : Bits) (k : Refusal) → step sizes s c bs ≡ bad k → going (suc n) c bs ≡ stopped c k
-  unfolding going stopped soFar readEvents onward firstEvents
+  unfolding going stopped soFar readEvents onward firstEvents firstThen
   going-bad n c bs k e = rw e
 
   -- What comes after an event.
@@ -171,10 +183,10 @@ module _ (s : Settings) where
       (λ f. split (isPadding rest) (λ p. rw (q, f, p)) (λ p. rw (q, f, p)))
       (λ f. rw (q, f) (by (readEvents n sizes s d rest)))
     where
-      by : (a : Answer Reading) → soFar (λ j. firstEvents j s c bs) (following e a)
-          ≡ following e (soFar (λ j. firstEvents j s d rest) a)
+      by : (a : Answer Reading) → soFar (withFirst e (firstEvents n s d rest)) (following e a)
+          ≡ following e (soFar (firstEvents n s d rest) a)
       by (accepted r) = refl
-      by (refused k i) = split (isEnded k) (λ t. rw (t, q)) (λ t. rw t)
+      by (refused k i) = split (isEnded k) (λ t. rw t) (λ t. rw t)
 
   then-refused : (n : ℕ) (d : Context) (rest more : Bits) (k : Refusal) (j : ℕ)
       → (going n d rest ≡ refused k j → going n d (rest ++ more) ≡ refused k j) → Then n d rest ≡ refused k j
@@ -289,34 +301,37 @@ module _ (s : Settings) where
           later d rest (subst Sane (sym same) (sane-next s c (eventText e) g (step-fit s c (e, d) w g h .0)))
           ∙ ap (λ b. contextAfter s b (map eventText (firstEvents n s d rest .events)) .tables .store) same
 
-  first-count : (n : ℕ) (c : Context) (bs : Bits) (i : ℕ) → readEvents n sizes s c bs ≡ refused ended i
-      → length (firstEvents i s c bs .events) ≡ i
-  unfolding readEvents onward ending firstEvents firstThen nothingYet withFirst
-  first-count zero c bs i e = absurd (no-limit (refused-same e .0))
-    where
-      no-limit : limit ≡ ended → ⊥
-      no-limit e = let z : _≡_ {A = ℕ} 0 1 = cc in omega arith
-  first-count (suc n) c bs i e = go (λ d rest j. first-count n d rest j) (step sizes s c bs) refl e
-    where
-      no-tail : {X : Type 0} → tail ≡ ended → X
-      no-tail e = let z : _≡_ {A = ℕ} 0 1 = cc in absurd (omega arith)
+  -- No event comes after the last.
+  none-after : (n : ℕ) (c : Context) (bs : Bits) → isFinished (c .state) ≡ true → length (firstEvents n s c bs .events) ≡ 0
+  unfolding firstEvents firstThen nothingYet
+  none-after zero c bs f = refl
+  none-after (suc n) c bs f = rw (no-step s c bs f)
 
-      go : ((d : Context) (rest : Bits) (j : ℕ) → readEvents n sizes s d rest ≡ refused ended j
-          → length (firstEvents j s d rest .events) ≡ j)
-          → (r : Result (Event Placed × Context)) → step sizes s c bs ≡ r
-          → onward s (λ d rest. readEvents n sizes s d rest) r ≡ refused ended i → length (firstEvents i s c bs .events) ≡ i
-      go later (bad k) q h = rw (← refused-same h .1)
-      go later (got (v, d) rest) q h =
-          let (j, inner, index) = follow-refused v (cond (isFinished (d .state)) (ending s d rest) (readEvents n sizes s d rest)) ended i h in
-          rw (index, q) (ap suc (on d rest j (later d rest j) inner))
-        where
-          on : (d : Context) (rest : Bits) (j : ℕ) → (readEvents n sizes s d rest ≡ refused ended j → length (firstEvents j s d rest .events) ≡ j)
-              → cond (isFinished (d .state)) (ending s d rest) (readEvents n sizes s d rest) ≡ refused ended j
-              → length (firstEvents j s d rest .events) ≡ j
-          on d rest j later h =
-              split (isFinished (d .state))
-              (λ f. split (isPadding rest) (λ p. not-accepted (sym (rw (f, p) at h))) (λ p. no-tail (refused-same (rw (f, p) at h) .0)))
-              (λ f. later (rw f at h))
+  -- Where the events are refused at i, i of them are complete.
+  first-count : (n : ℕ) (c : Context) (bs : Bits) (k : Refusal) (i : ℕ) → readEvents n sizes s c bs ≡ refused k i
+      → length (firstEvents n s c bs .events) ≡ i
+  unfolding readEvents onward ending firstEvents firstThen nothingYet withFirst
+  first-count zero c bs k i e = refused-same e .1
+  first-count (suc n) c bs k i e = go (λ d rest j. first-count n d rest k j) (step sizes s c bs) e
+    where
+      on : (d : Context) (rest : Bits) (j : ℕ)
+          → (readEvents n sizes s d rest ≡ refused k j → length (firstEvents n s d rest .events) ≡ j)
+          → cond (isFinished (d .state)) (ending s d rest) (readEvents n sizes s d rest) ≡ refused k j
+          → length (firstEvents n s d rest .events) ≡ j
+      on d rest j later h =
+          split (isFinished (d .state))
+          (λ f. split (isPadding rest) (λ p. not-accepted (sym (rw (f, p) at h)))
+          (λ p. none-after n d rest f ∙ refused-same (rw (f, p) at h) .1))
+          (λ f. later (rw f at h))
+
+      go : ((d : Context) (rest : Bits) (j : ℕ) → readEvents n sizes s d rest ≡ refused k j
+          → length (firstEvents n s d rest .events) ≡ j)
+          → (r : Result (Event Placed × Context)) → onward s (λ d rest. readEvents n sizes s d rest) r ≡ refused k i
+          → length (firstThen c (λ d rest. firstEvents n s d rest) r .events) ≡ i
+      go later (bad j) h = refused-same h .1
+      go later (got (v, d) rest) h =
+          let (j, inner, index) = follow-refused v (cond (isFinished (d .state)) (ending s d rest) (readEvents n sizes s d rest)) k i h in
+          rw index (ap suc (on d rest j (later d rest j) inner))
 
   -- ---- the header, and then the events
 
@@ -324,23 +339,16 @@ module _ (s : Settings) where
   headed (bad k) = stopped (start s) k
   headed (got u bs) = going maxEvents (start s) bs
 
-  behind-header : (os : List ℕ) (u : Unit {0}) (bs : Bits) → readHeader (headerOf s) (unpack os) ≡ got u bs
-      → drop (8 * length (headerOf s)) (unpack os) ≡ bs
-  behind-header os u bs e =
-      let (w, h, j) = header-reads (headerOf s) (header-octets s) .sound (unpack os) u bs e in
-      rw (j, h, ← length-unpack (headerOf s)) (drop-append-seam (unpack (headerOf s)) bs)
-
   received : List ℕ → Answer Reading
   received os = soFar (complete s os) (readStream sizes s os)
 
   received-is : (os : List ℕ) → received os ≡ headed (readHeader (headerOf s) (unpack os))
-  unfolding received headed readStream readBody complete soFar firstEvents stopped going
-  received-is os = go (readHeader (headerOf s) (unpack os)) refl
+  unfolding received headed readStream readBody complete afterHeader soFar stopped going
+  received-is os = go (readHeader (headerOf s) (unpack os))
     where
-      go : (x : Result (Unit {0})) → readHeader (headerOf s) (unpack os) ≡ x → soFar (complete s os) (readBody sizes s x) ≡ headed x
-      go (bad k) e = refl
-      go (got u bs) e =
-          ap (λ b. soFar (λ n. firstEvents n s (start s) b) (readEvents maxEvents sizes s (start s) bs)) (behind-header os u bs e)
+      go : (x : Result (Unit {0})) → soFar (afterHeader s x) (readBody sizes s x) ≡ headed x
+      go (bad k) = refl
+      go (got u bs) = refl
 
   -- With more octets.
   received-on : (os more : List ℕ) → received (os ++ more) ≡ headed (readHeader (headerOf s) (unpack os ++ unpack more))
@@ -383,16 +391,41 @@ module _ (s : Settings) where
           going-grows maxEvents (start s) bs (unpack more) x y h
           (sym (ap headed (steady-header (headerOf s) .reads (unpack os) u bs (unpack more) q)) ∙ k)
 
-  stream-count : (os : List ℕ) (i : ℕ) → readStream sizes s os ≡ refused ended i → length (complete s os i .events) ≡ i
-  unfolding readStream readBody complete firstEvents nothingYet
-  stream-count os i e = go (readHeader (headerOf s) (unpack os)) refl e
+  stream-count : (os : List ℕ) (k : Refusal) (i : ℕ) → readStream sizes s os ≡ refused k i → length (complete s os .events) ≡ i
+  unfolding readStream readBody complete afterHeader nothingYet
+  stream-count os k i e = go (readHeader (headerOf s) (unpack os)) e
     where
-      go : (x : Result (Unit {0})) → readHeader (headerOf s) (unpack os) ≡ x → readBody sizes s x ≡ refused ended i
-          → length (complete s os i .events) ≡ i
-      go (bad k) q h = rw (← refused-same h .1)
-      go (got u bs) q h = rw (behind-header os u bs q) (first-count maxEvents (start s) bs i h)
+      go : (x : Result (Unit {0})) → readBody sizes s x ≡ refused k i → length (afterHeader s x .events) ≡ i
+      go (bad j) h = refused-same h .1
+      go (got u bs) h = first-count maxEvents (start s) bs k i h
 
--- ---- the claims
+  complete-texts : (os : List ℕ)
+      → meant (complete s os .store) (map storedOf (complete s os .events)) ≡ some (map eventText (complete s os .events))
+  unfolding complete afterHeader nothingYet
+  complete-texts os = go (readHeader (headerOf s) (unpack os))
+    where
+      go : (x : Result (Unit {0})) → meant (afterHeader s x .store) (map storedOf (afterHeader s x .events))
+          ≡ some (map eventText (afterHeader s x .events))
+      go (bad k) = meant-all (start s .tables .store) [] tt
+      go (got u bs) =
+          let x = firstEvents maxEvents s (start s) bs in
+          meant-all (x .store) (x .events) (first-keeps maxEvents (start s) bs (settled-start s) .strings)
+
+  complete-store : (os : List ℕ)
+      → complete s os .store ≡ contextAfter s (start s) (map eventText (complete s os .events)) .tables .store
+  unfolding complete afterHeader nothingYet contextAfter
+  complete-store os = go (readHeader (headerOf s) (unpack os))
+    where
+      go : (x : Result (Unit {0})) → afterHeader s x .store
+          ≡ contextAfter s (start s) (map eventText (afterHeader s x .events)) .tables .store
+      go (bad k) = refl
+      go (got u bs) = first-store maxEvents (start s) bs (sane-start s)
+
+-- ---- the answers
+
+not-T : (b : Bool) → T (not b) → b ≡ false
+not-T true t = absurd t
+not-T false t = refl
 
 receive-is : (r : ReaderRoom) (o : SettingNumbers) (os : List ℕ) → enoughToRead sizes r ≡ true → meaningful o ≡ true
     → length os ≤ maxStream → receive r o os ≡ received (settingsOf o) os
@@ -402,10 +435,11 @@ receive-is r o os a b l = rw (a, b, T-is (leb (length os) maxStream) (le→leb (
 shorter : (os more : List ℕ) → length (os ++ more) ≤ maxStream → length os ≤ maxStream
 shorter os more l = omega (arith, length-append os more)
 
-stays : (r : ReaderRoom) (o : SettingNumbers) (os more : List ℕ) (k : Refusal) (i : ℕ) → length (os ++ more) ≤ maxStream
+-- A refusal stays, with its index.
+pub stays-refused : (r : ReaderRoom) (o : SettingNumbers) (os more : List ℕ) (k : Refusal) (i : ℕ) → length (os ++ more) ≤ maxStream
     → receive r o os ≡ refused k i → receive r o (os ++ more) ≡ refused k i
 unfolding receive read readSized soFar numberOf
-stays r o os more k i l e =
+stays-refused r o os more k i l e =
     split (enoughToRead sizes r)
     (λ a. split (meaningful o)
     (λ b. receive-is r o (os ++ more) a b l
@@ -413,10 +447,11 @@ stays r o os more k i l e =
     (λ b. rw (a, b) (rw (a, b) at e)))
     (λ a. rw a (rw a at e))
 
-growing : (r : ReaderRoom) (o : SettingNumbers) (os more : List ℕ) (x y : Reading) → receive r o os ≡ accepted x
+-- The answer only grows.
+pub grows : (r : ReaderRoom) (o : SettingNumbers) (os more : List ℕ) (x y : Reading) → receive r o os ≡ accepted x
     → receive r o (os ++ more) ≡ accepted y → Begins x y
 unfolding receive read readSized soFar numberOf
-growing r o os more x y e f =
+grows r o os more x y e f =
     split (enoughToRead sizes r)
     (λ a. split (meaningful o)
     (λ b. split (leb (length (os ++ more)) maxStream)
@@ -427,22 +462,38 @@ growing r o os more x y e f =
     (λ b. not-accepted (rw (a, b) at e)))
     (λ a. not-accepted (rw a at e))
 
-counting : (r : ReaderRoom) (o : SettingNumbers) (os : List ℕ) (i : ℕ) → read r o os ≡ refused ended i
-    → length (complete (settingsOf o) os i .events) ≡ i
+-- Where a stream is refused at i, by HEADER or above, i events are complete.
+refused-count : (r : ReaderRoom) (o : SettingNumbers) (os : List ℕ) (k : Refusal) (i : ℕ) → read r o os ≡ refused k i
+    → numberOf header ≤ numberOf k → length (complete (settingsOf o) os .events) ≡ i
 unfolding read readSized numberOf
-counting r o os i e =
+refused-count r o os k i e h =
     split (enoughToRead sizes r)
     (λ a. split (meaningful o)
     (λ b. split (leb (length os) maxStream)
-    (λ c. stream-count (settingsOf o) os i (rw (a, b, c) at e))
-    (λ c. absurd (not-ended long refl (refused-same (rw (a, b, c) at e) .0))))
-    (λ b. absurd (not-ended settings refl (refused-same (rw (a, b) at e) .0))))
-    (λ a. absurd (not-ended room refl (refused-same (rw a at e) .0)))
+    (λ c. stream-count (settingsOf o) os k i (rw (a, b, c) at e))
+    (λ c. early long (rw (a, b, c) at e) (omega arith)))
+    (λ b. early settings (rw (a, b) at e) (omega arith)))
+    (λ a. early room (rw a at e) (omega arith))
+  where
+    early : {X : Type 0} (j : Refusal) → _≡_ {A = Answer Reading} (refused j 0) (refused k i) → numberOf j < 4 → X
+    early j q l = let same = ap numberOf (refused-same q .0) in absurd (omega arith)
+
+-- The index counts the complete events.
+pub index-counts : (r : ReaderRoom) (o : SettingNumbers) (os : List ℕ) → numberOf header ≤ readReply (read r o os) .number
+    → readReply (read r o os) .index ≡ length (complete (settingsOf o) os .events)
+unfolding readReply numberOf
+index-counts r o os h = go (read r o os) refl h
+  where
+    go : (a : Answer Reading) → read r o os ≡ a → numberOf header ≤ readReply a .number
+        → readReply a .index ≡ length (complete (settingsOf o) os .events)
+    go (refused k i) e h = sym (refused-count r o os k i e h)
+    go (accepted x) e h = absurd (omega arith)
 
 module _ (r : ReaderRoom) (o : SettingNumbers) (os : List ℕ) where
-  alike : (k : Refusal) (i : ℕ) → (receive r o os ≡ refused k i) ↔ ((read r o os ≡ refused k i) × (k ≡ ended → ⊥))
+  -- A piece is refused where the octets so far, read whole, are refused by any number but ENDED.
+  pub refused-alike : (k : Refusal) (i : ℕ) → (receive r o os ≡ refused k i) ↔ ((read r o os ≡ refused k i) × (k ≡ ended → ⊥))
   unfolding receive soFar
-  alike k i = (go (read r o os) refl, λ h. split (isEnded k) (λ t. absurd (h .1 (ended-is k (is-T _ t)))) (λ t. rw (h .0, t)))
+  refused-alike k i = (go (read r o os) refl, λ h. split (isEnded k) (λ t. absurd (h .1 (ended-is k (is-T _ t)))) (λ t. rw (h .0, t)))
     where
       go : (a : Answer Reading) → read r o os ≡ a → soFar (complete (settingsOf o) os) a ≡ refused k i
           → (read r o os ≡ refused k i) × (k ≡ ended → ⊥)
@@ -452,60 +503,49 @@ module _ (r : ReaderRoom) (o : SettingNumbers) (os : List ℕ) where
           (λ t. let e : refused j m ≡ refused k i = rw t at h in
           (q ∙ e, λ n. not-ended j t (refused-same e .0 ∙ n)))
 
-  seen : (x : Reading) → receive r o os ≡ accepted x
+  pub accepted-alike : (x : Reading) → read r o os ≡ accepted x → receive r o os ≡ accepted x
+  unfolding receive soFar
+  accepted-alike x e = rw e
+
+  -- Where they are ENDED at event i, i events are complete.
+  pub counted : (i : ℕ) → read r o os ≡ refused ended i
+      → (x : Reading) × (receive r o os ≡ accepted x) × (length (x .events) ≡ i)
+  unfolding receive soFar numberOf
+  counted i e = (complete (settingsOf o) os, rw e, refused-count r o os ended i e (omega arith))
+
+  -- What is accepted of a piece is a whole reading, or the complete events.
+  so-far : (P : Reading → Type 0) → ((x : Reading) → read r o os ≡ accepted x → P x) → P (complete (settingsOf o) os)
+      → (x : Reading) → receive r o os ≡ accepted x → P x
+  unfolding receive soFar
+  so-far P whole part x e = go (read r o os) refl e
+    where
+      go : (a : Answer Reading) → read r o os ≡ a → soFar (complete (settingsOf o) os) a ≡ accepted x → P x
+      go (accepted y) q h = whole x (q ∙ h)
+      go (refused k i) q h = split (isEnded k) (λ t. subst P (accepted-same (rw t at h)) part) (λ t. not-accepted (rw t at h))
+
+  -- Every string of a complete event is in the text store so far.
+  pub texts-so-far : (x : Reading) → receive r o os ≡ accepted x
       → meant (x .store) (map storedOf (x .events)) ≡ some (map eventText (x .events))
-  unfolding receive soFar complete
-  seen x e = go (read r o os) refl e
-    where
-      go : (a : Answer Reading) → read r o os ≡ a → soFar (complete (settingsOf o) os) a ≡ accepted x
-          → meant (x .store) (map storedOf (x .events)) ≡ some (map eventText (x .events))
-      go (accepted y) q h = lookup .texts r o os x (q ∙ h)
-      go (refused k i) q h =
-          let s = settingsOf o in
-          let y = complete s os i in
-          let bs = drop (8 * length (headerOf s)) (unpack os) in
-          split (isEnded k)
-          (λ t. rw (← accepted-same (rw t at h)) (meant-all (y .store) (y .events) (first-keeps s i (start s) bs (settled-start s) .strings)))
-          (λ t. not-accepted (rw t at h))
+  texts-so-far =
+      so-far (λ x. meant (x .store) (map storedOf (x .events)) ≡ some (map eventText (x .events)))
+      (texts r o os) (complete-texts (settingsOf o) os)
 
-pub in-pieces : InPieces
-unfolding receive soFar numberOf
-in-pieces =
-    record {
-      refused-alike = λ r o os k i. alike r o os k i;
-      accepted-alike = λ r o os x e. rw e;
-      counted = λ r o os i e. (complete (settingsOf o) os i, rw e, counting r o os i e);
-      stays-refused = stays;
-      grows = growing;
-      shown = λ r o os x e. seen r o os x e;
-    }
-
-module _ (r : ReaderRoom) (o : SettingNumbers) (os : List ℕ) where
-  store-so-far : (x : Reading) → receive r o os ≡ accepted x
+  -- That store is the initial entries and the literals of the complete events, and nothing else.
+  pub store-so-far : (x : Reading) → receive r o os ≡ accepted x
       → x .store ≡ contextAfter (settingsOf o) (start (settingsOf o)) (map eventText (x .events)) .tables .store
-  unfolding receive soFar complete
-  store-so-far x e = go (read r o os) refl e
-    where
-      go : (a : Answer Reading) → read r o os ≡ a → soFar (complete (settingsOf o) os) a ≡ accepted x
-          → x .store ≡ contextAfter (settingsOf o) (start (settingsOf o)) (map eventText (x .events)) .tables .store
-      go (accepted y) q h = lookup .store r o os x (q ∙ h)
-      go (refused k i) q h =
-          let s = settingsOf o in
-          let bs = drop (8 * length (headerOf s)) (unpack os) in
-          split (isEnded k)
-          (λ t. rw (← accepted-same (rw t at h)) (first-store s i (start s) bs (sane-start s)))
-          (λ t. not-accepted (rw t at h))
+  store-so-far =
+      so-far (λ x. x .store ≡ contextAfter (settingsOf o) (start (settingsOf o)) (map eventText (x .events)) .tables .store)
+      (store r o os) (complete-store (settingsOf o) os)
 
-not-T : (b : Bool) → T (not b) → b ≡ false
-not-T true t = absurd t
-not-T false t = refl
+  -- ROOM and SETTINGS stay, however many octets come; else LONG comes past the longest stream.
+  pub no-room : T (not (enoughToRead sizes r)) → receive r o os ≡ refused room 0
+  unfolding receive soFar numberOf read readSized
+  no-room a = rw (not-T (enoughToRead sizes r) a)
 
-pub in-pieces-more : InPiecesMore
-unfolding receive soFar numberOf read readSized
-in-pieces-more =
-    record {
-      store = λ r o os x e. store-so-far r o os x e;
-      too-long = λ r o os a b l. rw (T-is (enoughToRead sizes r) a, T-is (meaningful o) b, lt-leb (length os) maxStream l);
-      no-room = λ r o os a. rw (not-T (enoughToRead sizes r) a);
-      no-meaning = λ r o os a b. rw (T-is (enoughToRead sizes r) a, not-T (meaningful o) b);
-    }
+  pub no-meaning : T (enoughToRead sizes r) → T (not (meaningful o)) → receive r o os ≡ refused settings 0
+  unfolding receive soFar numberOf read readSized
+  no-meaning a b = rw (T-is (enoughToRead sizes r) a, not-T (meaningful o) b)
+
+  pub too-long : T (enoughToRead sizes r) → T (meaningful o) → maxStream < length os → receive r o os ≡ refused long 0
+  unfolding receive soFar numberOf read readSized
+  too-long a b l = rw (T-is (enoughToRead sizes r) a, T-is (meaningful o) b, lt-leb (length os) maxStream l)

@@ -28,7 +28,7 @@ use Rattle.spec_exi.specs.Grammar.{taught}
 use Rattle.spec_exi.specs.Context.{contextAfter, Context, start, levelsIn, after}
 use Rattle.spec_exi.specs.Lists.{every}
 use Rattle.spec_exi.specs.Reader.{Reading, readEvents}
-use Rattle.spec_exi.specs.Claims.{storedOf, meantOne, together, meant}
+use Rattle.spec_exi.specs.Meaning.{storedOf, meantOne, together, meant}
 use Rattle.spec_exi.proofs.Codes.{If-some, valid-every}
 use Rattle.spec_exi.proofs.Derivation.{Spelled, compactHit, compactMiss, literalHit}
 use Rattle.spec_exi.proofs.Derivation.{literalMiss}

@@ -13,7 +13,7 @@ use Rattle.spec_fields.specs.Parser.{Result, bad, got, Parser, return, fail, ne
 use Rattle.spec_fields.proofs.Tests.{T-is, is-T, both, left, right, split}
 use Rattle.spec_fields.proofs.Exact.{not-got}
 use Rattle.spec_exi.specs.Event.{QName, Event, Kind, SD, ED, SE, AT, EE, CH, CM, PI}
-use Rattle.spec_exi.specs.Sizes.{Sizes}
+use Rattle.spec_exi.specs.Sizes.{Sizes, NoLarger}
 use Rattle.spec_exi.specs.Settings.{Settings, SettingNumbers, meaningful, settingsOf, headerOf}
 use Rattle.spec_exi.specs.Tables.{Placed, nameText, Slot, Tables, Role, uri, local, value}
 use Rattle.spec_exi.specs.Tables.{target, plain, Partitions, compact, literals, partitionsOf}
@@ -25,7 +25,6 @@ use Rattle.spec_exi.specs.Reader.{readLiteral, readHit, readIn, readByLi
 use Rattle.spec_exi.specs.Reader.{readForm, readString, readName, readContent, step, Reading}
 use Rattle.spec_exi.specs.Reader.{following, onward, readEvents, readHeader, readBody}
 use Rattle.spec_exi.specs.Reader.{readStream, ReaderRoom, enoughToRead, readSized}
-use Rattle.spec_exi.specs.Claims.{NoLarger, LargerSizes}
 
 not-accepted : {X A : Type 0} {k : Refusal} {i : ℕ} {a : A} → _≡_ {A = Answer A} (refused k i) (accepted a) → X
 not-accepted e = let n : _≡_ {A = ℕ} 0 1 = cc in absurd (omega arith)
@@ -153,10 +152,11 @@ module _ (y z : Sizes) (h : NoLarger y z) where
       go (bad k) q = not-accepted q
       go (got u bs) q = events-still s (y .events) (z .events) (h .events) (start s) bs r q
 
-  pub read-still : (p r : ReaderRoom) (o : SettingNumbers) (stream : List ℕ) (x : Reading)
+  -- The same reading, each side with memory enough for its own sizes.
+  pub accepted-still : (p r : ReaderRoom) (o : SettingNumbers) (stream : List ℕ) (x : Reading)
       → T (enoughToRead z r) → readSized y p o stream ≡ accepted x → readSized z r o stream ≡ accepted x
   unfolding readSized
-  read-still p r o stream x w e =
+  accepted-still p r o stream x w e =
       let long = larger (length stream) (y .stream) (z .stream) (h .stream) in
       split (enoughToRead y p)
       (λ a. split (meaningful o)
@@ -166,6 +166,3 @@ module _ (y z : Sizes) (h : NoLarger y z) where
       (λ c. not-accepted (rw (a, b, c) at e)))
       (λ b. not-accepted (rw (a, b) at e)))
       (λ a. not-accepted (rw a at e))
-
-pub larger-sizes : LargerSizes
-larger-sizes = record { accepted-still = read-still }

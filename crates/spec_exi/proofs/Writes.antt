@@ -26,7 +26,7 @@ use Rattle.spec_exi.specs.Lists.{every, withinTables}
 use Rattle.spec_exi.specs.Writer.{Stored, Test, firstFailed, placeTests, stringTests}
 use Rattle.spec_exi.specs.Writer.{contentTests, eventTests, faultOf, prepended, unless}
 use Rattle.spec_exi.specs.Writer.{writeEvents}
-use Rattle.spec_exi.specs.Claims.{meantOne, together, meant}
+use Rattle.spec_exi.specs.Meaning.{meantOne, together, meant}
 use Rattle.spec_exi.proofs.Fit.{ItemFit, ItemsFit, EventFit, ListFit, done, also}
 
 -- ---- tests in order

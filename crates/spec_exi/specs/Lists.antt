@@ -10,7 +10,7 @@ use Rattle.spec_exi.specs.Event.{QName, Event, startDocument, endDocumen
 use Rattle.spec_exi.specs.Event.{startElement, attribute, characters, comment, instruction}
 use Rattle.spec_exi.specs.Event.{stringsOf}
 use Rattle.spec_exi.specs.Settings.{Settings}
-use Rattle.spec_exi.specs.Sizes.{Sizes}
+use Rattle.spec_exi.specs.Sizes.{Sizes, sizes}
 use Rattle.spec_exi.specs.Tables.{Tables, local, target, nameAllowed}
 use Rattle.spec_exi.specs.Grammar.{openElements}
 use Rattle.spec_exi.specs.Context.{Context, start, next}
@@ -71,7 +71,7 @@ unfoldable pub charsOnly : Event Text → Bool
 charsOnly e = every allChars (stringsOf e)
 
 -- The scope's "well-formed list", over the texts. (That no stored event is SHAPE by itself and
--- every string lies inside its store is said by `meant`, in Claims.)
+-- every string lies inside its store is said by `meant`, in Meaning.)
 pub record WellFormed (s : Settings) (l : List (Event Text)) : Type 0 where
   pub shape : Document s l
   pub chars : T (every charsOnly l)
@@ -107,9 +107,18 @@ module _ (z : Sizes) where
   unfoldable pub shortStrings : Event Text → Bool
   shortStrings e = every short (stringsOf e)
 
-  -- The scope's "inside the limits".
-  pub record InsideLimits (s : Settings) (l : List (Event Text)) : Type 0 where
+  -- The list, and the tables and grammars of its strict form, pass no size.
+  pub record InsideTables (s : Settings) (l : List (Event Text)) : Type 0 where
     pub events : length l ≤ z .events
     pub strings : T (every shortStrings l)
     pub sizes : T (staysWithin s (start s) l)
+
+  -- The scope's "inside the limits": its octets do not either.
+  pub record InsideLimits (s : Settings) (l : List (Event Text)) : Type 0 where
+    pub list : InsideTables s l
     pub octets : length (strict s l) ≤ z .stream
+
+-- A well-formed list inside the limits: demands 2 and 3 speak of these.
+pub record Good (s : Settings) (l : List (Event Text)) : Type 0 where
+  pub wellFormed : WellFormed s l
+  pub limits : InsideLimits sizes s l

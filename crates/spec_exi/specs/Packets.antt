@@ -1,18 +1,19 @@
 -- A stream that comes in pieces: what is answered to the octets so far, however they were cut.
-use Prim.Native.Nat.{ℕ, zero, suc, _*_}
+use Prim.Native.Nat.{ℕ, zero, suc}
+use mathlib.Core.Path.{_≡_}
 use mathlib.Core.Bool.{cond}
-use mathlib.Core.List.{List, [], _∷_}
-use lib.ListN.{length, drop}
+use mathlib.Core.List.{List, [], _∷_, _++_}
 use lib.Dec.{eqb}
 use Rattle.spec_fields.specs.Bits.{Bits, unpack}
 use Rattle.spec_fields.specs.Refusal.{numberOf, ended, Answer, refused, accepted}
 use Rattle.spec_fields.specs.Parser.{Result, bad, got}
+use Rattle.text.specs.Text.{Text}
 use Rattle.spec_exi.specs.Event.{Event}
-use Rattle.spec_exi.specs.Sizes.{sizes}
+use Rattle.spec_exi.specs.Sizes.{sizes, maxEvents}
 use Rattle.spec_exi.specs.Settings.{Settings, SettingNumbers, settingsOf, headerOf}
 use Rattle.spec_exi.specs.Tables.{Placed}
 use Rattle.spec_exi.specs.Context.{Context, start}
-use Rattle.spec_exi.specs.Reader.{Reading, ReaderRoom, step, read}
+use Rattle.spec_exi.specs.Reader.{Reading, step, readHeader, ReaderRoom, read}
 
 -- Nothing is read: the text store is as the context has it.
 unfoldable pub nothingYet : Context → Reading
@@ -32,16 +33,29 @@ unfoldable pub firstEvents : ℕ → Settings → Context → Bits → Reading
 firstEvents zero s c bs = nothingYet c
 firstEvents (suc n) s c bs = firstThen c (λ d rest. firstEvents n s d rest) (step sizes s c bs)
 
--- The events that are complete where the octets end at event n.
-unfoldable pub complete : Settings → List ℕ → ℕ → Reading
-complete s octets n = firstEvents n s (start s) (drop (8 * length (headerOf s)) (unpack octets))
+-- The events after the header; none before it is whole.
+unfoldable pub afterHeader : Settings → Result (Unit {0}) → Reading
+afterHeader s (bad k) = nothingYet (start s)
+afterHeader s (got u bs) = firstEvents maxEvents s (start s) bs
+
+-- The events that are complete in these octets, and the text store with their literals.
+unfoldable pub complete : Settings → List ℕ → Reading
+complete s octets = afterHeader s (readHeader (headerOf s) (unpack octets))
 
 -- Octets that end are no refusal yet.
-unfoldable pub soFar : (ℕ → Reading) → Answer Reading → Answer Reading
+unfoldable pub soFar : Reading → Answer Reading → Answer Reading
 soFar whole (refused k i) =
-    cond (eqb (numberOf k) (numberOf ended)) (accepted (whole i)) (refused k i)
+    cond (eqb (numberOf k) (numberOf ended)) (accepted whole) (refused k i)
 soFar whole (accepted r) = accepted r
 
--- The answer after a piece: the octets so far, read whole.
+-- The answer after a piece, by the octets so far: these, read whole, or the events that are complete
+-- in them. The answer after the last is `read`.
 unfoldable pub receive : ReaderRoom → SettingNumbers → List ℕ → Answer Reading
 receive r o octets = soFar (complete (settingsOf o) octets) (read r o octets)
+
+-- The later reading begins with the earlier one's events and text store.
+pub record Begins (x y : Reading) : Type 0 where
+  pub events : List (Event Placed)
+  pub literals : Text
+  pub more : y .events ≡ x .events ++ events
+  pub store : y .store ≡ x .store ++ literals

@@ -1,5 +1,5 @@
 -- The sizes (scope, "Sizes"). Code writes them as numbers, and contracts by these names.
-use Prim.Native.Nat.{ℕ, _+_, _*_}
+use Prim.Native.Nat.{ℕ, _+_, _*_, _≤_}
 
 -- octets of a stream
 unfoldable pub maxStream : ℕ
@@ -78,6 +78,19 @@ sizes =
       store = maxStore;
       work = readerWork;
     }
+
+-- No size of y is above that of z. (Memory is each side's own.)
+pub record NoLarger (y z : Sizes) : Type 0 where
+  pub stream : y .stream ≤ z .stream
+  pub events : y .events ≤ z .events
+  pub opened : y .opened ≤ z .opened
+  pub uris : y .uris ≤ z .uris
+  pub names : y .names ≤ z .names
+  pub values : y .values ≤ z .values
+  pub grammars : y .grammars ≤ z .grammars
+  pub learned : y .learned ≤ z .learned
+  pub string : y .string ≤ z .string
+  pub store : y .store ≤ z .store
 
 -- ---- what is lent, in cells of 32 bits
 

@@ -1,4 +1,4 @@
--- Demand 1: what holds of every reply.
+-- Demand 1, of the reader: what holds of every reply.
 use Prim.Native.Nat.{ℕ, zero, suc, _+_, _-_, _≤_, _<_, zero-le, suc-le-suc}
 use native.Mathlib.Omega.{arith}
 use mathlib.Core.Path.{_≡_, refl, sym, ap, subst}
@@ -10,7 +10,7 @@ use lib.ListN.{length}
 use lib.Dec.{T, leb, leb→le}
 use borrow.Author.Tests.{leb-false}
 use Rattle.spec_fields.specs.Bits.{Bits, unpack, pack, isPadding}
-use Rattle.spec_fields.specs.Refusal.{Refusal, numberOf, room, settings, long, header, code}
+use Rattle.spec_fields.specs.Refusal.{Refusal, numberOf, room, settings, long, header, ended, code}
 use Rattle.spec_fields.specs.Refusal.{number, character, reference, loose, name, limit, tail, Answer}
 use Rattle.spec_fields.specs.Refusal.{refused, accepted}
 use Rattle.spec_fields.specs.Parser.{Result, bad, got, Parser}
@@ -33,28 +33,25 @@ use Rattle.spec_exi.specs.Reader.{readEntry, readForm, readString, readN
 use Rattle.spec_exi.specs.Reader.{readPart, readCode, step, Reading, following, ending, onward}
 use Rattle.spec_exi.specs.Reader.{readEvents, readHeader, readBody, readStream, ReaderRoom}
 use Rattle.spec_exi.specs.Reader.{enoughToRead, readSized, read, readReply}
-use Rattle.spec_exi.specs.Writer.{Stored, faultOf, prepended, unless, writeEvents, asOctets}
-use Rattle.spec_exi.specs.Writer.{writeList, WriterRoom, enoughToWrite, write, writeReply}
-use Rattle.spec_exi.specs.Claims.{Demand1}
 use Rattle.spec_exi.proofs.Content.{NameRead, carriedName, writtenName, ContentRead, anSD}
 use Rattle.spec_exi.proofs.Content.{anED, anEE, anSE, anAT, aCH, aCM, aPI}
 use Rattle.spec_exi.proofs.Step.{StepRead, sane-start}
 use Rattle.spec_exi.proofs.Body.{Run, ends, goes, read-runs, not-accepted}
 
--- ---- the refusals of events: 5 to 13
+-- ---- the refusals of events: ENDED to TAIL
 
-unfoldable between : ℕ → ℕ → Refusal → Bool
-between a b k = leb a (numberOf k) && leb (numberOf k) b
+unfoldable between : Refusal → Refusal → Refusal → Bool
+between a b k = leb (numberOf a) (numberOf k) && leb (numberOf k) (numberOf b)
 
-bounds : (a b : ℕ) (k : Refusal) → T (between a b k) → (a ≤ numberOf k) × (numberOf k ≤ b)
+bounds : (a b k : Refusal) → T (between a b k) → (numberOf a ≤ numberOf k) × (numberOf k ≤ numberOf b)
 unfolding between
-bounds a b k t = (
-  leb→le a (numberOf k) (left (leb a (numberOf k)) (leb (numberOf k) b) t),
-  leb→le (numberOf k) b (right (leb a (numberOf k)) (leb (numberOf k) b) t),
-)
+bounds a b k t =
+    let least = leb (numberOf a) (numberOf k) in
+    let most = leb (numberOf k) (numberOf b) in
+    (leb→le (numberOf a) (numberOf k) (left least most t), leb→le (numberOf k) (numberOf b) (right least most t))
 
 unfoldable ofEvents : Refusal → Bool
-ofEvents = between 5 13
+ofEvents = between ended tail
 
 module _ (z : Sizes) (s : Settings) where
   says-character : Says ofEvents (readCharacter s)
@@ -208,47 +205,49 @@ module _ (z : Sizes) (s : Settings) where
 
 -- ---- the whole stream
 
-says-header : (hs : List ℕ) → Says (between 4 5) (readHeader hs)
+says-header : (hs : List ℕ) → Says (between header ended) (readHeader hs)
 unfolding readHeader between numberOf
 says-header [] = says-return _ _
 says-header (h ∷ hs) = says-then _ (says-octet _ tt) (λ o. says-guard _ _ header tt (says-header hs))
 
 -- What the octets can lead to.
-data Inside : Answer Reading → Type 0 where
-  stopped : {k : Refusal} {i : ℕ} → 4 ≤ numberOf k → numberOf k ≤ 13 → i ≤ maxEvents
-      → (numberOf k ≤ 4 → i ≡ 0) → Inside (refused k i)
+pub data Inside : Answer Reading → Type 0 where
+  stopped : {k : Refusal} {i : ℕ} → numberOf header ≤ numberOf k → numberOf k ≤ numberOf tail → i ≤ maxEvents
+      → (numberOf k ≤ numberOf header → i ≡ 0) → Inside (refused k i)
   whole : {x : Reading} → length (x .events) ≤ maxEvents → length (x .store) ≤ maxStore → Inside (accepted x)
 
 module _ (s : Settings) where
   events-inside : (bs : Bits) (a : Answer Reading) → readEvents maxEvents sizes s (start s) bs ≡ a → Inside a
-  unfolding ofEvents
+  unfolding ofEvents numberOf
   events-inside bs (refused k i) e =
       let h = events-refuse sizes s maxEvents (start s) bs k i e in
-      let (least, most) = bounds 5 13 k (h .by) in
+      let (least, most) = bounds ended tail k (h .by) in
       stopped {k = k} (omega arith) most (h .index) (λ l. absurd (omega arith))
   events-inside bs (accepted x) e =
       let h = read-runs sizes s maxEvents (start s) bs x e in
       whole (run-few sizes s h) (run-store sizes s (sane-start s .room) h)
 
   stream-inside : (stream : List ℕ) → Inside (readStream sizes s stream)
-  unfolding readStream readBody
+  unfolding readStream readBody numberOf
   stream-inside stream = go (readHeader (headerOf s) (unpack stream)) refl
     where
       go : (x : Result (Unit {0})) → readHeader (headerOf s) (unpack stream) ≡ x → Inside (readBody sizes s x)
       go (bad k) e =
-          let (least, most) = bounds 4 5 k (says-header (headerOf s) .refuses (unpack stream) k e) in
+          let (least, most) = bounds header ended k (says-header (headerOf s) .refuses (unpack stream) k e) in
           stopped {k = k} least (omega arith) zero-le (λ l. refl)
       go (got u bs) e = events-inside bs _ refl
 
+-- ---- the answer
+
 -- What `read` can answer.
-data Outcome (r : ReaderRoom) (o : SettingNumbers) (stream : List ℕ) : Answer Reading → Type 0 where
+pub data Outcome (r : ReaderRoom) (o : SettingNumbers) (stream : List ℕ) : Answer Reading → Type 0 where
   noRoom : T (not (enoughToRead sizes r)) → Outcome r o stream (refused room 0)
   noMeaning : T (enoughToRead sizes r) → T (not (meaningful o)) → Outcome r o stream (refused settings 0)
   tooLong : T (enoughToRead sizes r) → T (meaningful o) → maxStream < length stream → Outcome r o stream (refused long 0)
   inside : {a : Answer Reading} → T (enoughToRead sizes r) → T (meaningful o) → length stream ≤ maxStream → Inside a
       → Outcome r o stream a
 
-outcome : (r : ReaderRoom) (o : SettingNumbers) (stream : List ℕ) → Outcome r o stream (read r o stream)
+pub outcome : (r : ReaderRoom) (o : SettingNumbers) (stream : List ℕ) → Outcome r o stream (read r o stream)
 unfolding read readSized
 outcome r o stream =
     split (enoughToRead sizes r)
@@ -259,12 +258,12 @@ outcome r o stream =
     (λ m. rw (e, m) (noMeaning (is-T _ e) (rw m tt))))
     (λ e. rw e (noRoom (rw e tt)))
 
-contrary : {X : Type 0} (b : Bool) → T b → T (not b) → X
+pub contrary : {X : Type 0} (b : Bool) → T b → T (not b) → X
 contrary true t f = absurd f
 contrary false t f = absurd t
 
 module _ {r : ReaderRoom} {o : SettingNumbers} {stream : List ℕ} where
-  numbers : {a : Answer Reading} → Outcome r o stream a → readReply a .number ≤ 13
+  pub numbers : {a : Answer Reading} → Outcome r o stream a → readReply a .number ≤ numberOf tail
   unfolding readReply numberOf
   numbers (noRoom e) = omega arith
   numbers (noMeaning e m) = omega arith
@@ -272,7 +271,9 @@ module _ {r : ReaderRoom} {o : SettingNumbers} {stream : List ℕ} where
   numbers (inside e m l (stopped least most i z)) = most
   numbers (inside e m l (whole n c)) = zero-le
 
-  no-room : {a : Answer Reading} → Outcome r o stream a → (readReply a .number ≡ 1) ↔ T (not (enoughToRead sizes r))
+  -- ROOM, SETTINGS and LONG come first, in this order.
+  pub no-room : {a : Answer Reading} → Outcome r o stream a
+      → (readReply a .number ≡ numberOf room) ↔ T (not (enoughToRead sizes r))
   unfolding readReply numberOf
   no-room (noRoom e) = (λ q. e, λ f. refl)
   no-room (noMeaning e m) = (λ q. absurd (omega arith), λ f. contrary (enoughToRead sizes r) e f)
@@ -280,8 +281,8 @@ module _ {r : ReaderRoom} {o : SettingNumbers} {stream : List ℕ} where
   no-room (inside e m l (stopped least most i z)) = (λ q. absurd (omega (arith, least)), λ f. contrary (enoughToRead sizes r) e f)
   no-room (inside e m l (whole n c)) = (λ q. absurd (omega arith), λ f. contrary (enoughToRead sizes r) e f)
 
-  no-meaning : {a : Answer Reading} → Outcome r o stream a
-      → (readReply a .number ≡ 2) ↔ (T (enoughToRead sizes r) × T (not (meaningful o)))
+  pub no-meaning : {a : Answer Reading} → Outcome r o stream a
+      → (readReply a .number ≡ numberOf settings) ↔ (T (enoughToRead sizes r) × T (not (meaningful o)))
   unfolding readReply numberOf
   no-meaning (noRoom e) = (λ q. absurd (omega arith), λ f. contrary (enoughToRead sizes r) (f .0) e)
   no-meaning (noMeaning e m) = (λ q. (e, m), λ f. refl)
@@ -289,8 +290,8 @@ module _ {r : ReaderRoom} {o : SettingNumbers} {stream : List ℕ} where
   no-meaning (inside e m l (stopped least most i z)) = (λ q. absurd (omega (arith, least)), λ f. contrary (meaningful o) m (f .1))
   no-meaning (inside e m l (whole n c)) = (λ q. absurd (omega arith), λ f. contrary (meaningful o) m (f .1))
 
-  too-long : {a : Answer Reading} → Outcome r o stream a
-      → (readReply a .number ≡ 3) ↔ (T (enoughToRead sizes r) × T (meaningful o) × (maxStream < length stream))
+  pub too-long : {a : Answer Reading} → Outcome r o stream a
+      → (readReply a .number ≡ numberOf long) ↔ (T (enoughToRead sizes r) × T (meaningful o) × (maxStream < length stream))
   unfolding readReply numberOf
   too-long (noRoom e) = (λ q. absurd (omega arith), λ f. contrary (enoughToRead sizes r) (f .0) e)
   too-long (noMeaning e m) = (λ q. absurd (omega arith), λ f. contrary (meaningful o) (f .1) m)
@@ -298,108 +299,31 @@ module _ {r : ReaderRoom} {o : SettingNumbers} {stream : List ℕ} where
   too-long (inside e m l (stopped least most i z)) = (λ q. absurd (omega (arith, least)), λ f. absurd (omega (arith, f .2)))
   too-long (inside e m l (whole n c)) = (λ q. absurd (omega arith), λ f. absurd (omega (arith, f .2)))
 
-  index : {a : Answer Reading} → Outcome r o stream a → readReply a .index ≤ maxEvents
+  pub no-index : {a : Answer Reading} → Outcome r o stream a → readReply a .number ≤ numberOf header → readReply a .index ≡ 0
   unfolding readReply
-  index (noRoom e) = zero-le
-  index (noMeaning e m) = zero-le
-  index (tooLong e m l) = zero-le
-  index (inside e m l (stopped least most i z)) = i
-  index (inside e m l (whole n c)) = zero-le
+  no-index (noRoom e) h = refl
+  no-index (noMeaning e m) h = refl
+  no-index (tooLong e m l) h = refl
+  no-index (inside e m l (stopped least most i z)) h = z h
+  no-index (inside e m l (whole n c)) h = refl
 
-  no-event : {a : Answer Reading} → Outcome r o stream a → readReply a .number ≤ 4 → readReply a .index ≡ 0
+  -- Index and counts are within the sizes.
+  pub bounded : {a : Answer Reading} → Outcome r o stream a
+      → (readReply a .index ≤ maxEvents) × (readReply a .events ≤ maxEvents) × (readReply a .codePoints ≤ maxStore)
   unfolding readReply
-  no-event (noRoom e) h = refl
-  no-event (noMeaning e m) h = refl
-  no-event (tooLong e m l) h = refl
-  no-event (inside e m l (stopped least most i z)) h = z h
-  no-event (inside e m l (whole n c)) h = refl
+  bounded (noRoom e) = (zero-le, zero-le, zero-le)
+  bounded (noMeaning e m) = (zero-le, zero-le, zero-le)
+  bounded (tooLong e m l) = (zero-le, zero-le, zero-le)
+  bounded (inside e m l (stopped least most i z)) = (i, zero-le, zero-le)
+  bounded (inside e m l (whole n c)) = (zero-le, n, c)
 
-counts : (a : Answer Reading) → Inside a → (readReply a .events ≤ maxEvents) × (readReply a .codePoints ≤ maxStore)
+-- The counts are those of the reading, and 0 after a refusal.
+pub counts : (a : Answer Reading) (x : Reading) → a ≡ accepted x
+    → (readReply a .events ≡ length (x .events)) × (readReply a .codePoints ≡ length (x .store))
 unfolding readReply
-counts a (stopped least most i z) = (zero-le, zero-le)
-counts a (whole n c) = (n, c)
+counts a x e = rw e (refl, refl)
 
-within-sizes : {r : ReaderRoom} {o : SettingNumbers} {stream : List ℕ} {a : Answer Reading} → Outcome r o stream a
-    → (readReply a .events ≤ maxEvents) × (readReply a .codePoints ≤ maxStore)
-unfolding readReply
-within-sizes (noRoom e) = (zero-le, zero-le)
-within-sizes (noMeaning e m) = (zero-le, zero-le)
-within-sizes (tooLong e m l) = (zero-le, zero-le)
-within-sizes {a} (inside e m l h) = counts a h
-
-no-counts : (a : Answer Reading) → 0 < readReply a .number → (readReply a .events ≡ 0) × (readReply a .codePoints ≡ 0)
+pub no-counts : (a : Answer Reading) → 0 < readReply a .number → (readReply a .events ≡ 0) × (readReply a .codePoints ≡ 0)
 unfolding readReply
 no-counts (refused k i) h = (refl, refl)
 no-counts (accepted x) h = absurd (omega arith)
-
--- ---- the writer
-
--- The index is at most that of the end of the list.
-AtMost : ℕ → Answer Bits → Type 0
-AtMost n a = elim a [ refused k i ↦ i ≤ n | accepted bs ↦ Unit {0} ]
-
-prepended-most : (n : ℕ) (w : Bits) (a : Answer Bits) → AtMost n a → AtMost (suc n) (prepended w a)
-unfolding AtMost prepended
-prepended-most n w (refused k i) h = suc-le-suc h
-prepended-most n w (accepted bs) h = tt
-
-unless-most : (n : ℕ) (o : Option Refusal) (a : Answer Bits) → AtMost n a → AtMost n (unless o a)
-unfolding AtMost unless
-unless-most n none a h = h
-unless-most n (some k) a h = zero-le
-
-events-most : (n : ℕ) (z : Sizes) (s : Settings) (c : Context) (store : Text) (xs : List Stored)
-    → AtMost (length xs) (writeEvents n z s c store xs)
-unfolding writeEvents AtMost
-events-most n z s c store [] = split (isFinished (c .state)) (λ e. rw e tt) (λ e. rw e zero-le)
-events-most zero z s c store (x ∷ xs) = zero-le
-events-most (suc n) z s c store (none ∷ xs) = zero-le
-events-most (suc n) z s c store (some e ∷ xs) =
-    unless-most (suc (length xs)) (faultOf z s c store e) _
-    (prepended-most (length xs) _ _ (events-most n z s (next s c (mapEvent (part store) e)) store xs))
-
-list-most : (z : Sizes) (s : Settings) (n : ℕ) (a : Answer Bits) → AtMost n a → writeReply (asOctets z s a) .index ≤ n
-unfolding writeReply asOctets AtMost
-list-most z s n (refused k i) h = h
-list-most z s n (accepted bs) h =
-    split (leb (length (pack (unpack (headerOf s) ++ bs))) (z .stream)) (λ e. rw e zero-le) (λ e. rw e zero-le)
-
-written-index : (r : WriterRoom) (o : SettingNumbers) (xs : List Stored) (store : Text)
-    → writeReply (write r o xs store) .index ≤ length xs
-unfolding write writeList writeReply
-written-index r o xs store =
-    split (enoughToWrite sizes r)
-    (λ e. split (meaningful o)
-    (λ m. rw (e, m) (list-most sizes (settingsOf o) (length xs) _ (events-most maxEvents sizes (settingsOf o) (start (settingsOf o)) store xs)))
-    (λ m. rw (e, m) zero-le))
-    (λ e. rw e zero-le)
-
-octets-most : (s : Settings) (a : Answer Bits) → writeReply (asOctets sizes s a) .octets ≤ maxStream
-unfolding writeReply asOctets
-octets-most s (refused k i) = zero-le
-octets-most s (accepted bs) =
-    split (leb (length (pack (unpack (headerOf s) ++ bs))) maxStream)
-    (λ e. rw e (leb→le _ _ (is-T _ e))) (λ e. rw e zero-le)
-
-written-octets : (r : WriterRoom) (o : SettingNumbers) (xs : List Stored) (store : Text)
-    → writeReply (write r o xs store) .octets ≤ maxStream
-unfolding write writeList writeReply
-written-octets r o xs store =
-    split (enoughToWrite sizes r)
-    (λ e. split (meaningful o) (λ m. rw (e, m) (octets-most (settingsOf o) _)) (λ m. rw (e, m) zero-le))
-    (λ e. rw e zero-le)
-
-pub demand-1 : Demand1
-demand-1 =
-    record {
-      numbers = λ r o stream. numbers (outcome r o stream);
-      room = λ r o stream. no-room (outcome r o stream);
-      settings = λ r o stream. no-meaning (outcome r o stream);
-      long = λ r o stream. too-long (outcome r o stream);
-      index = λ r o stream. index (outcome r o stream);
-      no-event = λ r o stream. no-event (outcome r o stream);
-      counts = λ r o stream. within-sizes (outcome r o stream);
-      no-counts = λ r o stream. no-counts (read r o stream);
-      written-index = written-index;
-      written-octets = written-octets;
-    }

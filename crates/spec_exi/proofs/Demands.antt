@@ -1,4 +1,4 @@
--- The claims of specs/Claims.antt, each proved.
+-- Demands 2 and 3, and where the strings lie: the laws that crates/theorems has as claims.
 use mathlib.Core.Path.{_≡_, refl, sym, _∙_, ap, subst}
 use mathlib.Core.Logic.{_↔_}
 use mathlib.Core.List.{List, [], _∷_, _++_, map, append-assoc, append-cancel-left}
@@ -21,23 +21,18 @@ use Rattle.spec_exi.specs.Sizes.{sizes, maxStream, maxEvents}
 use Rattle.spec_exi.specs.Tables.{eventText}
 use Rattle.spec_exi.specs.Context.{start, contextAfter}
 use Rattle.spec_exi.specs.Strict.{listBits, strict}
-use Rattle.spec_exi.specs.Lists.{every}
+use Rattle.spec_exi.specs.Lists.{every, Good}
 use Rattle.spec_exi.specs.Reader.{Reading, ReaderRoom, enoughToRead, readSized, read}
 use Rattle.spec_exi.specs.Reader.{readHeader, readBody, readStream, readReply}
 use Rattle.spec_exi.specs.Writer.{Stored, WriterRoom, enoughToWrite, write, writeReply}
 use Rattle.spec_exi.specs.Writer.{writeList, writeEvents, asOctets}
-use Rattle.spec_exi.specs.Claims.{AreOctets, Good, Accepts, Demand3, Demand2, Lookup}
-use Rattle.spec_exi.specs.Claims.{storedOf, meant, WorkedExamples}
+use Rattle.spec_exi.specs.Meaning.{AreOctets, storedOf, meant, Accepts}
 use Rattle.spec_exi.proofs.Fit.{ListFit}
 use Rattle.spec_exi.proofs.Good.{fit-of-good, good-of-fit}
 use Rattle.spec_exi.proofs.Body.{not-accepted, accepted-same}
 use Rattle.spec_exi.proofs.Stream.{stream-fit, stream-found, prefix-free}
 use Rattle.spec_exi.proofs.Step.{sane-start}
 use Rattle.spec_exi.proofs.Places.{settled-start, read-places, read-store}
-use Rattle.spec_exi.proofs.Examples.{K-holds, further-examples as others-hold}
-use Rattle.spec_exi.proofs.Examples.{laid-out-examples as laid-out, order-examples}
-use Rattle.spec_exi.proofs.Examples.{writing-examples, K-replies, refusal-examples}
-use Rattle.spec_exi.proofs.Examples.{piece-examples}
 use Rattle.spec_exi.proofs.Writes.{write-sound, write-complete}
 
 -- ---- good lists are those that may come after the start
@@ -57,7 +52,7 @@ good-of s l h m o =
     let g = good-of-fit s l h in
     record {
       wellFormed = record { shape = g .shape; chars = g .chars; names = g .names };
-      limits = record { events = m; strings = g .strings; sizes = g .sizes; octets = o };
+      limits = record { list = record { events = m; strings = g .strings; sizes = g .sizes }; octets = o };
     }
 
 fit-of : (s : Settings) (l : List (Event Text)) → Good s l → ListFit s (start s) l
@@ -67,8 +62,8 @@ fit-of s l g =
       shape = g .wellFormed .shape;
       chars = g .wellFormed .chars;
       names = g .wellFormed .names;
-      strings = g .limits .strings;
-      sizes = g .limits .sizes;
+      strings = g .limits .list .strings;
+      sizes = g .limits .list .sizes;
     })
 
 -- ---- the reader
@@ -121,16 +116,18 @@ stream-store s stream r q = go (readHeader (headerOf s) (unpack stream)) q
     go (bad k) q = not-accepted q
     go (got u bs) q = read-store maxEvents s (start s) bs r (sane-start s) q
 
-pub lookup : Lookup
-lookup =
-    record {
-      texts = λ r o stream x q. stream-places (settingsOf o) stream x (accepting r o stream x q .answer);
-      store = λ r o stream x q. stream-store (settingsOf o) stream x (accepting r o stream x q .answer);
-    }
+module _ (r : ReaderRoom) (o : SettingNumbers) (stream : List ℕ) (x : Reading) (q : read r o stream ≡ accepted x) where
+  -- Each string, looked up in the store, is that string.
+  pub texts : meant (x .store) (map storedOf (x .events)) ≡ some (map eventText (x .events))
+  texts = stream-places (settingsOf o) stream x (accepting r o stream x q .answer)
+
+  -- The store is the initial entries and the literals of the strict form, and nothing else.
+  pub store : x .store ≡ contextAfter (settingsOf o) (start (settingsOf o)) (map eventText (x .events)) .tables .store
+  store = stream-store (settingsOf o) stream x (accepting r o stream x q .answer)
 
 -- The reading behind a list has its texts.
 listed : (r : ReaderRoom) (o : SettingNumbers) (stream : List ℕ) (l : List (Event Text)) (q : Accepts r o stream l) → map eventText (q .0 .events) ≡ l
-listed r o stream l q = Option·some-injective (map eventText (q .0 .events)) l (sym (lookup .texts r o stream (q .0) (q .1)) ∙ q .2)
+listed r o stream l q = Option·some-injective (map eventText (q .0 .events)) l (sym (texts r o stream (q .0) (q .1)) ∙ q .2)
 
 number-positive : (k : Refusal) → numberOf k ≡ 0 → ⊥
 unfolding numberOf
@@ -173,14 +170,15 @@ good-accepted : (r : ReaderRoom) (o : SettingNumbers) (l : List (Event Text)) �
     → Accepts r o (strict (settingsOf o) l) l
 good-accepted r o l e m g =
     let s = settingsOf o in
-    let f = stream-found s l (fit-of s l g) (g .limits .events) in
+    let f = stream-found s l (fit-of s l g) (g .limits .list .events) in
     let q = read-accepts r o (strict s l) e m (g .limits .octets) ∙ f .answer in
-    (f .reading, q, lookup .texts r o (strict s l) (f .reading) q ∙ ap some (f .is))
+    (f .reading, q, texts r o (strict s l) (f .reading) q ∙ ap some (f .is))
 
-good-one : (s : Settings) (l m : List (Event Text)) → Good s l → Good s m → strict s l ≡ strict s m → l ≡ m
-good-one s l m g h e =
-    let f = stream-found s l (fit-of s l g) (g .limits .events) in
-    let k = stream-found s m (fit-of s m h) (h .limits .events) in
+-- A stream is the strict form of one list.
+pub one-list : (s : Settings) (l m : List (Event Text)) → Good s l → Good s m → strict s l ≡ strict s m → l ≡ m
+one-list s l m g h e =
+    let f = stream-found s l (fit-of s l g) (g .limits .list .events) in
+    let k = stream-found s m (fit-of s m h) (h .limits .list .events) in
     let same : f .reading ≡ k .reading = accepted-same (sym (f .answer) ∙ ap (readStream sizes s) e ∙ k .answer) in
     sym (f .is) ∙ ap (λ (x : Reading). map eventText (x .events)) same ∙ k .is
 
@@ -206,24 +204,34 @@ begins s l m b g h e =
     empty [] h = refl
     empty (x ∷ b) h = absurd (omega arith)
 
-pub demand-3 : Demand3
-demand-3 =
-    record {
-      accepted-when-zero = λ r o stream. (
-        λ e. let z = zero-accepted (read r o stream) .0 e in (map eventText (z .0 .events), (z .0, z .1, lookup .texts r o stream (z .0) (z .1))),
-        λ h. zero-accepted (read r o stream) .1 (h .1 .0, h .1 .1),
-      );
-      exact = λ r o stream l h. (
-        λ q. let a = accepting r o stream (q .0) (q .1) in let g = accepts-good r o stream l h q in (a .enough, a .means, g .0, g .1),
-        λ g. rw (g .3) (good-accepted r o l (g .0) (g .1) (g .2)),
-      );
-      one-list = good-one;
-      one-stream = λ r o a b l ha hb qa qb. accepts-good r o a l ha qa .1 ∙ sym (accepts-good r o b l hb qb .1);
-      no-prefix = λ r o a b l m h qa qb.
-          let (g, i) = accepts-good r o a l (are-octets a (front-octets a b (octets-of (a ++ b) h))) qa in
-          let (k, j) = accepts-good r o (a ++ b) m h qb in
-          begins (settingsOf o) l m b g k (ap (λ x. x ++ b) (sym i) ∙ j);
-    }
+-- A stream is accepted where the number is 0.
+pub accepted-when-zero : (r : ReaderRoom) (o : SettingNumbers) (stream : List ℕ)
+    → (readReply (read r o stream) .number ≡ 0) ↔ ((l : List (Event Text)) × Accepts r o stream l)
+accepted-when-zero r o stream = (
+  λ e. let (x, q) = zero-accepted (read r o stream) .0 e in (map eventText (x .events), (x, q, texts r o stream x q)),
+  λ h. zero-accepted (read r o stream) .1 (h .1 .0, h .1 .1),
+)
+
+-- Accepted are exactly the strict forms of good lists.
+pub exact : (r : ReaderRoom) (o : SettingNumbers) (stream : List ℕ) (l : List (Event Text)) → AreOctets stream
+    → Accepts r o stream l ↔ (T (enoughToRead sizes r) × T (meaningful o) × Good (settingsOf o) l × (stream ≡ strict (settingsOf o) l))
+exact r o stream l h = (
+  λ q. let a = accepting r o stream (q .0) (q .1) in let g = accepts-good r o stream l h q in (a .enough, a .means, g .0, g .1),
+  λ g. rw (g .3) (good-accepted r o l (g .0) (g .1) (g .2)),
+)
+
+-- A list is answered to one stream.
+pub one-stream : (r : ReaderRoom) (o : SettingNumbers) (a b : List ℕ) (l : List (Event Text)) → AreOctets a → AreOctets b
+    → Accepts r o a l → Accepts r o b l → a ≡ b
+one-stream r o a b l ha hb qa qb = accepts-good r o a l ha qa .1 ∙ sym (accepts-good r o b l hb qb .1)
+
+-- No accepted stream begins a longer one.
+pub no-prefix : (r : ReaderRoom) (o : SettingNumbers) (a b : List ℕ) (l m : List (Event Text)) → AreOctets (a ++ b)
+    → Accepts r o a l → Accepts r o (a ++ b) m → b ≡ []
+no-prefix r o a b l m h qa qb =
+    let (g, i) = accepts-good r o a l (are-octets a (front-octets a b (octets-of (a ++ b) h))) qa in
+    let (k, j) = accepts-good r o (a ++ b) m h qb in
+    begins (settingsOf o) l m b g k (ap (λ x. x ++ b) (sym i) ∙ j)
 
 -- ---- the writer
 
@@ -278,7 +286,7 @@ list-written : (s : Settings) (xs : List Stored) (store : Text) (l : List (Event
 unfolding writeList asOctets strict
 list-written s xs store l m g =
     rw (
-      write-complete maxEvents s (start s) store xs l m (fit-of s l g) (g .limits .events),
+      write-complete maxEvents s (start s) store xs l m (fit-of s l g) (g .limits .list .events),
       T-is (leb (length (strict s l)) maxStream) (le→leb (length (strict s l)) maxStream (g .limits .octets)),
     )
 
@@ -286,14 +294,15 @@ behind : (r : WriterRoom) (o : SettingNumbers) (xs : List Stored) (store : Text)
     → Behind (settingsOf o) xs store stream
 behind r o xs store stream q = written-list (settingsOf o) xs store stream (writing r o xs store stream q .answer)
 
-gives-back : (r : WriterRoom) (p : ReaderRoom) (o : SettingNumbers) (stream : List ℕ) (x : Reading) → T (enoughToWrite sizes r) → AreOctets stream
+-- What the reader accepts the writer gives back, octet for octet.
+pub written-back : (r : WriterRoom) (p : ReaderRoom) (o : SettingNumbers) (stream : List ℕ) (x : Reading) → T (enoughToWrite sizes r) → AreOctets stream
     → read p o stream ≡ accepted x → write r o (map storedOf (x .events)) (x .store) ≡ accepted stream
-gives-back r p o stream x e h q =
+written-back r p o stream x e h q =
     let l = map eventText (x .events) in
-    let (g, i) = accepts-good p o stream l h (x, q, lookup .texts p o stream x q) in
+    let (g, i) = accepts-good p o stream l h (x, q, texts p o stream x q) in
     let m = accepting p o stream x q .means in
     write-accepts r o (map storedOf (x .events)) (x .store) e m
-    ∙ list-written (settingsOf o) (map storedOf (x .events)) (x .store) l (lookup .texts p o stream x q) g
+    ∙ list-written (settingsOf o) (map storedOf (x .events)) (x .store) l (texts p o stream x q) g
     ∙ ap accepted (sym i)
 
 zero-written : (a : Answer (List ℕ)) → (writeReply a .number ≡ 0) ↔ ((stream : List ℕ) × (a ≡ accepted stream))
@@ -301,36 +310,29 @@ unfolding writeReply
 zero-written (refused k i) = (λ e. absurd (number-positive k e), λ h. not-accepted (h .1))
 zero-written (accepted os) = (λ e. (os, refl), λ h. refl)
 
-pub demand-2 : Demand2
-demand-2 =
-    record {
-      written-when-zero = λ r o xs store. zero-written (write r o xs store);
-      written = λ r o xs store stream. (
-        λ q. let b = behind r o xs store stream q in
-            let w = writing r o xs store stream q in
-            ((w .enough, w .means), (b .list, b .meaning, b .good, b .is)),
-        λ h. let g = h .1 in
-            write-accepts r o xs store (h .0 .0) (h .0 .1) ∙ list-written (settingsOf o) xs store (g .0) (g .1) (g .2) ∙ ap accepted (sym (g .3)),
-      );
-      read-back = λ r p o xs store l stream e h q.
-          let b = behind r o xs store stream q in
-          let same : b .list ≡ l = Option·some-injective (b .list) l (sym (b .meaning) ∙ h) in
-          rw (b .is) (subst (Accepts p o (strict (settingsOf o) (b .list))) same
-          (good-accepted p o (b .list) e (writing r o xs store stream q .means) (b .good)));
-      written-back = gives-back;
-    }
+-- A list is written where the number is 0.
+pub written-when-zero : (r : WriterRoom) (o : SettingNumbers) (xs : List Stored) (store : Text)
+    → (writeReply (write r o xs store) .number ≡ 0) ↔ ((stream : List ℕ) × (write r o xs store ≡ accepted stream))
+written-when-zero r o xs store = zero-written (write r o xs store)
 
--- ---- the worked examples
+-- Written are exactly the good lists, in their strict forms.
+pub written : (r : WriterRoom) (o : SettingNumbers) (xs : List Stored) (store : Text) (stream : List ℕ)
+    → (write r o xs store ≡ accepted stream)
+    ↔ ((T (enoughToWrite sizes r) × T (meaningful o))
+    × ((l : List (Event Text)) × (meant store xs ≡ some l) × Good (settingsOf o) l × (stream ≡ strict (settingsOf o) l)))
+written r o xs store stream = (
+  λ q. let b = behind r o xs store stream q in
+      let w = writing r o xs store stream q in
+      ((w .enough, w .means), (b .list, b .meaning, b .good, b .is)),
+  λ h. let g = h .1 in
+      write-accepts r o xs store (h .0 .0) (h .0 .1) ∙ list-written (settingsOf o) xs store (g .0) (g .1) (g .2) ∙ ap accepted (sym (g .3)),
+)
 
-pub worked-examples : WorkedExamples
-worked-examples =
-    record {
-      scope = K-holds;
-      scope-replies = K-replies;
-      further = others-hold;
-      layouts = laid-out;
-      order = order-examples;
-      others-refused = refusal-examples;
-      in-pieces = piece-examples;
-      writing = writing-examples;
-    }
+-- Reading what was written returns the list.
+pub read-back : (r : WriterRoom) (p : ReaderRoom) (o : SettingNumbers) (xs : List Stored) (store : Text) (l : List (Event Text)) (stream : List ℕ)
+    → T (enoughToRead sizes p) → meant store xs ≡ some l → write r o xs store ≡ accepted stream → Accepts p o stream l
+read-back r p o xs store l stream e h q =
+    let b = behind r o xs store stream q in
+    let same : b .list ≡ l = Option·some-injective (b .list) l (sym (b .meaning) ∙ h) in
+    rw (b .is) (subst (Accepts p o (strict (settingsOf o) (b .list))) same
+    (good-accepted p o (b .list) e (writing r o xs store stream q .means) (b .good)))

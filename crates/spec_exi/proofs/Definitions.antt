@@ -1,0 +1,71 @@
+-- Every definition that a worked example computes with, opened by one name.
+use Rattle.spec_fields.specs.Bits.{bitsOf, valueOf, each, unpack, octetsFrom, octetsFor, pack}
+use Rattle.spec_fields.specs.Bits.{allZero, isPadding}
+use Rattle.spec_fields.specs.Refusal.{numberOf}
+use Rattle.spec_fields.specs.Parser.{return, fail, present, need, andThen, _>>=_, _>>_, times}
+use Rattle.spec_fields.specs.Field.{bit, octet, littleEndian, littleValue, numberBits, numberField}
+use Rattle.spec_fields.specs.Field.{widthFrom, width, choiceBits, choice, maxOctets, maxUnsigned}
+use Rattle.spec_fields.specs.Field.{groups, unsignedBits, grouped, unsigned}
+use Rattle.text.specs.Text.{text, eqText, isEmpty, isChar, allChars, inside, part}
+use Rattle.spec_exi.specs.Sizes.{maxStream, maxEvents, maxOpen, maxUris, maxNames, maxValues}
+use Rattle.spec_exi.specs.Sizes.{maxGrammars, maxLearned, maxString, maxStore, cellsPerEvent}
+use Rattle.spec_exi.specs.Sizes.{readerWork, eventCells, writerWork}
+use Rattle.spec_exi.specs.Settings.{meaningful, settingsOf, headerOf}
+use Rattle.spec_exi.specs.Event.{kindOf, nameOf, stringsOf, mapName, mapEvent, eqName}
+use Rattle.spec_exi.specs.Tables.{nameText, eventText, spanOf, partition, namesOf, valuesOf}
+use Rattle.spec_exi.specs.Tables.{allValues, hasText, indexOf, partitionsOf, eqForm, hitOr}
+use Rattle.spec_exi.specs.Tables.{firstHit, formOf, stringBits, formBits, newUri, newName}
+use Rattle.spec_exi.specs.Tables.{newEntry, newValue, laid, added, tablesAfter, xmlUri}
+use Rattle.spec_exi.specs.Tables.{xsiUri, initialEntries, addedAll, startTables, nameAllowed}
+use Rattle.spec_exi.specs.Grammar.{unnamed, kindNumber, isWildcard, fitsName, fits}
+use Rattle.spec_exi.specs.Grammar.{openElements, eqSite, siteOf, learnedIn, learnedAt, kept}
+use Rattle.spec_exi.specs.Grammar.{levelsWith, levels, allEmpty, choices, atLevel, below}
+use Rattle.spec_exi.specs.Grammar.{codeBits, raised, firstFit, codeOr, codeOf, sameCode}
+use Rattle.spec_exi.specs.Grammar.{hasKind, teaches, taught, learn, hasName, withGrammar}
+use Rattle.spec_exi.specs.Grammar.{grammarsAfter, inContent, closed, stateAfter, isFinished}
+use Rattle.spec_exi.specs.Context.{start, levelsIn, item, characterRole, nameItems, items}
+use Rattle.spec_exi.specs.Context.{afterItem, afterItems, after, entryOf, entriesOf}
+use Rattle.spec_exi.specs.Context.{afterCode, next, contextAfter}
+use Rattle.spec_exi.specs.Strict.{itemBits, itemsBits, codedBits, eventBits, listBits, strict}
+use Rattle.spec_exi.specs.Lists.{every, namesAllowed, charsOnly, withinTables, withinGrammars}
+use Rattle.spec_exi.specs.Lists.{within, staysWithin, short, shortStrings}
+use Rattle.spec_exi.specs.Reader.{readCharacter, readLiteral, readHit, readIn, readByLiterals}
+use Rattle.spec_exi.specs.Reader.{readEntry, readForm, readString, readName, readContent}
+use Rattle.spec_exi.specs.Reader.{readPart, readCode, step, following, ending, onward}
+use Rattle.spec_exi.specs.Reader.{readEvents, readHeader, readBody, readStream, enoughToRead}
+use Rattle.spec_exi.specs.Reader.{readSized, read, listOf, readReply}
+use Rattle.spec_exi.specs.Writer.{firstFailed, placeTests, stringTests, contentTests}
+use Rattle.spec_exi.specs.Writer.{eventTests, faultOf, prepended, unless, writeEvents}
+use Rattle.spec_exi.specs.Writer.{asOctets, writeList, enoughToWrite, write, writeReply}
+use Rattle.spec_exi.specs.Packets.{nothingYet, withFirst, firstThen, firstEvents, afterHeader}
+use Rattle.spec_exi.specs.Packets.{complete, soFar, receive}
+use Rattle.spec_exi.specs.Meaning.{storedOf, meantOne, together, meant}
+use Rattle.spec_exi.specs.Examples.{full, answerFor, strictFor, reply, numbers, inBits}
+use Rattle.spec_exi.specs.Examples.{inOctets, digit, hex, octets, twoLines, example, beginIn}
+use Rattle.spec_exi.specs.Examples.{begin, attrIn, attr, chars, remark, instruct, end, whole}
+
+-- To unfold this is to unfold what its line names.
+unfoldable pub definitions : Unit {0}
+unfolding bitsOf valueOf each unpack octetsFrom octetsFor pack allZero isPadding numberOf return
+    fail present need andThen _>>=_ _>>_ times bit octet littleEndian littleValue numberBits
+    numberField widthFrom width choiceBits choice maxOctets maxUnsigned groups unsignedBits grouped
+    unsigned text eqText isEmpty isChar allChars inside part maxStream maxEvents maxOpen maxUris
+    maxNames maxValues maxGrammars maxLearned maxString maxStore cellsPerEvent readerWork eventCells
+    writerWork meaningful settingsOf headerOf kindOf nameOf stringsOf mapName mapEvent eqName
+    nameText eventText spanOf partition namesOf valuesOf allValues hasText indexOf partitionsOf
+    eqForm hitOr firstHit formOf stringBits formBits newUri newName newEntry newValue laid added
+    tablesAfter xmlUri xsiUri initialEntries addedAll startTables nameAllowed unnamed kindNumber
+    isWildcard fitsName fits openElements eqSite siteOf learnedIn learnedAt kept levelsWith levels
+    allEmpty choices atLevel below codeBits raised firstFit codeOr codeOf sameCode hasKind teaches
+    taught learn hasName withGrammar grammarsAfter inContent closed stateAfter isFinished start
+    levelsIn item characterRole nameItems items afterItem afterItems after entryOf entriesOf
+    afterCode next contextAfter itemBits itemsBits codedBits eventBits listBits strict every
+    namesAllowed charsOnly withinTables withinGrammars within staysWithin short shortStrings
+    readCharacter readLiteral readHit readIn readByLiterals readEntry readForm readString readName
+    readContent readPart readCode step following ending onward readEvents readHeader readBody
+    readStream enoughToRead readSized read listOf readReply firstFailed placeTests stringTests
+    contentTests eventTests faultOf prepended unless writeEvents asOctets writeList enoughToWrite
+    write writeReply nothingYet withFirst firstThen firstEvents afterHeader complete soFar receive
+    storedOf meantOne together meant full answerFor strictFor reply numbers inBits inOctets digit
+    hex octets twoLines example beginIn begin attrIn attr chars remark instruct end whole
+definitions = tt

@@ -1,0 +1,53 @@
+-- Streams that show each of the scope's "mistakes that look right", which have its numbers here, and
+-- more of what tables and grammars hold.
+use mathlib.Core.List.{List, [], _∷_}
+use Rattle.spec_fields.specs.Refusal.{loose, refused}
+use Rattle.spec_exi.specs.Examples.{Example, inBits, inOctets, example, twoLines, beginIn}
+use Rattle.spec_exi.specs.Examples.{begin, attrIn, attr, chars, end, whole}
+
+unfoldable pub mistakes : List Example
+mistakes =
+    -- 1: <r><a>x</a><b>x</b><b>y</b><b>y</b></r>. The value x under another name is a global hit
+    -- and joins no table, so y is the one value local to b.
+    twoLines inOctets "80 01 02 72 02 01 02 61 03 03 78 00 01 00 01 02 62 03 01 00 00 00 03 79"
+    "00 00 00 00 00 01"
+    (whole (begin "r" ∷ begin "a" ∷ chars "x" ∷ end ∷ begin "b" ∷ chars "x" ∷ end
+    ∷ begin "b" ∷ chars "y" ∷ end ∷ begin "b" ∷ chars "y" ∷ end ∷ end ∷ []))
+    -- 2: <a k="" j="x" k="x"/>. The empty value joins no table, so x is the one value.
+    ∷ example inOctets "80 01 02 61 01 01 02 6B 02 01 01 01 02 6A 03 78 01 01 02 00"
+    (whole (begin "a" ∷ attr "k" "" ∷ attr "j" "x" ∷ attr "k" "x" ∷ end ∷ []))
+    -- 3: <a><b><a><b/></a></b></a>. The inner a finds SE(b) learned, and the inner b SE(a).
+    ∷ example inOctets "80 01 02 61 02 01 02 62 02 01 00 00 00 01 00 00 00 00"
+    (whole (begin "a" ∷ begin "b" ∷ begin "a" ∷ begin "b" ∷ end ∷ end ∷ end ∷ end ∷ []))
+    -- 4: <a xmlns="u"><b/></a>. With four URIs, a choice among five: 3 bits.
+    ∷ example inBits "80 00 5D 40 98 68 04 C4 00"
+    (whole (beginIn "u" "a" ∷ beginIn "u" "b" ∷ end ∷ end ∷ []))
+    -- 5: <a>x<a>x</a></a>. The name a and the value x are each the one entry of their partition: a
+    -- choice of no bits.
+    ∷ example inBits "80 40 98 70 37 89 00 00 28"
+    (whole (begin "a" ∷ chars "x" ∷ begin "a" ∷ chars "x" ∷ end ∷ end ∷ []))
+    -- 6: <a k="1">x<b/></a>. The start tag has learned AT(k) and CH, and the content begins with
+    -- nothing learned.
+    ∷ example inBits "80 40 98 54 09 AC 0C C7 81 BC 48 13 10 80"
+    (whole (begin "a" ∷ attr "k" "1" ∷ chars "x" ∷ begin "b" ∷ end ∷ end ∷ []))
+    -- <a xmlns="u" xml:lang="fr">é<b xml:lang="fr"/></a>. URI and name of xml:lang are initial
+    -- entries; é takes two octets.
+    ∷ example inBits "80 00 5D 40 98 54 01 02 33 39 70 3E 90 1A 01 31 28 02 00 88"
+    (whole (beginIn "u" "a" ∷ attrIn "http://www.w3.org/XML/1998/namespace" "lang" "fr" ∷ chars "é"
+    ∷ beginIn "u" "b" ∷ attrIn "http://www.w3.org/XML/1998/namespace" "lang" "fr" ∷ end ∷ end ∷ []))
+    -- <a a="x">xy<u:a>y</u:a>x</a>. An element and an attribute of one name share their values; the
+    -- name a in another URI has values and a grammar of its own; values are numbered from the
+    -- oldest, all of them and those of a name.
+    ∷ twoLines inOctets "80 01 02 61 01 01 00 03 78 01 03 00 01 01 03 79 02 00 00 01 75 02 61"
+    "03 01 01 00 01 00 00 02"
+    (whole (begin "a" ∷ attr "a" "x" ∷ chars "x" ∷ chars "y" ∷ beginIn "u" "a" ∷ chars "y" ∷ end
+    ∷ chars "x" ∷ end ∷ []))
+    -- <a k="x" u:k="y"/>. A name is learned with its URI.
+    ∷ example inOctets "80 01 02 61 01 01 02 6B 03 78 01 01 00 01 75 02 6B 03 79 02 00"
+    (whole (begin "a" ∷ attr "k" "x" ∷ attrIn "u" "k" "y" ∷ end ∷ []))
+    -- <a k="x" k="x"/> with AT(*) for the second k, where the learned AT(k) fits: LOOSE after its
+    -- content.
+    ∷ example inOctets "80 01 02 61 01 01 02 6B 03 78 01 01 01 00 01 00" (refused loose 3)
+    -- <a k="x" k="x"/> with a global hit for the second x, where a local one exists.
+    ∷ example inOctets "80 01 02 61 01 01 02 6B 03 78 00 01" (refused loose 3)
+    ∷ []

@@ -1,0 +1,117 @@
+-- Lists that are lent to the writer, and what it answers.
+use Prim.Native.Nat.{ℕ, zero, suc}
+use mathlib.Core.Path.{_≡_}
+use mathlib.Core.List.{List, [], _∷_, _++_, map}
+use mathlib.Core.Option.{none, some}
+use lib.ListN.{replicate}
+use Rattle.spec_fields.specs.Refusal.{settings, character, name, limit, shape, place, Answer, refused}
+use Rattle.spec_fields.specs.Refusal.{accepted}
+use Rattle.text.specs.Text.{Text, text}
+use Rattle.spec_exi.specs.Event.{startDocument, endDocument, endElement, startElement}
+use Rattle.spec_exi.specs.Event.{attribute, characters}
+use Rattle.spec_exi.specs.Settings.{SettingNumbers}
+use Rattle.spec_exi.specs.Sizes.{maxStream, writerWork}
+use Rattle.spec_exi.specs.Writer.{Stored, WriterRoom, write, WriteReply, writeReply}
+use Rattle.spec_exi.specs.Examples.{numbers, inOctets, octets}
+use Rattle.spec_exi.specs.Examples.Places.{at, inUri, named}
+
+pub record WriteExample : Type 0 where
+  pub numbers : SettingNumbers
+  pub events : List Stored
+  pub store : Text
+  pub answer : Answer (List ℕ)
+
+unfoldable pub fullToWrite : WriterRoom
+fullToWrite = record { octets = maxStream; work = writerWork }
+
+unfoldable pub writtenFor : WriteExample → Answer (List ℕ)
+writtenFor x = write fullToWrite (x .numbers) (x .events) (x .store)
+
+-- The writer answers for each as it says.
+pub record Written (xs : List WriteExample) : Type 0 where
+  pub answers : map writtenFor xs ≡ map (λ x. x .answer) xs
+
+-- Its replies are these numbers.
+pub record WriteReplied (xs : List WriteExample) (ys : List WriteReply) : Type 0 where
+  pub replies : map (λ x. writeReply (writtenFor x)) xs ≡ ys
+
+unfoldable pub wrote : ℕ → ℕ → ℕ → WriteReply
+wrote n i k = record { number = n; index = i; octets = k }
+
+-- Events after a start document, byte-aligned.
+unfoldable pub listed : List Stored → Text → Answer (List ℕ) → WriteExample
+listed xs store a =
+    record { numbers = inOctets; events = some startDocument ∷ xs; store = store; answer = a }
+
+unfoldable pub writes : List WriteExample
+writes =
+    -- K1
+    listed (some (startElement (named 0 1)) ∷ some endElement ∷ some endDocument ∷ []) (text "a")
+    (accepted (octets "80 01 02 61 00"))
+    -- A settings' number without meaning, and a list without events: SETTINGS.
+    ∷ record { numbers = numbers (2 ∷ []); events = []; store = []; answer = refused settings 0 }
+    -- A list that ends early: SHAPE at its length.
+    ∷ listed [] [] (refused shape 1)
+    -- A stored event that is SHAPE by itself.
+    ∷ listed (none ∷ []) [] (refused shape 1)
+    -- Characters outside an element, and outside the store: SHAPE.
+    ∷ listed (some (characters (at 9 9)) ∷ []) [] (refused shape 1)
+    -- A local name outside the store, which looked up is empty: PLACE. An empty one outside, too.
+    ∷ listed (some (startElement (named 9 9)) ∷ []) [] (refused place 1)
+    ∷ listed (some (startElement (named 9 0)) ∷ []) [] (refused place 1)
+    -- An empty one inside: NAME.
+    ∷ listed (some (startElement (named 0 0)) ∷ []) [] (refused name 1)
+    -- 1,025 code points that are no Chars: LIMIT. One: CHARACTER.
+    ∷ listed (some (startElement (named 0 1025)) ∷ []) (replicate 1025 0) (refused limit 1)
+    ∷ listed (some (startElement (named 0 1)) ∷ []) (0 ∷ []) (refused character 1)
+    ∷ []
+
+-- Number, index, octets.
+unfoldable pub writeReplies : List WriteReply
+writeReplies =
+    wrote 0 0 5 ∷ wrote 2 0 0 ∷ wrote 14 1 0 ∷ wrote 14 1 0 ∷ wrote 14 1 0 ∷ wrote 15 1 0
+    ∷ wrote 15 1 0 ∷ wrote 11 1 0 ∷ wrote 12 1 0 ∷ wrote 8 1 0 ∷ []
+
+-- ---- both sides of the scope's own sizes: a list that ends early, or LIMIT
+
+-- n code points that count up from i.
+unfoldable pub counting : ℕ → ℕ → Text
+counting zero i = []
+counting (suc n) i = i ∷ counting n (suc i)
+
+-- Names of one code point each, from place i on: of n start elements, one in the other; of n start
+-- elements and an attribute of each; the URIs of n start elements.
+unfoldable pub nested : ℕ → ℕ → List Stored
+nested zero i = []
+nested (suc n) i = some (startElement (named i 1)) ∷ nested n (suc i)
+
+unfoldable pub withAttribute : ℕ → ℕ → List Stored
+withAttribute zero i = []
+withAttribute (suc n) i =
+    some (startElement (named i 1)) ∷ some (attribute (named (suc i) 1) (at 0 0))
+    ∷ withAttribute n (suc (suc i))
+
+unfoldable pub inUris : ℕ → ℕ → List Stored
+inUris zero i = []
+inUris (suc n) i = some (startElement (inUri i 1 0 1)) ∷ inUris n (suc i)
+
+unfoldable pub aRow : Text
+aRow = counting 200 1000
+
+unfoldable pub atSizes : List WriteExample
+atSizes =
+    -- 100 and 101 open elements of one name
+    listed (replicate 100 (some (startElement (named 0 1)))) aRow (refused shape 101)
+    ∷ listed (replicate 101 (some (startElement (named 0 1)))) aRow (refused limit 101)
+    -- 64 and 65 element grammars
+    ∷ listed (nested 64 0) aRow (refused shape 65)
+    ∷ listed (nested 65 0) aRow (refused limit 65)
+    -- 128 and 129 local names, the initial entries among them
+    ∷ listed (withAttribute 61 0) aRow (refused shape 123)
+    ∷ listed (withAttribute 61 0 ++ nested 1 122) aRow (refused limit 123)
+    -- 16 and 17 URIs
+    ∷ listed (inUris 13 0) aRow (refused shape 14)
+    ∷ listed (inUris 14 0) aRow (refused limit 14)
+    -- 1,024 code points (1,025 are above)
+    ∷ listed (some (startElement (named 0 1024)) ∷ []) (replicate 1024 97) (refused shape 2)
+    ∷ []

@@ -1,0 +1,26 @@
+-- The words that the claims use, each from the module that defines it.
+pub use Prim.Native.Nat.{ℕ, _≤_, _<_}
+pub use mathlib.Core.Path.{_≡_}
+pub use mathlib.Core.Logic.{_↔_}
+pub use mathlib.Core.Bool.{not}
+pub use mathlib.Core.List.{List, [], _∷_, _++_, map}
+pub use mathlib.Core.Option.{some}
+pub use lib.ListN.{length}
+pub use lib.Dec.{T}
+pub use Rattle.text.specs.Text.{Text}
+pub use Rattle.spec_fields.specs.Refusal.{numberOf, isZeroOr, room, settings, long, header}
+pub use Rattle.spec_fields.specs.Refusal.{character, name, limit, tail, shape, place, accepted}
+pub use Rattle.spec_exi.specs.Event.{Event}
+pub use Rattle.spec_exi.specs.Settings.{Settings, SettingNumbers, meaningful, settingsOf}
+pub use Rattle.spec_exi.specs.Sizes.{maxStream, maxEvents, maxStore, Sizes, sizes, NoLarger}
+pub use Rattle.spec_exi.specs.Tables.{eventText}
+pub use Rattle.spec_exi.specs.Context.{start, contextAfter}
+pub use Rattle.spec_exi.specs.Strict.{strict}
+pub use Rattle.spec_exi.specs.Lists.{Good}
+pub use Rattle.spec_exi.specs.Reader.{Reading, ReaderRoom, enoughToRead, readSized, read, ReadReply}
+pub use Rattle.spec_exi.specs.Reader.{readReply}
+pub use Rattle.spec_exi.specs.Writer.{Stored, WriterRoom, enoughToWrite, write, WriteReply}
+pub use Rattle.spec_exi.specs.Writer.{writeReply}
+pub use Rattle.spec_exi.specs.Packets.{complete}
+pub use Rattle.spec_exi.specs.Meaning.{AreOctets, storedOf, meant, Accepts, TooLong}
+pub use Rattle.spec_exi.specs.Examples.All.{WorkedExamples}

@@ -1,0 +1,1 @@
+// Every claim, with the line of its proof; no function.
