@@ -12,12 +12,12 @@ use Rattle.spec_fields.specs.Refusal.{Answer, refused, accepted}
 use Rattle.spec_fields.proofs.Refusal.{refusal-number}
 use Rattle.spec_exi.specs.Event.{Event, mapEvent}
 use Rattle.spec_exi.specs.Settings.{SettingNumbers}
-use Rattle.spec_exi.specs.Sizes.{cellsPerEvent}
+use Rattle.spec_exi.specs.Sizes.{sizes, cellsPerEvent}
 use Rattle.spec_exi.specs.Tables.{Placed, spanOf}
 use Rattle.spec_exi.specs.Reader.{Reading, ReaderRoom, read, readReply}
 use Rattle.spec_exi.specs.Writer.{Stored, WriterRoom, enoughToWrite, write}
-use Rattle.spec_exi.specs.Claims.{AreOctets, storedOf, meant}
-use Rattle.spec_exi.proofs.Claims.{demand-2}
+use Rattle.spec_exi.specs.Meaning.{AreOctets, storedOf, meant}
+use Rattle.spec_exi.proofs.Demands.{read-back, written-back}
 use Rattle.event.specs.Cells.{eventsOf}
 use Rattle.event.proofs.Laws.{events-cells}
 use Rattle.read_body.specs.Reply.{cellsOfAll, eventsFilled, textFilled}
@@ -43,11 +43,11 @@ module _ (p : ReaderRoom) (x : Reading) where
   unfolding readReply textFilled
   store-left = take-at (x .store) (replicate (p .text - length (x .store)) 0) (length (x .store)) refl
 
-gives-back : (r : WriterRoom) (p : ReaderRoom) (o : SettingNumbers) (stream : List ℕ) → T (enoughToWrite r) → AreOctets stream
+gives-back : (r : WriterRoom) (p : ReaderRoom) (o : SettingNumbers) (stream : List ℕ) → T (enoughToWrite sizes r) → AreOctets stream
     → (a : Answer Reading) → read p o stream ≡ a → readReply a .number ≡ 0 → write r o (eventsLeft p a) (storeLeft p a) ≡ accepted stream
 unfolding readReply
 gives-back r p o stream e h (refused k i) q z = absurd (omega (arith, refusal-number k))
-gives-back r p o stream e h (accepted x) q z = rw (events-left p x, store-left p x) (demand-2 .written-back r p o stream x e h q)
+gives-back r p o stream e h (accepted x) q z = rw (events-left p x, store-left p x) (written-back r p o stream x e h q)
 
 means-back : (p : ReaderRoom) (x : Reading) (l : List (Event Text)) (a : Answer Reading) → a ≡ accepted x → meant (x .store) (map storedOf (x .events)) ≡ some l
     → (readReply a .number ≡ 0) × (meant (storeLeft p a) (eventsLeft p a) ≡ some l)
@@ -60,5 +60,5 @@ demand-2-cells =
       cells-mean = all-mean;
       written-back = λ r p o stream e h z. gives-back r p o stream e h (read p o stream) refl z;
       read-back = λ r p o xs store l stream e m w.
-          let (x, q, n) = demand-2 .read-back r p o xs store l stream e m w in means-back p x l (read p o stream) q n;
+          let (x, q, n) = read-back r p o xs store l stream e m w in means-back p x l (read p o stream) q n;
     }

@@ -1,4 +1,4 @@
--- What is claimed of the cells that the reader leaves and the writer takes: demand 2 of crates/spec_exi/specs/Claims.antt over them.
+-- What is claimed of the cells that the reader leaves and the writer takes: demand 2 of crates/theorems/specs/Claims.antt over them.
 --
 -- Throughout, o is settings' numbers, r and p are lengths of lent parts, and a stream is a list of octets.
 use Prim.Native.Nat.{ℕ, _*_}
@@ -11,11 +11,11 @@ use Rattle.text.specs.Text.{Text}
 use Rattle.spec_fields.specs.Refusal.{Answer, accepted}
 use Rattle.spec_exi.specs.Event.{Event}
 use Rattle.spec_exi.specs.Settings.{SettingNumbers}
-use Rattle.spec_exi.specs.Sizes.{cellsPerEvent}
+use Rattle.spec_exi.specs.Sizes.{sizes, cellsPerEvent}
 use Rattle.spec_exi.specs.Tables.{Placed}
 use Rattle.spec_exi.specs.Reader.{Reading, ReaderRoom, enoughToRead, read, readReply}
 use Rattle.spec_exi.specs.Writer.{Stored, WriterRoom, enoughToWrite, write}
-use Rattle.spec_exi.specs.Claims.{AreOctets, storedOf, meant}
+use Rattle.spec_exi.specs.Meaning.{AreOctets, storedOf, meant}
 use Rattle.event.specs.Cells.{eventsOf}
 use Rattle.read_body.specs.Reply.{cellsOfAll, eventsFilled, textFilled}
 
@@ -31,9 +31,9 @@ pub record Demand2Cells : Type 0 where
   pub cells-mean : (es : List (Event Placed)) → eventsOf (cellsOfAll es) ≡ map storedOf es
   -- Where a stream was read with number 0, the writer makes of what is left the same octets.
   pub written-back : (r : WriterRoom) (p : ReaderRoom) (o : SettingNumbers) (stream : List ℕ)
-      → T (enoughToWrite r) → AreOctets stream → readReply (read p o stream) .number ≡ 0
+      → T (enoughToWrite sizes r) → AreOctets stream → readReply (read p o stream) .number ≡ 0
       → write r o (eventsLeft p (read p o stream)) (storeLeft p (read p o stream)) ≡ accepted stream
   -- What was written is read with number 0, and what is left then means the list that was written.
   pub read-back : (r : WriterRoom) (p : ReaderRoom) (o : SettingNumbers) (xs : List Stored) (store : Text) (l : List (Event Text)) (stream : List ℕ)
-      → T (enoughToRead p) → meant store xs ≡ some l → write r o xs store ≡ accepted stream
+      → T (enoughToRead sizes p) → meant store xs ≡ some l → write r o xs store ≡ accepted stream
       → (readReply (read p o stream) .number ≡ 0) × (meant (storeLeft p (read p o stream)) (eventsLeft p (read p o stream)) ≡ some l)
