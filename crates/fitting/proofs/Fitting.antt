@@ -1,35 +1,35 @@
 -- The learned production that fits an event, by the rows of the innermost element's key.
-use Prim.Native.Nat.{ℕ, zero, suc, _-_, _≤_, _<_}
+use Prim.Native.Nat.{ℕ, _-_, _≤_, _<_}
 use native.Mathlib.Omega.{arith}
 use mathlib.Core.Path.{_≡_, refl, sym, ap}
 use mathlib.Core.Bool.{false, true≢false}
-use mathlib.Core.List.{List, [], _∷_}
+use mathlib.Core.List.{List, []}
 use mathlib.Core.Option.{none}
 use lib.ListN.{length}
 use lib.Dec.{eqb, ltb}
 use borrow.Author.Tests.{lt-ltb, le-ltb, ltb-true, ltb-false}
 use Rattle.spec_fields.proofs.Tests.{split}
 use Rattle.text.specs.Text.{Text}
-use Rattle.spec_exi.specs.Event.{QName, Event}
+use Rattle.spec_exi.specs.Event.{Event, kindOf, nameOf}
 use Rattle.spec_exi.specs.Sizes.{maxLearned}
-use Rattle.spec_exi.specs.Grammar.{Learned, learnedIn, firstFit}
+use Rattle.spec_exi.specs.Grammar.{siteOf, learnedIn, firstFit, hasKind}
+use Rattle.spec_exi.specs.Grammar as grammar
 use Rattle.rows.specs.declared.Found.{Found}
 use Rattle.rows.specs.declared.Found.the-variants.{At, Nothing}
 use Rattle.rows.specs.Rows.{rows, countOf, findThat, found}
 use Rattle.rows.proofs.Laws.{rows-length}
 use Rattle.rows.proofs.Selection.{count-most}
 use Rattle.layout.specs.Layout.{learnedAt}
-use Rattle.layout.specs.Meaning.{Memory, nameAt, learnedFrom, stateIn, contextIn}
+use Rattle.layout.specs.Meaning.{Memory, nameAt, siteFor, learnedFrom, contextIn}
 use Rattle.layout.proofs.Sizes.{room-learned}
 use Rattle.layout.proofs.Productions.{learned-count}
 use Rattle.productions.specs.Locate.{hasCells}
 use Rattle.productions.proofs.Located.{locate-hit, hit-below}
-use Rattle.productions.proofs.Known.{known, unknown, taught-first}
+use Rattle.productions.proofs.Known.{known, unknown, taught-first, unlearned}
 use Rattle.state.specs.declared.State.{State}
 use Rattle.state.specs.Stack.{topOf}
 use Rattle.standing.specs.Standing.{countsOf, contextOf, Standing}
-use Rattle.standing.proofs.Laws.{outer-state, inner-state, top-below}
-use Rattle.event_code.specs.Parts.{learnedOf}
+use Rattle.standing.proofs.Laws.{outer-site, inner-site, top-below}
 use Rattle.learning.specs.Learning.{keyOf}
 use Rattle.fitting.specs.declared.Newer.{Newer}
 use Rattle.fitting.specs.Fitting.{Sought, NumberedFits, NewestFits, newerOf, countHere, locatedHere, newestOf, rowOr, learnedHere, Newest}
@@ -37,17 +37,15 @@ use Rattle.fitting.proofs.Sought.{apart}
 
 -- ---- what is learned here
 
-outer-learned : (k : ℕ) (ls : List Learned) → learnedOf (stateIn k []) ls ≡ []
-unfolding learnedOf stateIn
-outer-learned zero ls = refl
-outer-learned (suc zero) ls = refl
-outer-learned (suc (suc zero)) ls = refl
-outer-learned (suc (suc (suc k))) ls = refl
+learned-is : (m : Memory) (st : State) → contextOf m st .learned ≡ learnedFrom m (st .learned)
+unfolding contextOf contextIn
+learned-is m st = refl
 
-inner-learned : (k : ℕ) (q : QName Text) (outer : List (QName Text)) (ls : List Learned)
-    → learnedOf (stateIn k (q ∷ outer)) ls ≡ learnedIn q (eqb k 4) ls
-unfolding learnedOf stateIn
-inner-learned k q outer ls = split (eqb k 4) (λ e. rw e) (λ e. rw e)
+-- Where none fits an event without a name, none of its kind is learned.
+pub kind-unlearned : (m : Memory) (st : State) (e : Event Text) → firstFit (learnedHere m st) e ≡ none → nameOf e ≡ none
+    → hasKind (kindOf e) (learnedHere m st) ≡ false
+kind-unlearned m st e h n =
+    rw (learned-is m st) (unlearned m e n (siteOf (contextOf m st .state)) (st .learned) (rw (learned-is m st) at h))
 
 -- Where no learned production fits.
 module _ {m : Memory} {st : State} {kind : ℕ} {name : Found} {n : ℕ} (few : n ≤ maxLearned) (count : length (learnedHere m st) ≡ n)
@@ -98,15 +96,15 @@ module _ (work : List ℕ) (st : State) (kind : ℕ) (name : Found) where
 module _ {m : Memory} {st : State} (h : Standing m st) where
   -- Outside any element nothing is learned.
   outer-means : (kind : ℕ) (name : Found) → st .mode < 4 → Newest m st kind name (newerOf Nothing 0)
-  unfolding firstFit
+  unfolding firstFit grammar.learnedAt
   outer-means kind name l =
-      let z : learnedHere m st ≡ [] = rw (outer-state h l) (outer-learned (st .mode) (contextOf m st .learned)) in
+      let z : learnedHere m st ≡ [] = rw (outer-site h l) in
       unfit-newest (omega arith) (ap length z) (λ e s. rw z)
 
   module _ (l : 4 ≤ st .mode) where
-    learned-here : learnedHere m st ≡ learnedIn (nameAt m (topOf (st .stack))) (eqb (st .mode) 4) (learnedFrom m (st .learned))
-    unfolding contextOf contextIn
-    learned-here = rw (inner-state h l) (inner-learned (st .mode) _ _ (learnedFrom m (st .learned)))
+    learned-here : learnedHere m st ≡ learnedIn (siteFor (nameAt m (topOf (st .stack))) (eqb (st .mode) 4)) (learnedFrom m (st .learned))
+    unfolding grammar.learnedAt
+    learned-here = rw (inner-site h l, learned-is m st)
 
     count-here : length (learnedHere m st) ≡ countHere (m .work) st
     count-here =

@@ -2,7 +2,7 @@
 use Prim.Native.Nat.{ℕ, zero, suc, _≤_, _<_}
 use native.Mathlib.Omega.{arith}
 use mathlib.Core.Path.{_≡_, refl, sym}
-use mathlib.Core.Bool.{Bool, false, _&&_, Bool·beq}
+use mathlib.Core.Bool.{Bool, false, _&&_}
 use mathlib.Core.List.{List, [], _∷_}
 use mathlib.Core.Option.{none, some}
 use lib.Dec.{eqb, ltb}
@@ -10,14 +10,16 @@ use borrow.Author.Tests.{eqb-true, eqb-false, ne-eqb, ltb-true, ltb-false}
 use Rattle.spec_fields.proofs.Tests.{split, is-T}
 use Rattle.text.specs.Text.{Text}
 use Rattle.spec_exi.specs.Event.{QName, Event, startElement, attribute, endElement, characters, Kind, SD, ED, SE, AT, EE, CH, CM, PI, kindOf, nameOf, eqName}
-use Rattle.spec_exi.specs.Grammar.{kindNumber, fitsName, fits, learnedIn, firstFit}
+use Rattle.spec_exi.specs.Grammar.{kindNumber, fitsName, fits, Site, eqSite, learnedIn, firstFit}
+use Rattle.spec_exi.specs.Tables.{nameText}
 use Rattle.spec_exi.proofs.Codes.{eqName-eq}
 use Rattle.rows.specs.declared.Row.{Row}
 use Rattle.rows.specs.declared.Found.{Found}
 use Rattle.rows.specs.declared.Found.the-variants.{At, Nothing}
 use Rattle.rows.specs.Rows.{rowAt}
 use Rattle.layout.specs.Layout.{learnedAt}
-use Rattle.layout.specs.Meaning.{Memory, nameAt, kindAt, carriedName, learnedRow, newestFirst, learnedFrom, stateIn}
+use Rattle.layout.specs.Meaning.{Memory, placedName, nameAt, kindAt, carriedName, learnedRow, siteFor, newestFirst, learnedFrom, stateIn}
+use Rattle.layout.proofs.Kept.{name-placed}
 use Rattle.productions.proofs.Known.{start-numbered, attribute-numbered, end-numbered, characters-numbered}
 use Rattle.state.specs.declared.State.{State}
 use Rattle.standing.specs.Standing.{countsOf, contextOf, Standing}
@@ -53,31 +55,34 @@ mode-is {m} {st} h =
 
 -- ---- where no learned row fits, no learned production does
 
-none-fits : (m : Memory) (ev : Event Text) (q : QName Text) (tag : Bool) (k : ℕ)
+none-fits : (m : Memory) (ev : Event Text) (at : Site) (k : ℕ)
     → ((i : ℕ) → i < k → fits (learnedRow m (rowAt (m .work) learnedAt i) .production) ev ≡ false)
-    → firstFit (learnedIn q tag (learnedFrom m k)) ev ≡ none
+    → firstFit (learnedIn at (learnedFrom m k)) ev ≡ none
 unfolding learnedFrom newestFirst learnedIn firstFit
-none-fits m ev q tag zero h = refl
-none-fits m ev q tag (suc k) h =
+none-fits m ev at zero h = refl
+none-fits m ev at (suc k) h =
     let r = learnedRow m (rowAt (m .work) learnedAt k) in
-    let rest : firstFit (learnedIn q tag (learnedFrom m k)) ev ≡ none = none-fits m ev q tag k (λ i b. h i (omega arith)) in
-    split (eqName q (r .element) && Bool·beq tag (r .inTag)) (λ t. rw (t, h k (omega arith), rest)) (λ t. rw t rest)
+    let rest : firstFit (learnedIn at (learnedFrom m k)) ev ≡ none = none-fits m ev at k (λ i b. h i (omega arith)) in
+    split (eqSite at (r .site)) (λ t. rw (t, h k (omega arith), rest)) (λ t. rw t rest)
 
 -- A row of another name.
 module _ (m : Memory) (q : QName Text) (r : Row) (other : eqName (nameAt m (r .size)) q ≡ false) where
+  carried-other : eqName (nameText (placedName m (r .size))) q ≡ false
+  carried-other = rw (name-placed m (r .size)) other
+
   start-unfit : fits (learnedRow m r .production) (startElement q) ≡ false
   unfolding kindOf nameOf kindNumber fitsName fits carriedName learnedRow
   start-unfit = go (kindAt (r .place))
     where
       go : (k : Kind) → eqb (kindNumber k) 2 && fitsName (carriedName m k (r .size)) (some q) ≡ false
-      go = elim [ SD ↦ refl | ED ↦ refl | SE ↦ other | AT ↦ refl | EE ↦ refl | CH ↦ refl | CM ↦ refl | PI ↦ refl ]
+      go = elim [ SD ↦ refl | ED ↦ refl | SE ↦ carried-other | AT ↦ refl | EE ↦ refl | CH ↦ refl | CM ↦ refl | PI ↦ refl ]
 
   attribute-unfit : (v : Text) → fits (learnedRow m r .production) (attribute q v) ≡ false
   unfolding kindOf nameOf kindNumber fitsName fits carriedName learnedRow
   attribute-unfit v = go (kindAt (r .place))
     where
       go : (k : Kind) → eqb (kindNumber k) 3 && fitsName (carriedName m k (r .size)) (some q) ≡ false
-      go = elim [ SD ↦ refl | ED ↦ refl | SE ↦ refl | AT ↦ other | EE ↦ refl | CH ↦ refl | CM ↦ refl | PI ↦ refl ]
+      go = elim [ SD ↦ refl | ED ↦ refl | SE ↦ refl | AT ↦ carried-other | EE ↦ refl | CH ↦ refl | CM ↦ refl | PI ↦ refl ]
 
 kind-place : (n : ℕ) → n ≤ 5 → kindNumber (kindAt n) ≡ n
 unfolding kindAt kindNumber
@@ -112,7 +117,7 @@ module _ {m : Memory} {st : State} (h : Standing m st) where
       record {
         kind-is = refl;
         found = λ e _. rw (n .is e) at (start-numbered m (countsOf st) _ (n .below e));
-        missing = λ e k tag _. none-fits m (startElement q) (nameAt m k) tag (st .learned)
+        missing = λ e k tag _. none-fits m (startElement q) (siteFor (nameAt m k) tag) (st .learned)
             (λ i b. start-unfit m q (rowAt (m .work) learnedAt i) (other-name n e i b));
       }
 
@@ -122,7 +127,7 @@ module _ {m : Memory} {st : State} (h : Standing m st) where
       record {
         kind-is = refl;
         found = λ e _. rw (n .is e) at (attribute-numbered m (countsOf st) _ v (n .below e));
-        missing = λ e k tag _. none-fits m (attribute q v) (nameAt m k) tag (st .learned)
+        missing = λ e k tag _. none-fits m (attribute q v) (siteFor (nameAt m k) tag) (st .learned)
             (λ i b. attribute-unfit m q (rowAt (m .work) learnedAt i) (other-name n e i b) v);
       }
 
@@ -156,7 +161,7 @@ module _ {m : Memory} {st : State} (h : Standing m st) where
       record {
         kind-is = k;
         found = λ e. absurd (apart (sym e));
-        missing = λ _ n tag _. none-fits m ev (nameAt m n) tag (st .learned)
+        missing = λ _ n tag _. none-fits m ev (siteFor (nameAt m n) tag) (st .learned)
             (λ i b.
             let t = h .tidy .grammars .kinds i b in
             kind-unfit m (rowAt (m .work) learnedAt i) ev (t .upTo)

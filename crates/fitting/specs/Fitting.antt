@@ -2,7 +2,7 @@
 use Prim.Native.Nat.{ℕ, _-_, _≤_, _<_}
 use mathlib.Core.Path.{_≡_}
 use mathlib.Core.Bool.{Bool, true, false, cond}
-use mathlib.Core.List.{List}
+use mathlib.Core.List.{List, map}
 use mathlib.Core.Option.{none, some}
 use lib.ListN.{length}
 use lib.Dec.{ltb}
@@ -10,17 +10,17 @@ use Rattle.text.specs.Text.{Text}
 use Rattle.spec_exi.specs.Event.{QName, Event, kindOf}
 use Rattle.spec_exi.specs.Sizes.{maxLearned}
 use Rattle.spec_exi.specs.Tables.{namesOf, indexOf}
-use Rattle.spec_exi.specs.Grammar.{Production, kindNumber, productionFor, firstFit, learnedIn}
+use Rattle.spec_exi.specs.Grammar.{Production, kindNumber, firstFit, siteOf, learnedIn}
+use Rattle.spec_exi.specs.Grammar as grammar
 use Rattle.rows.specs.declared.Found.{Found}
 use Rattle.rows.specs.declared.Found.the-variants.{At, Nothing}
 use Rattle.rows.specs.Rows.{Room, rows, countOf, findThat, found}
 use Rattle.layout.specs.Layout.{learnedAt}
-use Rattle.layout.specs.Meaning.{Memory, nameAt, tablesIn, learnedFrom}
+use Rattle.layout.specs.Meaning.{Memory, nameAt, tablesIn, productionAt, siteFor, learnedFrom}
 use Rattle.productions.specs.Locate.{hasCells}
 use Rattle.productions.specs.Numbered.{Numbered}
 use Rattle.state.specs.declared.State.{State}
 use Rattle.standing.specs.Standing.{countsOf, contextOf}
-use Rattle.event_code.specs.Parts.{learnedOf}
 use Rattle.learning.specs.Learning.{keyOf, InElement}
 use Rattle.fitting.specs.declared.Newer.{Newer}
 
@@ -30,14 +30,14 @@ use Rattle.fitting.specs.declared.Newer.{Newer}
 pub record NameFound (m : Memory) (st : State) (q : QName Text) (r : Found) : Type 0 where
   pub below : {number row : ℕ} → r ≡ At number row → row < st .names
   pub is : {number row : ℕ} → r ≡ At number row → nameAt m row ≡ q
-  pub index : {number row : ℕ} → r ≡ At number row → indexOf (namesOf (tablesIn m (countsOf st)) (q .uri)) (q .local) ≡ some number
+  pub index : {number row : ℕ} → r ≡ At number row → indexOf (map some (namesOf (tablesIn m (countsOf st)) (q .uri))) (q .local) ≡ some number
   pub missing : r ≡ Nothing → (n : ℕ) → n < st .names → nameAt m n ≡ q → ⊥
 
 -- The event has this kind; in an element, a learned production of it would carry the name with this row, or none fits it.
 pub record Sought (m : Memory) (st : State) (kind : ℕ) (name : Found) (e : Event Text) : Type 0 where
   pub kind-is : kind ≡ kindNumber (kindOf e)
   pub found : {number row : ℕ} → name ≡ At number row → 4 ≤ st .mode → Numbered m (countsOf st) e row
-  pub missing : name ≡ Nothing → (n : ℕ) (tag : Bool) → n < st .names → firstFit (learnedIn (nameAt m n) tag (learnedFrom m (st .learned))) e ≡ none
+  pub missing : name ≡ Nothing → (n : ℕ) (tag : Bool) → n < st .names → firstFit (learnedIn (siteFor (nameAt m n) tag) (learnedFrom m (st .learned))) e ≡ none
 
 -- ---- what is asked
 
@@ -75,11 +75,11 @@ rowOr Nothing = 0
 
 -- The productions that the innermost element has learned in this state.
 abbrev pub learnedHere : Memory → State → List Production
-learnedHere m st = learnedOf (contextOf m st .state) (contextOf m st .learned)
+learnedHere m st = grammar.learnedAt (siteOf (contextOf m st .state)) (contextOf m st .learned)
 
 pub record Fitting (m : Memory) (st : State) (name : Found) (e : Event Text) (r : Newer) : Type 0 where
   pub count : length (learnedHere m st) ≡ r .count
-  pub hit : r .hit ≡ true → firstFit (learnedHere m st) e ≡ some (r .number, productionFor e)
+  pub hit : r .hit ≡ true → firstFit (learnedHere m st) e ≡ some (r .number, productionAt m (kindOf e) (rowOr name))
   pub named : r .hit ≡ true → Numbered m (countsOf st) e (rowOr name)
   pub miss : r .hit ≡ false → firstFit (learnedHere m st) e ≡ none
 

@@ -13,23 +13,24 @@ use lib.Dec.{eqb, ltb}
 use borrow.Author.Tests.{eqb-true, eqb-false, ltb-true, ltb-false, lt-leb}
 use Rattle.spec_fields.proofs.Tests.{split, T-is}
 use Rattle.text.specs.Text.{Text}
-use Rattle.spec_exi.specs.Sizes.{maxOpen, maxLearned, maxGrammars}
-use Rattle.spec_exi.specs.Event.{Event, startDocument, endDocument, endElement, startElement, attribute, characters, comment, instruction, kindOf, nameOf}
+use Rattle.spec_exi.specs.Sizes.{sizes, maxOpen, maxLearned, maxGrammars}
+use Rattle.spec_exi.specs.Event.{QName, Event, startDocument, endDocument, endElement, startElement, attribute, characters, comment, instruction, kindOf, nameOf}
 use Rattle.spec_exi.specs.Grammar as grammar
-use Rattle.spec_exi.specs.Grammar.{Production, kindNumber, productionFor, document, docContent, docEnd, finished, startTag, elementContent, Learned, learnedIn, learn, learnedAfter, withGrammar, grammarsAfter, hasName, stateAfter, openElements, firstFit, inContent}
+use Rattle.spec_exi.specs.Grammar.{Production, kindNumber, siteOf, Learned, learnedIn, learn, withGrammar, grammarsAfter, hasName, stateAfter, openElements, firstFit, inContent}
+use Rattle.spec_exi.specs.Settings.{Settings}
 use Rattle.spec_exi.specs.Context.{Context}
 use Rattle.spec_exi.specs.Lists.{withinGrammars}
-use Rattle.spec_exi.specs.Tables.{Tables, added, newUri, newName, newValue, plain}
+use Rattle.spec_exi.specs.Tables.{Placed, Tables, added, newUri, newName, newValue, plain}
 use Rattle.rows.specs.declared.Row.{Row}
 use Rattle.rows.specs.Rows.{rowAt, rows, withRow, withRowBelow, countOf, findThat, found}
 use Rattle.rows.specs.declared.Found.{Found}
 use Rattle.rows.specs.declared.Found.the-variants.{At, Nothing}
 use Rattle.rows.proofs.Laws.{withRow-length}
 use Rattle.layout.specs.Layout.{learnedAt, grammarsAt, tableCells}
-use Rattle.layout.specs.Meaning.{Memory, nameAt, tablesIn, learnedFrom, grammarsFrom, learnedKey, carriedName, contextIn, stateIn}
+use Rattle.layout.specs.Meaning.{Memory, placedName, nameAt, tablesIn, learnedFrom, grammarsFrom, learnedKey, carriedName, productionAt, siteFor, contextIn, stateIn}
 use Rattle.layout.specs.Tidy.{Tidy}
 use Rattle.layout.specs.Writer.{storeAt, writerMemory}
-use Rattle.layout.proofs.Kept.{same-row, learned-row-kept}
+use Rattle.layout.proofs.Kept.{name-placed, same-row, learned-row-kept}
 use Rattle.layout.proofs.Productions.{productionRow, recounted, behind-apart, grammar-apart, learned-as, key-parts}
 use Rattle.layout.proofs.Adding.{After, after-plain, drop-row}
 use Rattle.layout.proofs.Grown.{LearnedMore, after-learned, after-grammar}
@@ -44,8 +45,9 @@ use Rattle.state.specs.Stack.{pushed, topOf}
 use Rattle.state.proofs.Laws.{same-open}
 use Rattle.standing.specs.Standing.{countsOf, contextOf, Standing}
 use Rattle.state.specs.Changed.{restated, regrown}
-use Rattle.standing.proofs.Laws.{Moved, outer-moves, content-begins, content-outside, entered-moves, left-moves, inner-state, open-depth, top-below, within-start}
-use Rattle.event_code.specs.Parts.{learnedOf}
+use Rattle.standing.proofs.Laws.{Moved, outer-moves, content-begins, content-outside, entered-moves, left-moves, inner-site, open-depth, top-below, within-start}
+use Rattle.event_code.specs.Parts.{learnt}
+use Rattle.event_code.proofs.Codes.{learnt-none}
 use Rattle.learning.specs.declared.Grown.{Grown}
 use Rattle.learning.specs.Learning.{grammarRowOf, entered, withGrammarRow, left, contentBegun, stays, turned, withTurn, learnedRowOf, alsoLearnt, grown, withLearnt, withGrowth, GrowFits, Teaching}
 use Rattle.learning.specs.Growth.{grownContext, Grows, SameStore, Growth}
@@ -111,8 +113,8 @@ module _ {m m′ : Memory} {st : State} (h : Standing m st) (w : m′ .work ≡ 
 
 -- ---- answers
 
-module _ {m m′ : Memory} {st : State} {e : Event Text} {teaches : Bool} (size : length (m′ .work) ≡ length (m .work)) where
-  refused : withinGrammars (grownContext (contextOf m st) e teaches) ≡ false → Growth m m′ st e teaches (record { ok = false; state = st })
+module _ {s : Settings} {m m′ : Memory} {st : State} {e : Event Text} {teaches : Bool} {q : Option (QName Placed)} (size : length (m′ .work) ≡ length (m .work)) where
+  refused : withinGrammars sizes (grownContext s (contextOf m st) e teaches q) ≡ false → Growth s m m′ st e teaches q (record { ok = false; state = st })
   refused f =
       record {
         within = sym f;
@@ -123,9 +125,9 @@ module _ {m m′ : Memory} {st : State} {e : Event Text} {teaches : Bool} (size 
         work = size;
       }
 
-  granted : {l k mode : ℕ} {s : Stack} → Standing m′ (regrown st l k mode s)
-      → contextOf m′ (regrown st l k mode s) ≡ grownContext (contextOf m st) e teaches
-      → Growth m m′ st e teaches (stays (regrown st l k mode s))
+  granted : {l k mode : ℕ} {stack : Stack} → Standing m′ (regrown st l k mode stack)
+      → contextOf m′ (regrown st l k mode stack) ≡ grownContext s (contextOf m st) e teaches q
+      → Growth s m m′ st e teaches q (stays (regrown st l k mode stack))
   granted h c =
       record {
         within = sym (T-is _ (rw c at (within-start h)));
@@ -138,36 +140,36 @@ module _ {m m′ : Memory} {st : State} {e : Event Text} {teaches : Bool} (size 
 
 -- ---- sizes that the context would pass
 
-module _ (c : Context) (e : Event Text) (teaches : Bool) where
-  too-deep : maxOpen < length (openElements (stateAfter (c .state) e)) → withinGrammars (grownContext c e teaches) ≡ false
+module _ (s : Settings) (c : Context) (e : Event Text) (teaches : Bool) (q : Option (QName Placed)) where
+  too-deep : maxOpen < length (openElements (stateAfter s (c .state) e)) → withinGrammars sizes (grownContext s c e teaches q) ≡ false
   unfolding withinGrammars grownContext
-  too-deep l = rw (lt-leb (length (openElements (stateAfter (c .state) e))) maxOpen l)
+  too-deep l = rw (lt-leb (length (openElements (stateAfter s (c .state) e))) maxOpen l)
 
-  too-many-grammars : maxGrammars < length (grammarsAfter (c .grammars) e) → withinGrammars (grownContext c e teaches) ≡ false
+  too-many-grammars : maxGrammars < length (grammarsAfter (c .grammars) e) → withinGrammars sizes (grownContext s c e teaches q) ≡ false
   unfolding withinGrammars grownContext
   too-many-grammars l = rw (lt-leb (length (grammarsAfter (c .grammars) e)) maxGrammars l, and-false)
 
-  too-much-learned : maxLearned < length (grownContext c e teaches .learned) → withinGrammars (grownContext c e teaches) ≡ false
+  too-much-learned : maxLearned < length (grownContext s c e teaches q .learned) → withinGrammars sizes (grownContext s c e teaches q) ≡ false
   unfolding withinGrammars
-  too-much-learned l = rw (lt-leb (length (grownContext c e teaches .learned)) maxLearned l, and-false)
+  too-much-learned l = rw (lt-leb (length (grownContext s c e teaches q .learned)) maxLearned l, and-false)
 
 -- ---- the turn
 
 -- What a turn that is not refused leaves: the context but for what is learned.
-record Turns (m m′ : Memory) (st : State) (e : Event Text) (r : Grown) : Type 0 where
+record Turns (s : Settings) (m m′ : Memory) (st : State) (e : Event Text) (r : Grown) : Type 0 where
   grammars : ℕ
   mode : ℕ
   stack : Stack
   is : r ≡ stays (regrown st (st .learned) grammars mode stack)
   standing : Standing m′ (regrown st (st .learned) grammars mode stack)
-  context : contextOf m′ (regrown st (st .learned) grammars mode stack) ≡ grownContext (contextOf m st) e false
-  names : (n : ℕ) → n < st .names → nameAt m′ n ≡ nameAt m n
+  context : (q : Option (QName Placed)) → contextOf m′ (regrown st (st .learned) grammars mode stack) ≡ grownContext s (contextOf m st) e false q
+  places : (n : ℕ) → n < st .names → placedName m′ n ≡ placedName m n
   learned : rows (m′ .work) learnedAt (st .learned) ≡ rows (m .work) learnedAt (st .learned)
 
 -- A turn that is refused, and would pass a size.
-record Refuses (m : Memory) (st : State) (e : Event Text) (r : Grown) : Type 0 where
+record Refuses (s : Settings) (m : Memory) (st : State) (e : Event Text) (r : Grown) : Type 0 where
   is : r ≡ record { ok = false; state = st }
-  within : (teaches : Bool) → withinGrammars (grownContext (contextOf m st) e teaches) ≡ false
+  within : (teaches : Bool) (q : Option (QName Placed)) → withinGrammars sizes (grownContext s (contextOf m st) e teaches q) ≡ false
 
 abbrev turnedMemory : Memory → State → ℕ → ℕ → Memory
 turnedMemory m st kind name = record { work = withTurn (m .work) st kind name; cells = m .cells; origin = m .origin }
@@ -175,34 +177,29 @@ turnedMemory m st kind name = record { work = withTurn (m .work) st kind name; c
 abbrev turnedState : Memory → State → ℕ → ℕ → Grown
 turnedState m st kind name = turned st kind name (hasKey name (rows (m .work) grammarsAt (st .grammars)))
 
-abbrev Turn : Memory → State → Event Text → ℕ → ℕ → Type 0
-Turn m st e kind name = Turns m (turnedMemory m st kind name) st e (turnedState m st kind name) ⊎ Refuses m st e (turnedState m st kind name)
-
-none-learned : (s : grammar.State) (ls : List Learned) → learnedAfter s none ls ≡ ls
-unfolding learnedAfter learn
-none-learned s ls =
-    elim s [ document ↦ refl | docContent ↦ refl | docEnd ↦ refl | finished ↦ refl | startTag q o ↦ refl | elementContent q o ↦ refl ]
+abbrev Turn : Settings → Memory → State → Event Text → ℕ → ℕ → Type 0
+Turn s m st e kind name = Turns s m (turnedMemory m st kind name) st e (turnedState m st kind name) ⊎ Refuses s m st e (turnedState m st kind name)
 
 -- Only the grammar's state and the open elements move.
-moves : {m : Memory} {st : State} {e : Event Text} {k : ℕ} {s : Stack} → grammarsAfter (contextOf m st .grammars) e ≡ contextOf m st .grammars
-    → Moved m st (restated st k s) (stateAfter (contextOf m st .state) e) → Turns m m st e (stays (restated st k s))
+moves : {s : Settings} {m : Memory} {st : State} {e : Event Text} {k : ℕ} {stack : Stack} → grammarsAfter (contextOf m st .grammars) e ≡ contextOf m st .grammars
+    → Moved m st (restated st k stack) (stateAfter s (contextOf m st .state) e) → Turns s m m st e (stays (restated st k stack))
 unfolding grownContext
-moves {m} {st} {e} {k} {s} same v =
+moves {s} {m} {st} {e} {k} {stack} same v =
     record {
       grammars = st .grammars;
       mode = k;
-      stack = s;
+      stack = stack;
       is = refl;
       standing = v .standing;
-      context = v .context ∙ rw (none-learned (contextOf m st .state) (contextOf m st .learned), same);
-      names = λ n b. refl;
+      context = λ q. v .context ∙ rw (learnt-none (contextOf m st .state) (contextOf m st .learned) (kindOf e) q, same);
+      places = λ n b. refl;
       learned = refl;
     }
 
 -- Content begins.
-module _ {m : Memory} {st : State} (h : Standing m st) where
+module _ (s : Settings) {m : Memory} {st : State} (h : Standing m st) where
   content-turn : (e : Event Text) → grammarsAfter (contextOf m st .grammars) e ≡ contextOf m st .grammars
-      → stateAfter (contextOf m st .state) e ≡ inContent (contextOf m st .state) → Turns m m st e (stays (contentBegun st))
+      → stateAfter s (contextOf m st .state) e ≡ inContent (contextOf m st .state) → Turns s m m st e (stays (contentBegun st))
   unfolding contentBegun
   content-turn e same a =
       split (eqb (st .mode) 4)
@@ -219,7 +216,7 @@ module _ {m : Memory} {st : State} (h : Standing m st) where
 
 -- ---- an element is entered
 
-module _ {m : Memory} {st : State} (h : Standing m st) (name : ℕ) (below : name < st .names) where
+module _ (s : Settings) {m : Memory} {st : State} (h : Standing m st) (name : ℕ) (below : name < st .names) where
   known-name : hasName (contextOf m st .grammars) (nameAt m name) ≡ hasKey name (rows (m .work) grammarsAt (st .grammars))
   unfolding contextOf contextIn
   known-name = grammar-known m (countsOf st) (h .tidy .distinct) name below (h .tidy .grammars)
@@ -234,12 +231,12 @@ module _ {m : Memory} {st : State} (h : Standing m st) (name : ℕ) (below : nam
   unfolding grammarsAfter withGrammar kindOf nameOf kindNumber
   new-grammars k = rw (known-name, k)
 
-  deeper : length (openElements (stateAfter (contextOf m st .state) (startElement (nameAt m name)))) ≡ suc (st .stack .depth)
+  deeper : length (openElements (stateAfter s (contextOf m st .state) (startElement (nameAt m name)))) ≡ suc (st .stack .depth)
   unfolding openElements stateAfter
   deeper = ap suc (open-depth m st)
 
   enter-known : hasKey name (rows (m .work) grammarsAt (st .grammars)) ≡ true → st .stack .depth < maxOpen
-      → Turns m m st (startElement (nameAt m name)) (stays (restated st 4 (pushed (st .stack) name .stack)))
+      → Turns s m m st (startElement (nameAt m name)) (stays (restated st 4 (pushed (st .stack) name .stack)))
   unfolding stateAfter
   enter-known k d = moves (old-grammars k) (entered-moves h name below d)
 
@@ -249,22 +246,21 @@ module _ {m : Memory} {st : State} (h : Standing m st) (name : ℕ) (below : nam
     new-count = rw (new-grammars k, length-append, length-grammars m (st .grammars))
 
     enter-new : st .stack .depth < maxOpen → st .grammars < maxGrammars
-        → Turns m (record { work = withRow (m .work) grammarsAt (st .grammars) (grammarRowOf name); cells = m .cells; origin = m .origin }) st
+        → Turns s m (record { work = withRow (m .work) grammarsAt (st .grammars) (grammarRowOf name); cells = m .cells; origin = m .origin }) st
         (startElement (nameAt m name)) (stays (regrown st (st .learned) (st .grammars + 1) 4 (pushed (st .stack) name .stack)))
     unfolding grownContext stateAfter
     enter-new d few =
         let b = behind-apart m (countsOf st) grammarsAt (st .grammars) (grammarRowOf name) (omega (arith, learnedAt-is, grammarsAt-is)) in
         let g = after-grammar (h .tidy) b few below in
-        let s = recounted-standing h (g .tidy) (g .tables) (g .names) in
         let c = recounted-context h (g .tidy) (g .tables) (g .names) in
-        let v = entered-moves s name below d in
+        let v = entered-moves (recounted-standing h (g .tidy) (g .tables) (g .names)) name below d in
         record {
           grammars = st .grammars + 1;
           mode = 4;
           stack = pushed (st .stack) name .stack;
           is = refl;
           standing = v .standing;
-          context = v .context
+          context = λ q. v .context
               ∙ rw (
                 c,
                 g .names name below,
@@ -272,14 +268,14 @@ module _ {m : Memory} {st : State} (h : Standing m st) (name : ℕ) (below : nam
                 g .grammars,
                 learned-is m st,
                 grammars-is m st,
-                none-learned (contextOf m st .state) (contextOf m st .learned),
+                learnt-none (contextOf m st .state) (contextOf m st .learned) (kindOf (startElement (nameAt m name))) q,
                 new-grammars k,
               );
-          names = g .names;
+          places = g .places;
           learned = grammar-apart (h .tidy) b few;
         }
 
-  enter : Turn m st (startElement (nameAt m name)) 2 name
+  enter : Turn s m st (startElement (nameAt m name)) 2 name
   unfolding turned withTurn entered withGrammarRow withRowBelow
   enter =
       split (ltb (st .stack .depth) maxOpen)
@@ -291,49 +287,48 @@ module _ {m : Memory} {st : State} (h : Standing m st) (name : ℕ) (below : nam
       (λ f. let full : maxGrammars ≤ st .grammars = ltb-false (st .grammars) maxGrammars f in
       rw (d, k, f) (inr (record {
         is = refl;
-        within = λ t. too-many-grammars (contextOf m st) (startElement (nameAt m name)) t (omega (arith, new-count k));
+        within = λ t q. too-many-grammars s (contextOf m st) (startElement (nameAt m name)) t q (omega (arith, new-count k));
       })))))
       (λ d. let full : maxOpen ≤ st .stack .depth = ltb-false (st .stack .depth) maxOpen d in
-      rw d (inr (record { is = refl; within = λ t. too-deep (contextOf m st) (startElement (nameAt m name)) t (omega (arith, deeper)) })))
+      rw d (inr (record { is = refl; within = λ t q. too-deep s (contextOf m st) (startElement (nameAt m name)) t q (omega (arith, deeper)) })))
 
 -- ---- any event
 
-turn : {m : Memory} {st : State} {kind name : ℕ} {teaches : Bool} (e : Event Text) → Grows m st e kind teaches name
-    → Turn m st e (kindNumber (kindOf e)) name
+turn : (s : Settings) {m : Memory} {st : State} {kind name : ℕ} {teaches : Bool} (e : Event Text) → Grows m st e kind teaches name
+    → Turn s m st e (kindNumber (kindOf e)) name
 unfolding turned withTurn kindOf nameOf kindNumber carriedName stateAfter grammarsAfter stateIn left
-turn startDocument x = inl (moves refl (outer-moves (x .standing) 1 (x .outside (omega arith)) (omega arith)))
-turn endDocument x = inl (moves refl (outer-moves (x .standing) 3 (x .outside (omega arith)) (omega arith)))
-turn endElement x = inl (moves refl (left-moves (x .standing) (x .inside (omega arith) (omega arith))))
-turn {m} {st} {kind} {name} (startElement q) x =
+turn s startDocument x = inl (moves refl (outer-moves (x .standing) 1 (x .outside (omega arith)) (omega arith)))
+turn s endDocument x = inl (moves refl (outer-moves (x .standing) 3 (x .outside (omega arith)) (omega arith)))
+turn s endElement x = inl (moves refl (left-moves (x .standing) s (x .inside (omega arith) (omega arith))))
+turn s {m} {st} {kind} {name} (startElement q) x =
     let n : Numbered m (countsOf st) (startElement q) name = x .row (omega arith) (omega arith) in
-    let same : nameAt m name ≡ q = cc (n .name) in
-    subst (λ q. Turn m st (startElement q) 2 name) same (enter (x .standing) name (n .below))
-turn (attribute q v) x = inl (moves refl (record { standing = x .standing; context = refl }))
-turn (characters v) x = inl (content-turn (x .standing) (characters v) refl refl)
-turn (comment v) x = inl (content-turn (x .standing) (comment v) refl refl)
-turn (instruction v y) x = inl (content-turn (x .standing) (instruction v y) refl refl)
+    let same : nameAt m name ≡ q = sym (name-placed m name) ∙ cc (n .name) in
+    subst (λ q. Turn s m st (startElement q) 2 name) same (enter s (x .standing) name (n .below))
+turn s (attribute q v) x = inl (moves refl (record { standing = x .standing; context = refl }))
+turn s (characters v) x = inl (content-turn s (x .standing) (characters v) refl refl)
+turn s (comment v) x = inl (content-turn s (x .standing) (comment v) refl refl)
+turn s (instruction v y) x = inl (content-turn s (x .standing) (instruction v y) refl refl)
 
 -- ---- learning
 
 -- The innermost element learns.
 module _ {m : Memory} {st : State} (h : Standing m st) (l : 4 ≤ st .mode) (ls : List Learned) where
   innermost-learns : (p : Option Production)
-      → learnedAfter (contextOf m st .state) p ls ≡ learn (nameAt m (topOf (st .stack))) (eqb (st .mode) 4) p ls
-  unfolding learnedAfter stateIn
-  innermost-learns p = rw (inner-state h l) (split (eqb (st .mode) 4) (λ t. rw t) (λ t. rw t))
+      → learn (siteOf (contextOf m st .state)) p ls ≡ learn (some (siteFor (nameAt m (topOf (st .stack))) (eqb (st .mode) 4))) p ls
+  innermost-learns p = rw (inner-site h l)
 
-  innermost-learned : learnedOf (contextOf m st .state) ls ≡ learnedIn (nameAt m (topOf (st .stack))) (eqb (st .mode) 4) ls
-  unfolding learnedOf stateIn
-  innermost-learned = rw (inner-state h l) (split (eqb (st .mode) 4) (λ t. rw t) (λ t. rw t))
+  innermost-learned : grammar.learnedAt (siteOf (contextOf m st .state)) ls ≡ learnedIn (siteFor (nameAt m (topOf (st .stack))) (eqb (st .mode) 4)) ls
+  unfolding grammar.learnedAt
+  innermost-learned = rw (inner-site h l)
 
-module _ {m : Memory} {st : State} {e : Event Text} {kind name : ℕ} (x : Grows m st e kind true name) where
+module _ (s : Settings) {m : Memory} {st : State} {e : Event Text} {kind name : ℕ} (x : Grows m st e kind true name) where
   learnt-name : Numbered m (countsOf st) e name
   learnt-name = x .row (x .kinds refl .0) (x .kinds refl .1)
 
-  learnt-count : length (grownContext (contextOf m st) e true .learned) ≡ suc (st .learned)
-  unfolding grownContext learn
-  learnt-count =
-      rw (innermost-learns (x .standing) (x .inner refl) (contextOf m st .learned) (some (productionFor e)), ← learned-is m st)
+  learnt-count : (q : Option (QName Placed)) → length (grownContext s (contextOf m st) e true q .learned) ≡ suc (st .learned)
+  unfolding grownContext learnt learn
+  learnt-count q =
+      rw (innermost-learns (x .standing) (x .inner refl) (contextOf m st .learned) (some (record { kind = kindOf e; qname = q })), ← learned-is m st)
       (ap suc (length-learned m (st .learned)))
 
   -- No learned row is its row.
@@ -347,7 +342,7 @@ module _ {m : Memory} {st : State} {e : Event Text} {kind name : ℕ} (x : Grows
       rs : List Row
       rs = rows (m .work) learnedAt (st .learned)
 
-      none-fits : firstFit (learnedIn (nameAt m (topOf (st .stack))) (eqb (st .mode) 4) (learnedFrom m (st .learned))) e ≡ none
+      none-fits : firstFit (learnedIn (siteFor (nameAt m (topOf (st .stack))) (eqb (st .mode) 4)) (learnedFrom m (st .learned))) e ≡ none
       none-fits = rw (← innermost-learned (x .standing) (x .inner refl) (learnedFrom m (st .learned)), learned-is m st) (x .new refl)
 
       go : (f : Found) → f ≡ found (findThat (hasCells (kindNumber (kindOf e)) name) false key rs) → ⊥
@@ -363,16 +358,16 @@ module _ {m : Memory} {st : State} {e : Event Text} {kind name : ℕ} (x : Grows
           ∙ taught-first m (countsOf st) (t .distinct) (t .grammars) (topOf (st .stack)) (eqb (st .mode) 4) below e name learnt-name
           (known m (countsOf st) (t .distinct) (t .grammars) (topOf (st .stack)) (eqb (st .mode) 4) below e name learnt-name a refl v follow))
 
-  module _ {m₁ m′ : Memory} {r : Grown} (t : Turns m m₁ st e r) (few : st .learned < maxLearned)
+  module _ {m₁ m′ : Memory} {r : Grown} (t : Turns s m m₁ st e r) (few : st .learned < maxLearned)
       (w : m′ .work ≡ withRow (m₁ .work) learnedAt (st .learned) (learnedRowOf st kind name))
-      (s : SameStore m₁ m′ (regrown st (st .learned) (t .grammars) (t .mode) (t .stack))) where
+      (store : SameStore m₁ m′ (regrown st (st .learned) (t .grammars) (t .mode) (t .stack))) where
     abbrev between : State
     between = regrown st (st .learned) (t .grammars) (t .mode) (t .stack)
 
     more : LearnedMore m₁ m′ (countsOf between) (topOf (st .stack)) (eqb (st .mode) 4) (kindOf e) name
     more =
         after-learned (topOf (st .stack)) (eqb (st .mode) 4) (kindOf e) name (t .standing .tidy)
-        (record { behind = omega arith; work = rw (← x .kind-is) w; size = s .size; origin = s .origin; store = s .store })
+        (record { behind = omega arith; work = rw (← x .kind-is) w; size = store .size; origin = store .origin; store = store .store })
         few (top-below (x .standing) (x .inner refl)) (learnt-name .below)
         (record { from = x .kinds refl .0; upTo = x .kinds refl .1 })
         (learnt-name .plain)
@@ -382,30 +377,30 @@ module _ {m : Memory} {st : State} {e : Event Text} {kind name : ℕ} (x : Grows
     learnt-standing = recounted-standing (t .standing) (more .tidy) (more .tables) (more .names)
 
     -- What is learned then.
-    learnt-learned : learnedFrom m′ (st .learned + 1) ≡ learnedAfter (contextOf m st .state) (some (productionFor e)) (contextOf m st .learned)
-    unfolding grownContext learn productionFor
+    learnt-learned : learnedFrom m′ (st .learned + 1)
+        ≡ learn (siteOf (contextOf m st .state)) (some (productionAt m (kindOf e) name)) (contextOf m st .learned)
+    unfolding grownContext learn
     learnt-learned =
         let top : ℕ = topOf (st .stack) in
         let tag : Bool = eqb (st .mode) 4 in
         let below = top-below (x .standing) (x .inner refl) in
         let old : learnedFrom m₁ (st .learned) ≡ contextOf m st .learned =
-        learned-is m₁ between ∙ ap (λ (c : Context). c .learned) (t .context) ∙ none-learned (contextOf m st .state) (contextOf m st .learned) in
+        learned-is m₁ between ∙ ap (λ (c : Context). c .learned) (t .context none) ∙ learnt-none (contextOf m st .state) (contextOf m st .learned) (kindOf e) none in
         more .learned
         ∙ rw (
           ← learned-as m₁ top tag (kindOf e) name,
-          learned-row-kept m m₁ (countsOf st) (x .standing .tidy .grammars) (t .names) (productionRow top tag (kindOf e) name)
+          learned-row-kept m m₁ (countsOf st) (x .standing .tidy .grammars) (t .places) (productionRow top tag (kindOf e) name)
               (rw (key-parts top tag .0) below) (learnt-name .below),
           learned-as m top tag (kindOf e) name,
-          ← learnt-name .name,
           old,
         )
-        (sym (innermost-learns (x .standing) (x .inner refl) (contextOf m st .learned) (some (productionFor e))))
+        (sym (innermost-learns (x .standing) (x .inner refl) (contextOf m st .learned) (some (productionAt m (kindOf e) name))))
 
-    learnt-context : contextOf m′ (regrown between (st .learned + 1) (t .grammars) (t .mode) (t .stack)) ≡ grownContext (contextOf m st) e true
-    unfolding grownContext
+    learnt-context : contextOf m′ (regrown between (st .learned + 1) (t .grammars) (t .mode) (t .stack)) ≡ grownContext s (contextOf m st) e true (carriedName m (kindOf e) name)
+    unfolding grownContext learnt
     learnt-context =
         recounted-context (t .standing) (more .tidy) (more .tables) (more .names)
-        ∙ rw (learnt-learned, more .grammars, grammars-is m₁ between, t .context)
+        ∙ rw (learnt-learned, more .grammars, grammars-is m₁ between, t .context none)
 
 -- ---- work memory
 
@@ -455,50 +450,51 @@ store-between : {m m′ : Memory} {st : State} {w : List ℕ} {l k mode : ℕ} {
     → SameStore (record { work = w; cells = m .cells; origin = m .origin }) m′ (regrown st l k mode stack)
 store-between s = record { origin = s .origin; size = s .size; store = s .store }
 
-module _ {m m′ : Memory} {st : State} {e : Event Text} {kind name : ℕ} (s : SameStore m m′ st)
+module _ (s : Settings) {m m′ : Memory} {st : State} {e : Event Text} {kind name : ℕ} (store : SameStore m m′ st)
     (size : length (m′ .work) ≡ length (m .work)) where
   means : (teaches : Bool) → Grows m st e kind teaches name → m′ .work ≡ withGrowth (m .work) st kind teaches name
-      → Turn m st e kind name → Growth m m′ st e teaches (grown st kind teaches name (hasKey name (rows (m .work) grammarsAt (st .grammars))))
+      → Turn s m st e kind name
+      → Growth s m m′ st e teaches (carriedName m (kindOf e) name) (grown st kind teaches name (hasKey name (rows (m .work) grammarsAt (st .grammars))))
   unfolding grown alsoLearnt withGrowth withLearnt
   means false x w (inl t) =
-      let h = same-standing (t .standing) w (store-between s) in
-      let c = same-context (t .standing) w (store-between s) in
-      rw (t .is) (granted size h (c ∙ t .context))
-  means false x w (inr t) = rw (t .is) (refused size (t .within false))
+      let h = same-standing (t .standing) w (store-between store) in
+      let c = same-context (t .standing) w (store-between store) in
+      rw (t .is) (granted size h (c ∙ t .context (carriedName m (kindOf e) name)))
+  means false x w (inr t) = rw (t .is) (refused size (t .within false (carriedName m (kindOf e) name)))
   means true x w (inl t) =
       split (ltb (st .learned) maxLearned)
       (λ f.
       let few = ltb-true (st .learned) maxLearned f in
       let row = rw (f, t .is) at w in
-      let h = learnt-standing x t few row (store-between s) in
-      let c = learnt-context x t few row (store-between s) in
+      let h = learnt-standing s x t few row (store-between store) in
+      let c = learnt-context s x t few row (store-between store) in
       rw (f, t .is) (granted size h c))
       (λ f.
       let full : maxLearned ≤ st .learned = ltb-false (st .learned) maxLearned f in
-      rw f (refused size (too-much-learned (contextOf m st) e true (omega (arith, learnt-count x)))))
+      rw f (refused size (too-much-learned s (contextOf m st) e true (carriedName m (kindOf e) name) (omega (arith, learnt-count s x (carriedName m (kindOf e) name))))))
   means true x w (inr t) =
-      let no = refused size (t .within true) in
+      let no = refused size (t .within true (carriedName m (kindOf e) name)) in
       split (ltb (st .learned) maxLearned) (λ f. rw (f, t .is) no) (λ f. rw f no)
 
-pub grow-means : {m m′ : Memory} {st : State} {e : Event Text} {kind name : ℕ} {teaches : Bool} {r : Grown}
+pub grow-means : (s : Settings) {m m′ : Memory} {st : State} {e : Event Text} {kind name : ℕ} {teaches : Bool} {r : Grown}
     → Grows m st e kind teaches name
     → r ≡ grown st kind teaches name (hasKey name (rows (m .work) grammarsAt (st .grammars)))
     → m′ .work ≡ withGrowth (m .work) st kind teaches name
     → SameStore m m′ st
-    → Growth m m′ st e teaches r
-grow-means {m} {m′} {st} {e} {kind} {name} {teaches} x is w s =
+    → Growth s m m′ st e teaches (carriedName m (kindOf e) name) r
+grow-means s {m} {m′} {st} {e} {kind} {name} {teaches} x is w store =
     let size = ap length w ∙ growth-cells (m .work) st kind name teaches .size in
-    rw is (means s size teaches x w (rw (x .kind-is) (turn e x)))
+    rw is (means s store size teaches x w (rw (x .kind-is) (turn s e x)))
 
 -- The writer's text store lies behind the tables.
-pub grow-writer : {w w′ : List ℕ} {st : State} {e : Event Text} {kind name : ℕ} {teaches : Bool} {r : Grown}
+pub grow-writer : (s : Settings) {w w′ : List ℕ} {st : State} {e : Event Text} {kind name : ℕ} {teaches : Bool} {r : Grown}
     → Grows (writerMemory w) st e kind teaches name
     → r ≡ grown st kind teaches name (hasKey name (rows w grammarsAt (st .grammars)))
     → w′ ≡ withGrowth w st kind teaches name
-    → Growth (writerMemory w) (writerMemory w′) st e teaches r
-grow-writer {w} {w′} {st} {kind = kind} {name} {teaches} x is z =
+    → Growth s (writerMemory w) (writerMemory w′) st e teaches (carriedName (writerMemory w) (kindOf e) name) r
+grow-writer s {w} {w′} {st} {kind = kind} {name} {teaches} x is z =
     let t = growth-cells w st kind name teaches in
-    grow-means x is z
+    grow-means s x is z
     (record { origin = refl; size = ap length z ∙ t .size; store = ap (take (st .stored)) (rw z (t .behind storeAt store-behind)) })
 
 -- ---- what `grow` requires

@@ -1,28 +1,31 @@
 -- What an event leaves in the grammars, in the definitions' terms: what `grow` comes to over memory that means a context.
 use Prim.Native.Nat.{ℕ, _≤_, _<_}
 use mathlib.Core.Path.{_≡_}
-use mathlib.Core.Bool.{Bool, true, cond}
-use mathlib.Core.Option.{none, some}
+use mathlib.Core.Bool.{Bool, true}
+use mathlib.Core.Option.{Option, none}
 use lib.ListN.{length, take, drop}
 use Rattle.text.specs.Text.{Text}
-use Rattle.spec_exi.specs.Event.{Event, kindOf}
-use Rattle.spec_exi.specs.Grammar.{kindNumber, productionFor, firstFit, learnedAfter, grammarsAfter, stateAfter}
+use Rattle.spec_exi.specs.Event.{QName, Event, kindOf}
+use Rattle.spec_exi.specs.Settings.{Settings}
+use Rattle.spec_exi.specs.Sizes.{sizes}
+use Rattle.spec_exi.specs.Tables.{Placed}
+use Rattle.spec_exi.specs.Grammar.{kindNumber, siteOf, learnedAt, firstFit, grammarsAfter, stateAfter}
 use Rattle.spec_exi.specs.Context.{Context}
 use Rattle.spec_exi.specs.Lists.{withinGrammars}
 use Rattle.layout.specs.Meaning.{Memory}
 use Rattle.productions.specs.Numbered.{Numbered}
 use Rattle.state.specs.declared.State.{State}
 use Rattle.standing.specs.Standing.{countsOf, contextOf, Standing}
-use Rattle.event_code.specs.Parts.{learnedOf}
+use Rattle.event_code.specs.Parts.{learnt}
 use Rattle.learning.specs.declared.Grown.{Grown}
 
--- The context that the event leaves, but for the tables.
-unfoldable pub grownContext : Context → Event Text → Bool → Context
-grownContext c e teaches =
+-- The context that the event leaves, but for the tables, where its name lies at q.
+unfoldable pub grownContext : Settings → Context → Event Text → Bool → Option (QName Placed) → Context
+grownContext s c e teaches q =
     record {
-      state = stateAfter (c .state) e;
+      state = stateAfter s (c .state) e;
       tables = c .tables;
-      learned = learnedAfter (c .state) (cond teaches (some (productionFor e)) none) (c .learned);
+      learned = learnt (c .state) teaches (kindOf e) q (c .learned);
       grammars = grammarsAfter (c .grammars) e;
     }
 
@@ -34,7 +37,7 @@ pub record Grows (m : Memory) (st : State) (e : Event Text) (kind : ℕ) (teache
   pub row : 2 ≤ kindNumber (kindOf e) → kindNumber (kindOf e) ≤ 5 → Numbered m (countsOf st) e name
   pub inside : 4 ≤ kindNumber (kindOf e) → kindNumber (kindOf e) ≤ 5 → 4 ≤ st .mode
   pub outside : kindNumber (kindOf e) ≤ 1 → st .mode < 4
-  pub new : teaches ≡ true → firstFit (learnedOf (contextOf m st .state) (contextOf m st .learned)) e ≡ none
+  pub new : teaches ≡ true → firstFit (learnedAt (siteOf (contextOf m st .state)) (contextOf m st .learned)) e ≡ none
   pub inner : teaches ≡ true → 4 ≤ st .mode
   pub kinds : teaches ≡ true → (2 ≤ kindNumber (kindOf e)) × (kindNumber (kindOf e) ≤ 5)
 
@@ -45,10 +48,10 @@ pub record SameStore (m m′ : Memory) (st : State) : Type 0 where
   pub store : take (st .stored) (drop (m .origin) (m′ .cells)) ≡ take (st .stored) (drop (m .origin) (m .cells))
 
 -- Refused just where the context would pass a size; else memory and state mean it.
-pub record Growth (m m′ : Memory) (st : State) (e : Event Text) (teaches : Bool) (r : Grown) : Type 0 where
-  pub within : r .ok ≡ withinGrammars (grownContext (contextOf m st) e teaches)
+pub record Growth (s : Settings) (m m′ : Memory) (st : State) (e : Event Text) (teaches : Bool) (q : Option (QName Placed)) (r : Grown) : Type 0 where
+  pub within : r .ok ≡ withinGrammars sizes (grownContext s (contextOf m st) e teaches q)
   pub standing : r .ok ≡ true → Standing m′ (r .state)
-  pub context : r .ok ≡ true → contextOf m′ (r .state) ≡ grownContext (contextOf m st) e teaches
+  pub context : r .ok ≡ true → contextOf m′ (r .state) ≡ grownContext s (contextOf m st) e teaches q
   pub at : r .state .at ≡ st .at
   pub events : r .state .events ≡ st .events
   pub work : length (m′ .work) ≡ length (m .work)

@@ -8,8 +8,15 @@ ghost use Rattle.layout.specs.Layout.{grammarsAt};
 ghost use Rattle.layout.specs.Meaning.{learnedKey};
 ghost use Rattle.learning.specs.Learning.{entered, withGrammarRow, left, contentBegun, turned, withTurn, keyOf, grown, withGrowth, InElement, EnterFits, GrowFits, Teaching};
 ghost use Rattle.state.specs.Changed.{regrown};
+use event_code::AT;
+use event_code::ED;
+use event_code::EE;
+use event_code::SD;
+use event_code::SE;
 use layout::GRAMMARS;
 use layout::LEARNED;
+use sizes::MAX_GRAMMARS;
+use sizes::MAX_LEARNED;
 use state::Stack;
 use state::State;
 
@@ -75,7 +82,7 @@ fn enter(st: State, name: u32, work: &mut [u32]) -> Grown
             state: restacked(st, st.grammars, 4, pushed.stack),
         };
     }
-    if !add_row::add_within(work, GRAMMARS, st.grammars, 64, name, 0, 0) {
+    if !add_row::add_within(work, GRAMMARS, st.grammars, MAX_GRAMMARS, name, 0, 0) {
         return Grown {
             ok: false,
             state: st,
@@ -116,20 +123,20 @@ fn turn(st: State, kind: u32, name: u32, work: &mut [u32]) -> Grown
     ensures { λ r. ⌜ now (work .exit) ≡ withTurn (now (work .entry)) st kind name ⌝ }
 {
     match kind {
-        0 => Grown {
+        SD => Grown {
             ok: true,
             state: restacked(st, st.grammars, 1, st.stack),
         },
-        1 => Grown {
+        ED => Grown {
             ok: true,
             state: restacked(st, st.grammars, 3, st.stack),
         },
-        2 => enter(st, name, work),
-        3 => Grown {
+        SE => enter(st, name, work),
+        AT => Grown {
             ok: true,
             state: st,
         },
-        4 => Grown {
+        EE => Grown {
             ok: true,
             state: leave(st),
         },
@@ -151,7 +158,7 @@ pub fn grow(st: State, kind: u32, teaches: bool, name: u32, work: &mut [u32]) ->
     if !teaches {
         return turn(st, kind, name, work);
     }
-    if 512 <= st.learned {
+    if MAX_LEARNED <= st.learned {
         return Grown {
             ok: false,
             state: st,

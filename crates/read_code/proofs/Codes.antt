@@ -3,9 +3,9 @@ use Prim.Native.Nat.{ℕ, zero, suc, _+_, _-_, _*_, _≤_, _<_}
 use native.Mathlib.Omega.{arith}
 use native.Mathlib.Nat.{le-refl}
 use mathlib.Core.Path.{_≡_, refl, sym, ap, _∙_}
-use mathlib.Core.Bool.{true, false, cond, true≢false}
+use mathlib.Core.Bool.{Bool, true, false, cond, true≢false}
 use mathlib.Core.List.{List, [], _∷_, _++_}
-use mathlib.Core.Option.{none, some, Option·none-ne-some}
+use mathlib.Core.Option.{Option, none, some, Option·map, Option·none-ne-some}
 use lib.ListN.{length, getElem?, drop}
 use lib.Dec.{T, eqb}
 use borrow.Author.Tests.{eqb-true, eqb-false, eq-eqb, le-ltb, lt-ltb}
@@ -15,11 +15,13 @@ use Rattle.spec_fields.specs.Parser.{got, return, present, times, andThen, _>>=
 use Rattle.spec_fields.specs.Field.{Alignment, bitPacked, byteAligned, littleValue, numberField, widthFrom, width, choice}
 use Rattle.spec_fields.proofs.Tests.{split, T-is, is-T, right}
 use Rattle.text.specs.Text.{Text}
-use Rattle.spec_exi.specs.Event.{Event, startDocument, endDocument, endElement, startElement, attribute, characters, comment, instruction, SD, kindOf, nameOf}
+use Rattle.spec_exi.specs.Event.{QName, Event, startDocument, endDocument, endElement, startElement, attribute, characters, comment, instruction, SD, kindOf, nameOf}
 use Rattle.spec_exi.specs.Settings.{Settings}
-use Rattle.spec_exi.specs.Grammar.{Production, Code, unnamed, kindNumber, fitsName, fits, State, document, docContent, docEnd, finished, startTag, elementContent, Learned, levels, allEmpty, choices, atLevel, below, firstFit, codeOr, codeOf, productionFor, taught, learn, learnedAfter}
+use Rattle.spec_exi.specs.Grammar.{Production, Code, unnamed, kindNumber, fitsName, fits, State, siteOf, Learned, levelsWith, levels, allEmpty, choices, atLevel, below, firstFit, codeOr, codeOf, sameCode, hasKind, taught, learn}
+use Rattle.spec_exi.specs.Grammar as grammar
+use Rattle.spec_exi.specs.Tables.{Placed, nameText}
 use Rattle.spec_exi.specs.Context.{levelsIn}
-use Rattle.spec_exi.specs.Reader.{readPart, readCode, sameCode}
+use Rattle.spec_exi.specs.Reader.{readPart, readCode}
 use Rattle.spec_exi.proofs.Codes.{code-same, fits-kind, eqName-eq}
 use Rattle.rows.specs.declared.Row.{Row}
 use Rattle.rows.specs.Rows.{rowAt, foundAt}
@@ -27,7 +29,7 @@ use Rattle.rows.specs.Hit.{Hit}
 use Rattle.rows.proofs.Answers.{nth-hit}
 use Rattle.layout.specs.Layout.{learnedAt}
 use Rattle.layout.specs.Tidy.{Grammars}
-use Rattle.layout.specs.Meaning.{Memory, Counts, nameAt, kindAt, carriedName, learnedRow}
+use Rattle.layout.specs.Meaning.{Memory, Counts, placedName, kindAt, carriedName, productionAt, learnedRow}
 use Rattle.layout.proofs.Productions.{learned-at}
 use Rattle.productions.specs.Locate.{hasCells}
 use Rattle.productions.proofs.Located.{cells-row}
@@ -37,11 +39,12 @@ use Rattle.state.specs.declared.State as state
 use Rattle.state.specs.Stack.{topOf}
 use Rattle.standing.specs.Standing.{countsOf, contextOf, Standing}
 use Rattle.standing.proofs.Laws.{document-state, finished-state, top-below}
-use Rattle.event_code.specs.Parts.{fixedParts, learnedOf, modeOf, teachesIn}
-use Rattle.event_code.proofs.Codes.{fixed-coded, fixed-none, learned-coded}
+use Rattle.event_code.specs.Parts.{fixedParts, modeOf, teachesIn, learnt}
+use Rattle.event_code.proofs.Codes.{Names, fixed-coded, fixed-none, learned-coded}
 use Rattle.learning.specs.Learning.{keyOf}
 use Rattle.fitting.specs.Fitting.{countHere, learnedHere}
 use Rattle.fitting.proofs.Sought.{mode-is}
+use Rattle.fitting.proofs.Fitting.{kind-unlearned}
 use Rattle.outcome.proofs.Outcome.{gotten-outcome, refused-outcome, outcome-weaken, fail-declined}
 use Rattle.read_code.specs.declared.Part.{Part}
 use Rattle.read_code.specs.declared.Decoded.{Decoded}
@@ -53,29 +56,31 @@ use Rattle.read_code.proofs.States.{outer-learned, outer-levels, learne
 
 -- ---- what an event with the code teaches
 
-learned-none : (st : State) (ls : List Learned) → learnedAfter st none ls ≡ ls
-unfolding learnedAfter learn
-learned-none st ls =
-    elim st [ document ↦ refl | docContent ↦ refl | docEnd ↦ refl | finished ↦ refl | startTag q o ↦ refl | elementContent q o ↦ refl ]
-
 module _ (s : Settings) (ls : List Learned) (st : State) (e : Event Text) {x : Code} (is : codeOf (levels s ls st) e ≡ some x) where
-  fixed-taught : firstFit (learnedOf st ls) e ≡ none
-      → learnedAfter st (taught x e) ls ≡ learnedAfter st (cond (teachesIn (modeOf st) (kindNumber (kindOf e))) (some (productionFor e)) none) ls
-  fixed-taught miss = go (fixedParts (modeOf st) (length (learnedOf st ls)) (s .comments) (s .instructions) (kindNumber (kindOf e))) refl
+  abbrev Teaches : Bool → Type 0
+  Teaches t = (q : Option (QName Placed))
+      → learn (siteOf st) (taught (grammar.learnedAt (siteOf st) ls) x (kindOf e) q) ls ≡ learnt st t (kindOf e) q ls
+
+  fixed-taught : firstFit (grammar.learnedAt (siteOf st) ls) e ≡ none → (nameOf e ≡ none → hasKind (kindOf e) (grammar.learnedAt (siteOf st) ls) ≡ false)
+      → Teaches (teachesIn (modeOf st) (kindNumber (kindOf e)))
+  fixed-taught miss new =
+      go (fixedParts (modeOf st) (length (grammar.learnedAt (siteOf st) ls)) (s .comments) (s .instructions) (kindNumber (kindOf e))) refl
     where
-      go : (ps : List (ℕ × ℕ)) → fixedParts (modeOf st) (length (learnedOf st ls)) (s .comments) (s .instructions) (kindNumber (kindOf e)) ≡ ps
-          → learnedAfter st (taught x e) ls ≡ learnedAfter st (cond (teachesIn (modeOf st) (kindNumber (kindOf e))) (some (productionFor e)) none) ls
+      go : (ps : List (ℕ × ℕ))
+          → fixedParts (modeOf st) (length (grammar.learnedAt (siteOf st) ls)) (s .comments) (s .instructions) (kindNumber (kindOf e)) ≡ ps
+          → Teaches (teachesIn (modeOf st) (kindNumber (kindOf e)))
       go [] z = absurd (Option·none-ne-some _ (sym (fixed-none s ls st e miss z) ∙ is))
       go (q ∷ qs) z =
-          let c = fixed-coded s ls st e miss q qs z in
+          let c = fixed-coded s ls st e miss new q qs z in
           let y : x ≡ c .code = cc (is, c .is) in
           rw y (c .teaches)
 
-  learned-taught : (v : ℕ) → firstFit (learnedOf st ls) e ≡ some (v, productionFor e) → learnedAfter st (taught x e) ls ≡ learnedAfter st none ls
-  learned-taught v hit =
-      let c = learned-coded s ls st e v hit in
+  learned-taught : (v : ℕ) (q : Option (QName Placed)) → Names q e
+      → firstFit (grammar.learnedAt (siteOf st) ls) e ≡ some (v, record { kind = kindOf e; qname = q }) → Teaches false
+  learned-taught v q named hit =
+      let c = learned-coded s ls st e v q named hit in
       let y : x ≡ c .code = cc (is, c .is) in
-      rw (y, learned-none) (c .teaches)
+      rw y (c .teaches)
 
 module _ (s : Settings) (m : Memory) (st : state.State) (e : Event Text) {x : Code} (is : codeOf (levelsIn s (contextOf m st)) e ≡ some x) where
   same-parts : sameCode (x .parts) (codeOf (levelsIn s (contextOf m st)) e) ≡ true
@@ -97,9 +102,9 @@ module _ (s : Settings) {m : Memory} {st : state.State} (h : Standing m st) {r :
       record {
         code = is;
         same = same-parts s m st e is;
-        taught-is = rw (plain, ← k)
-            (fixed-taught s ls (contextOf m st .state) e is miss
-            ∙ ap (λ n. learnedAfter (contextOf m st .state) (cond (teachesIn n (kindNumber (kindOf e))) (some (productionFor e)) none) ls) (mode-is h));
+        taught-is = λ q. rw (plain, ← k)
+            (fixed-taught s ls (contextOf m st .state) e is miss (kind-unlearned m st e miss) q
+            ∙ ap (λ n. learnt (contextOf m st .state) (teachesIn n (kindNumber (kindOf e))) (kindOf e) q ls) (mode-is h));
       }
 
   plain-read : Read s m st r x
@@ -158,7 +163,7 @@ module _ (s : Settings) {m : Memory} {st : state.State} (h : Standing m st) wher
 
   pub document-read : {stream : List ℕ} → st .mode ≡ 0 → st .at ≤ 8 * length stream
       → CodeRead s m st stream (plainAs 0 (st .at))
-  unfolding levelsIn levels
+  unfolding levelsIn levels levelsWith
   document-read {stream} e place =
       record {
         outcome = gotten-outcome refl
@@ -178,7 +183,7 @@ module _ (s : Settings) {m : Memory} {st : state.State} (h : Standing m st) wher
       start-code ev k _ = rw (document-state h e) (start-strict ev k)
 
   pub finished-read : st .mode ≡ 3 → {stream : List ℕ} → CodeRead s m st stream (refusedAs 6)
-  unfolding levelsIn levels readCode numberOf
+  unfolding levelsIn levels levelsWith readCode numberOf
   finished-read e = record { outcome = rw (finished-state h e) (refused-outcome (fail-declined code)); refusal = λ _. refl }
 
   -- In the document's content or behind its root element.
@@ -207,13 +212,14 @@ kind-place (suc (suc (suc (suc (suc zero))))) h = refl
 kind-place (suc (suc (suc (suc (suc (suc n)))))) h = absurd (omega arith)
 
 module _ (m : Memory) (i : ℕ) where
-  same-name : (e : Event Text) → T (fitsName (carriedName m (kindOf e) i) (nameOf e)) → nameOf e ≡ carriedName m (kindOf e) i
+  same-name : (e : Event Text) → T (fitsName (carriedName m (kindOf e) i) (nameOf e))
+      → nameOf e ≡ Option·map nameText (carriedName m (kindOf e) i)
   unfolding kindOf nameOf fitsName carriedName
   same-name startDocument t = refl
   same-name endDocument t = refl
   same-name endElement t = refl
-  same-name (startElement q) t = ap some (sym (eqName-eq (nameAt m i) q t))
-  same-name (attribute q v) t = ap some (sym (eqName-eq (nameAt m i) q t))
+  same-name (startElement q) t = ap some (sym (eqName-eq (nameText (placedName m i)) q t))
+  same-name (attribute q v) t = ap some (sym (eqName-eq (nameText (placedName m i)) q t))
   same-name (characters v) t = refl
   same-name (comment x) t = refl
   same-name (instruction x y) t = refl
@@ -335,13 +341,13 @@ module _ (s : Settings) {m : Memory} {st : state.State} (h : Standing m st) (l :
                   (rw (eq-eqb _ _ (place-is (h .tidy .grammars) (g .row) (hit .below) e fit), eq-eqb (told .size) _ refl));
             }
 
-        first-fit : firstFit (learnedHere m st) e ≡ some (p .value, productionFor e)
+        first-fit : firstFit (learnedHere m st) e ≡ some (p .value, productionAt m (kindOf e) (told .size))
         first-fit =
             rw (learned-here h l)
             (taught-first m (countsOf st) (h .tidy .distinct) (h .tidy .grammars) (topOf (st .stack)) (eqb (st .mode) 4) (top-below h l) e (told .size)
             name-numbered taught-row)
 
-        own-production : getElem? (learnedHere m st) (p .value) ≡ some (productionFor e)
+        own-production : getElem? (learnedHere m st) (p .value) ≡ some (productionAt m (kindOf e) (told .size))
         own-production =
             rw (learned-here h l)
             (taught-at m (countsOf st) (h .tidy .distinct) (h .tidy .grammars) (topOf (st .stack)) (eqb (st .mode) 4) (top-below h l) e (told .size)
@@ -350,13 +356,13 @@ module _ (s : Settings) {m : Memory} {st : state.State} (h : Standing m st) (l :
         learned-strict : Strict s m st (learnedAs told (p .next)) (atLevel (p .value) production) e
         unfolding levelsIn
         learned-strict =
-            let same : production ≡ productionFor e = cc (named, own-production) in
+            let same : production ≡ productionAt m (kindOf e) (told .size) = cc (named, own-production) in
             let is : codeOf (levelsIn s (contextOf m st)) e ≡ some (atLevel (p .value) production) =
             rw (inner-levels h l s, same) (learned-code s (st .mode) l (h .mode .known) (learnedHere m st) e first-fit) in
             record {
               code = is;
               same = same-parts s m st e is;
-              taught-is = learned-taught s (contextOf m st .learned) (contextOf m st .state) e is (p .value) first-fit;
+              taught-is = learned-taught s (contextOf m st .learned) (contextOf m st .state) e is (p .value) _ (sym (name-numbered .name)) first-fit;
             }
 
       learned-read : Read s m st (learnedAs told (p .next)) (atLevel (p .value) production)

@@ -14,8 +14,7 @@ use Rattle.text.specs.Text.{Text}
 use Rattle.text.proofs.Equal.{eqText-no}
 use Rattle.spec_exi.specs.Event.{Event, EE, kindOf}
 use Rattle.spec_exi.specs.Settings.{Settings}
-use Rattle.spec_exi.specs.Grammar.{Production, Code, unnamed, kindNumber, fitsName, fits, allEmpty, choices, atLevel, below, raised, firstFit, codeOr, codeOf}
-use Rattle.spec_exi.specs.Reader.{sameCode}
+use Rattle.spec_exi.specs.Grammar.{Production, Code, unnamed, kindNumber, fitsName, fits, allEmpty, choices, atLevel, below, raised, firstFit, codeOr, codeOf, sameCode}
 use Rattle.productions.proofs.Known.{fit-left, fit-right}
 use Rattle.read_code.specs.Levels.{kindsIn, lower}
 use Rattle.read_code.proofs.Levels.{at-front, at-seam, choices-here, choices-more, choices-on}

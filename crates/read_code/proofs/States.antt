@@ -1,5 +1,5 @@
 -- The levels and the learned productions of a state, by its number.
-use Prim.Native.Nat.{ℕ, zero, suc, _≤_, _<_}
+use Prim.Native.Nat.{_≤_, _<_}
 use native.Mathlib.Omega.{arith}
 use mathlib.Core.Path.{_≡_, refl}
 use mathlib.Core.Bool.{false}
@@ -10,19 +10,19 @@ use borrow.Author.Tests.{eqb-true, eqb-false}
 use Rattle.spec_fields.proofs.Tests.{split}
 use Rattle.spec_exi.specs.Settings.{Settings}
 use Rattle.spec_exi.specs.Sizes.{maxLearned}
-use Rattle.spec_exi.specs.Grammar.{levels, learnedIn}
+use Rattle.spec_exi.specs.Grammar.{levelsWith, levels, learnedIn}
+use Rattle.spec_exi.specs.Grammar as grammar
 use Rattle.spec_exi.specs.Context.{levelsIn}
 use Rattle.rows.specs.Rows.{rows}
 use Rattle.rows.proofs.Laws.{rows-length}
 use Rattle.rows.proofs.Selection.{count-most}
 use Rattle.layout.specs.Layout.{learnedAt}
-use Rattle.layout.specs.Meaning.{Memory, nameAt, kindAt, learnedFrom, contextIn}
+use Rattle.layout.specs.Meaning.{Memory, nameAt, kindAt, siteFor, learnedFrom, contextIn}
 use Rattle.layout.proofs.Productions.{learned-count}
 use Rattle.state.specs.declared.State.{State}
 use Rattle.state.specs.Stack.{topOf}
 use Rattle.standing.specs.Standing.{countsOf, contextOf, Standing}
-use Rattle.standing.proofs.Laws.{document-state, docContent-state, docEnd-state, finished-state, startTag-state, elementContent-state, top-below}
-use Rattle.event_code.specs.Parts.{learnedOf}
+use Rattle.standing.proofs.Laws.{docContent-state, docEnd-state, startTag-state, elementContent-state, outer-site, inner-site, top-below}
 use Rattle.learning.specs.Learning.{keyOf}
 use Rattle.fitting.specs.Fitting.{countHere, learnedHere}
 use Rattle.read_code.specs.Levels.{kindsIn, unnamedAt, lower}
@@ -32,19 +32,12 @@ module _ {m : Memory} {st : State} (h : Standing m st) where
   -- ---- outside any element
 
   pub outer-learned : st .mode < 4 → learnedHere m st ≡ []
-  unfolding learnedOf
-  outer-learned l = go (st .mode) refl l
-    where
-      go : (k : ℕ) → st .mode ≡ k → k < 4 → learnedHere m st ≡ []
-      go zero e l = rw (document-state h e)
-      go (suc zero) e l = rw (docContent-state h e)
-      go (suc (suc zero)) e l = rw (docEnd-state h e)
-      go (suc (suc (suc zero))) e l = rw (finished-state h e)
-      go (suc (suc (suc (suc k)))) e l = absurd (omega arith)
+  unfolding grammar.learnedAt
+  outer-learned l = rw (outer-site h l)
 
   -- The document's content and end.
   pub outer-levels : (s : Settings) → 0 < st .mode → st .mode < 3 → levelsIn s (contextOf m st) ≡ lower s (st .mode)
-  unfolding levelsIn levels lower kindsIn unnamedAt kindAt
+  unfolding levelsIn levels levelsWith lower kindsIn unnamedAt kindAt
   outer-levels s a b =
       split (eqb (st .mode) 1)
       (λ t. let one = eqb-true (st .mode) 1 t in rw (docContent-state h one, one))
@@ -53,15 +46,12 @@ module _ {m : Memory} {st : State} (h : Standing m st) where
   -- ---- in an element
 
   module _ (l : 4 ≤ st .mode) where
-    pub learned-here : learnedHere m st ≡ learnedIn (nameAt m (topOf (st .stack))) (eqb (st .mode) 4) (learnedFrom m (st .learned))
-    unfolding contextOf contextIn learnedOf
-    learned-here =
-        split (eqb (st .mode) 4)
-        (λ t. let four = eqb-true (st .mode) 4 t in rw (startTag-state h four, four))
-        (λ t. let other = eqb-false (st .mode) 4 t in let five : st .mode ≡ 5 = omega (arith, h .mode .known) in rw (elementContent-state h five, five))
+    pub learned-here : learnedHere m st ≡ learnedIn (siteFor (nameAt m (topOf (st .stack))) (eqb (st .mode) 4)) (learnedFrom m (st .learned))
+    unfolding contextOf contextIn grammar.learnedAt
+    learned-here = rw (inner-site h l)
 
     pub inner-levels : (s : Settings) → levelsIn s (contextOf m st) ≡ inner s (st .mode) (learnedHere m st)
-    unfolding levelsIn levels lower kindsIn unnamedAt kindAt learnedOf
+    unfolding levelsIn levels levelsWith lower kindsIn unnamedAt kindAt
     inner-levels s =
         split (eqb (st .mode) 4)
         (λ t. let four = eqb-true (st .mode) 4 t in rw (startTag-state h four, four, append-nil))

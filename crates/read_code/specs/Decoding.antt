@@ -3,21 +3,22 @@ use Prim.Native.Nat.{ℕ, _*_, _≤_, _<_}
 use mathlib.Core.Path.{_≡_}
 use mathlib.Core.Bool.{Bool, true, false, cond, _&&_, not}
 use mathlib.Core.List.{List, [], _∷_}
-use mathlib.Core.Option.{none, some}
+use mathlib.Core.Option.{Option, none, some}
 use lib.ListN.{length}
 use lib.Dec.{ltb}
 use Rattle.text.specs.Text.{Text}
-use Rattle.spec_exi.specs.Event.{Event, kindOf}
+use Rattle.spec_exi.specs.Event.{QName, Event, kindOf}
 use Rattle.spec_exi.specs.Sizes.{maxStream}
 use Rattle.spec_exi.specs.Settings.{Settings}
-use Rattle.spec_exi.specs.Grammar.{Production, Code, codeOf, kindNumber, fits, firstFit, productionFor, taught, learnedAfter}
+use Rattle.spec_exi.specs.Grammar.{Production, Code, siteOf, codeOf, sameCode, kindNumber, fits, firstFit, taught, learn}
+use Rattle.spec_exi.specs.Tables.{Placed}
 use Rattle.spec_exi.specs.Context.{levelsIn}
-use Rattle.spec_exi.specs.Reader.{readCode, sameCode}
+use Rattle.spec_exi.specs.Reader.{readCode}
 use Rattle.layout.specs.Meaning.{Memory, kindAt, carries, carriedName}
 use Rattle.state.specs.declared.State.{State}
 use Rattle.productions.specs.Numbered.{Numbered}
 use Rattle.standing.specs.Standing.{countsOf, contextOf, Standing}
-use Rattle.event_code.specs.Parts.{teachesIn}
+use Rattle.event_code.specs.Parts.{teachesIn, learnt}
 use Rattle.fitting.specs.Fitting.{learnedHere}
 use Rattle.outcome.specs.Outcome.{Outcome}
 use Rattle.read_code.specs.declared.Decoded.{Decoded}
@@ -36,8 +37,9 @@ productionIn m r = record { kind = kindAt (r .kind); qname = cond (r .learned) (
 pub record Strict (s : Settings) (m : Memory) (st : State) (r : Decoded) (x : Code) (e : Event Text) : Type 0 where
   pub code : codeOf (levelsIn s (contextOf m st)) e ≡ some x
   pub same : sameCode (x .parts) (codeOf (levelsIn s (contextOf m st)) e) ≡ true
-  pub taught-is : learnedAfter (contextOf m st .state) (taught x e) (contextOf m st .learned)
-      ≡ learnedAfter (contextOf m st .state) (cond (not (r .learned) && teachesIn (st .mode) (r .kind)) (some (productionFor e)) none) (contextOf m st .learned)
+  pub taught-is : (q : Option (QName Placed))
+      → learn (siteOf (contextOf m st .state)) (taught (learnedHere m st) x (kindOf e) q) (contextOf m st .learned)
+      ≡ learnt (contextOf m st .state) (not (r .learned) && teachesIn (st .mode) (r .kind)) (kindOf e) q (contextOf m st .learned)
 
 -- The code of a production that is not learned is the strict one exactly if no learned production fits.
 pub record Fixed (s : Settings) (m : Memory) (st : State) (r : Decoded) (x : Code) (e : Event Text) : Type 0 where

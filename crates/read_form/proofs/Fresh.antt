@@ -8,14 +8,13 @@ use lib.ListN.{length, take, drop, replicate}
 use Rattle.spec_fields.specs.Bits.{Bits, unpack}
 use Rattle.spec_fields.specs.Refusal.{loose}
 use Rattle.spec_fields.specs.Parser.{Result, bad, got, return, need, fail, andThen, _>>=_, _>>_}
-use Rattle.spec_fields.specs.Field.{unsigned}
+use Rattle.spec_fields.specs.Field.{bitPacked, unsigned}
 use Rattle.spec_fields.proofs.Exact.{not-got, got-value}
 use Rattle.spec_fields.proofs.Tests.{split}
 use Rattle.text.specs.Text.{Text, part}
-use Rattle.spec_exi.specs.Sizes.{maxStream, maxStore}
+use Rattle.spec_exi.specs.Sizes.{sizes, maxStream, maxStore}
 use Rattle.spec_exi.specs.Tables.{Placed, Tables, Role, Partitions, partitionsOf, Form, literal, eqForm, formOf, added, tablesAfter, nameAllowed}
 use Rattle.spec_exi.specs.Lists.{withinTables}
-use Rattle.spec_exi.specs.Reader.{readLiteral}
 use Rattle.rows.specs.Rows.{Room}
 use Rattle.layout.proofs.Sizes.{length-text}
 use Rattle.layout.proofs.Adding.{After, countsAfter}
@@ -33,8 +32,8 @@ use Rattle.outcome.proofs.Memory.{longer-laid}
 use Rattle.read_string.specs.Literal.{laidAt, LiteralFit, Laid, LiteralRead}
 use Rattle.read_string.specs.declared.Literal as declared
 use Rattle.read_form.specs.declared.Got.{Got}
-use Rattle.read_form.specs.Content.{Read, rowsOf, Counted, refusedGot, PartRead}
-use Rattle.read_form.specs.Parts.{admit, judge, readAsNew, readNew, ReadFrom, NewFit, readGot, Tells, NewRead}
+use Rattle.read_form.specs.Content.{Read, rowsOf, Counted, refusedGot, PartRead, alignedBy}
+use Rattle.read_form.specs.Parts.{admit, judge, readNewText, readAsNew, readNew, ReadFrom, NewFit, readGot, Tells, NewRead}
 use Rattle.read_form.proofs.Steps.{part-declined, admit-name, admit-limit, admit-gotten, strict-judge}
 use Rattle.read_form.proofs.News.{laid-part, laid-cleared, new-then}
 
@@ -78,7 +77,7 @@ module _ {s work text : List ℕ} {st : State} {at : ℕ} (h : ReadFrom s work t
 new-strict : (t : Tables) (p : Partitions) (n : ℕ) (bs : Bits) {v : Form × Placed} {rest : Bits} → readNew t p n bs ≡ got v rest
     → eqForm (v .0) (formOf p (v .1 .text)) ≡ true
 unfolding readNew _>>=_ _>>_ andThen need return fail
-new-strict t p n bs {v} {rest} e = go (readLiteral t n bs) e
+new-strict t p n bs {v} {rest} e = go (readNewText t n bs) e
   where
     go : (o : Result (Form × Placed)) → andThen o (λ v. need (eqForm (v .0) (formOf p (v .1 .text))) loose >> return v) ≡ got v rest
         → eqForm (v .0) (formOf p (v .1 .text)) ≡ true
@@ -132,22 +131,22 @@ module _ {s work text : List ℕ} {st : State} {at : ℕ} (h : ReadFrom s work t
     module _ (p : LiteralRead s at text (st .stored) n text′ read) where
       pub literal-fresh : ((x : Text) → eqForm literal (formOf (partitionsOf (tablesOf work text st) r) x) ≡ true) → read .number ≡ 0
           → Fresh r n s at work text st text′ (read .next)
-      unfolding readAsNew
+      unfolding readAsNew readNewText
       literal-fresh y z =
           let t : Tables = tablesOf work text st in
-          let o = p .outcome t stored-is in
-          let g : Gotten (readLiteral t n) s at (read .next) = o .read z in
+          let o = p .outcome (alignedBy bitPacked) t stored-is in
+          let g : Gotten (readNewText t n) s at (read .next) = o .read z in
           let e : eqForm (g .value .0) (formOf (partitionsOf t r) (g .value .1 .text)) ≡ true = rw (o .is z .form) (y (g .value .1 .text)) in
           fresh-of r (g .value) (o .is z) e
           (then-got (judge t r) _ _ (g .result) ∙ strict-judge t r (g .value) e (drop (read .next) (unpack s))) (g .after) (g .inside)
 
       pub literal-declined : {b c : ℕ} → (read .number ≡ 0 → ⊥)
           → PartRead (readAsNew (tablesOf work text st) r n) b c s at work text st work text′ (refusedGot (read .number) st)
-      unfolding readAsNew
+      unfolding readAsNew readNewText
       literal-declined e =
           let t : Tables = tablesOf work text st in
           let k : 0 < read .number = omega arith in
-          part-declined (p .unchanged k .0) (declined-then (judge t r) (p .outcome t stored-is .refused k))
+          part-declined (p .unchanged k .0) (declined-then (judge t r) (p .outcome (alignedBy bitPacked) t stored-is .refused k))
 
 -- ---- what becomes of it
 
@@ -172,7 +171,7 @@ module _ {s work text : List ℕ} {st : State} {at : ℕ} (h : ReadFrom s work t
           → PartRead (readAsNew (tablesOf work text st) r n) b k s at work text st work text″ (refusedGot 11 st)
       fresh-named e = part-declined cleared (fresh-declined (admit-name _ r _ e))
 
-      pub fresh-limit : nameAllowed r (f .x) ≡ true → withinTables (added (tablesOf work text st) r (f .x)) ≡ false
+      pub fresh-limit : nameAllowed r (f .x) ≡ true → withinTables sizes (added (tablesOf work text st) r (f .x)) ≡ false
           → PartRead (readAsNew (tablesOf work text st) r n) b k s at work text st work text″ (refusedGot 12 st)
       unfolding tablesAfter
       fresh-limit e w =
@@ -199,7 +198,7 @@ module _ {s work text : List ℕ} {st : State} {at : ℕ} (h : ReadFrom s work t
               (longer-laid text st (recounted st next (st .stored + n) u k v) (f .x) fresh-room (ap (λ l. st .stored + l) (sym (f .size))) (h .ready .zeros));
         }
 
-    pub fresh-passed : {row b c : ℕ} → nameAllowed r (f .x) ≡ true → withinTables (added (tablesOf work text st) r (f .x)) ≡ true → OneRow b c work work′
+    pub fresh-passed : {row b c : ℕ} → nameAllowed r (f .x) ≡ true → withinTables sizes (added (tablesOf work text st) r (f .x)) ≡ true → OneRow b c work work′
         → Counted (rowsOf st) (u + k + v) work work′
         → PartRead (readAsNew (tablesOf work text st) r n) b c s at work text st work′ text′ (joined row)
     unfolding tablesAfter

@@ -11,13 +11,13 @@ use lib.ListN.{length, drop, getElem?}
 use borrow.Author.Tests.{eq-eqb}
 use Rattle.spec_fields.specs.Bits.{Bits, unpack}
 use Rattle.spec_fields.specs.Refusal.{numberOf, reference}
-use Rattle.spec_fields.specs.Parser.{return, andThen, _>>=_}
+use Rattle.spec_fields.specs.Parser.{Parser, present, return, andThen, _>>=_}
 use Rattle.spec_fields.specs.Field.{Alignment, numberField, width, choice}
 use Rattle.spec_fields.proofs.Tests.{T-is}
 use Rattle.text.specs.Text.{Text}
 use Rattle.text.proofs.Parts.{part-length}
 use Rattle.spec_exi.specs.Sizes.{maxStream}
-use Rattle.spec_exi.specs.Tables.{Placed, Tables, Role, partitionsOf, Form, hit, eqForm, formOf, tablesAfter, nameAllowed}
+use Rattle.spec_exi.specs.Tables.{Placed, Slot, Tables, Role, partitionsOf, Form, hit, eqForm, formOf, tablesAfter, nameAllowed}
 use Rattle.spec_exi.specs.Reader.{readHit}
 use Rattle.rows.specs.declared.Row.{Row}
 use Rattle.rows.specs.declared.Found.{Found}
@@ -79,8 +79,8 @@ pub row-room : {work : List ℕ} {base n row : ℕ} → Room work base n → row
 row-room room b = omega (arith, room)
 
 -- The definitions' entry with that number is the row's string.
-pub listed-at : {m : Memory} {base n : ℕ} {all : Bool} {key : ℕ} {es : List Placed} {i row : ℕ} → Listed m base n all key es
-    → Hit all key (m .work) base n i row → getElem? es i ≡ some (placedAt m (rowAt (m .work) base row))
+pub listed-at : {m : Memory} {base n : ℕ} {all : Bool} {key : ℕ} {es : List Slot} {i row : ℕ} → Listed m base n all key es
+    → Hit all key (m .work) base n i row → getElem? es i ≡ some (some (placedAt m (rowAt (m .work) base row)))
 unfolding nthOf nthIn
 listed-at {i} l h = l .nth i ∙ rw (h .entry)
 
@@ -95,7 +95,7 @@ choice-asks {work = work} {base} {n} {all = all} {key} fit count =
 module _ (a : Alignment) {s : List ℕ} {at : ℕ} {work : List ℕ} {base n : ℕ} {all : Bool} {key among : ℕ} {f : Field}
     (fit : HitFit s at work base n all key) (count : among ≡ countOf all key (rows work base n))
     (answer : f ≡ fieldAt (numberField a (width among)) s at) where
-  module _ {text : List ℕ} {es : List Placed} (l : Listed (readerMemory work text) base n all key es) where
+  module _ {text : List ℕ} {es : List Slot} (l : Listed (readerMemory work text) base n all key es) where
     wide : f ≡ fieldAt (numberField a (width (length es))) s at
     wide = rw (l .count, ← count) answer
 
@@ -108,7 +108,7 @@ module _ (a : Alignment) {s : List ℕ} {at : ℕ} {work : List ℕ} {base n : �
 
       taken : {st : State} {g : Got} → g .number ≡ 0 → g .state .at ≡ q → Taken work base n all key v st g
           → Outcome (choice a reference es) s at (g .number) (g .state .at)
-          (λ v. Taken work base n all key (v .0) st g × (v .1 ≡ placedAt (readerMemory work text) (rowAt work base (g .row))))
+          (λ v. Taken work base n all key (v .0) st g × (v .1 ≡ some (placedAt (readerMemory work text) (rowAt work base (g .row)))))
       taken {st} {g} e to p =
           let z′ : f ≡ Value v (g .state .at) = rw to z in
           gotten-outcome e (choice-gotten a reference es (number-gotten s at (fit .place) a _ (sym wide ∙ z′)) (listed-at l (p .hit))) (p, refl)
@@ -170,12 +170,23 @@ module _ {s work text : List ℕ} {st : State} (h : ReadReady s work text st) wh
         })
 
 -- A hit in partition j, of the entries es.
-module _ (a : Alignment) (t : Tables) (r : Role) (j : ℕ) (es : List Placed) where
-  as-hit : (bs : Bits) → readAsHit a t r j es bs ≡ (choice a reference es >>= λ v. judge t r (hit j (v .0), v .1)) bs
-  unfolding readAsHit readHit return _>>=_ andThen
-  as-hit bs = then-assoc (choice a reference es) (λ v. return (hit j (v .0), v .1)) (judge t r) bs
+module _ (t : Tables) (r : Role) (j : ℕ) where
+  abbrev judgeSlot : ℕ × Slot → Parser (Placed × Tables)
+  judgeSlot v = (present reference (v .1) >>= λ e. return (hit j (v .0), e)) >>= judge t r
 
-module _ {a : Alignment} {s work text : List ℕ} {st : State} {at base n : ℕ} {all : Bool} {key : ℕ} {es : List Placed} {g : Got}
+  slot-judge : (v : ℕ × Slot) {x : Placed} → v .1 ≡ some x → (bs : Bits)
+      → judgeSlot v bs ≡ judge t r (hit j (v .0), x) bs
+  unfolding present return _>>=_ andThen
+  slot-judge v e bs = rw e
+
+  as-hit : (a : Alignment) (es : List Slot) (bs : Bits)
+      → readAsHit a t r j es bs ≡ (choice a reference es >>= judgeSlot) bs
+  unfolding readAsHit readHit
+  as-hit a es bs =
+      then-assoc (choice a reference es) (λ v. present reference (v .1) >>= λ e. return (hit j (v .0), e))
+      (judge t r) bs
+
+module _ {a : Alignment} {s work text : List ℕ} {st : State} {at base n : ℕ} {all : Bool} {key : ℕ} {es : List Slot} {g : Got}
     (h : ReadReady s work text st) (l : Listed (readerMemory work text) base n all key es) (p : HitRead a s at work base n all key st g) (r : Role) (j : ℕ) where
   -- The text of the row that was read.
   abbrev string : Text
@@ -183,7 +194,7 @@ module _ {a : Alignment} {s work text : List ℕ} {st : State} {at base n : ℕ}
 
   pub hit-missed : {b c : ℕ} → 0 < g .number → PartRead (readAsHit a (tablesOf work text st) r j es) b c s at work text st work text g
   hit-missed k =
-      rw (p .refused k) (part-declined refl (declined-as (as-hit a (tablesOf work text st) r j es (drop at (unpack s)))
+      rw (p .refused k) (part-declined refl (declined-as (as-hit (tablesOf work text st) r j a es (drop at (unpack s)))
       (declined-then _ (p .outcome text es l .refused k))))
 
   module _ (z : g .number ≡ 0) where
@@ -196,8 +207,9 @@ module _ {a : Alignment} {s work text : List ℕ} {st : State} {at base n : ℕ}
           → PartRead (readAsHit a (tablesOf work text st) r j es) b c s at work text st work text (refusedGot k st)
       hit-judge d =
           let (took, is) = p .outcome text es l .is z in
-          part-as (as-hit a (tablesOf work text st) r j es (drop at (unpack s)))
-          (part-declined refl (gotten-declined _ read (rw is (d (read .value .0) (took .hit)))))
+          part-as (as-hit (tablesOf work text st) r j a es (drop at (unpack s)))
+          (part-declined refl (gotten-declined _ read
+          (declined-as (slot-judge (tablesOf work text st) r j (read .value) is _) (d (read .value .0) (took .hit)))))
 
       pub hit-loose : ((i : ℕ) → Hit all key work base n i (g .row) → eqForm (hit j i) (formOf (partitionsOf (tablesOf work text st) r) string) ≡ false)
           → PartRead (readAsHit a (tablesOf work text st) r j es) b c s at work text st work text (refusedGot 10 st)
@@ -215,17 +227,18 @@ module _ {a : Alignment} {s work text : List ℕ} {st : State} {at base n : ℕ}
             → PartRead (readAsHit a (tablesOf work text st) r j es) b c s at work text st work text g
         hit-passed e lies =
             let (took, is) = p .outcome text es l .is z in
-            part-as (as-hit a (tablesOf work text st) r j es (drop at (unpack s)))
-            (part-then _ read (rw is (hit-judged h took lies r j (strict (read .value .0) (took .hit)) e z (read .inside))))
+            part-as (as-hit (tablesOf work text st) r j a es (drop at (unpack s)))
+            (part-then _ read (part-as (slot-judge (tablesOf work text st) r j (read .value) is _)
+            (hit-judged h took lies r j (strict (read .value .0) (took .hit)) e z (read .inside))))
 
 -- ---- what a hit asks, and the counts after it
 
-pub hit-asks : {s work text : List ℕ} {st : State} {at base n : ℕ} {all : Bool} {key : ℕ} {es : List Placed} → ReadFrom s work text st at → Room work base n
+pub hit-asks : {s work text : List ℕ} {st : State} {at base n : ℕ} {all : Bool} {key : ℕ} {es : List Slot} → ReadFrom s work text st at → Room work base n
     → n ≤ 65536 → Listed (readerMemory work text) base n all key es → HitFit s at work base n all key
 hit-asks {text = text} {es = es} h room few l =
     record { size = h .ready .size; place = h .from; room = room; few = few; text = text; entries = es; listed = l }
 
-module _ {a : Alignment} {s : List ℕ} {at : ℕ} {work text : List ℕ} {base n : ℕ} {all : Bool} {key : ℕ} {es : List Placed} {st : State} {g : Got}
+module _ {a : Alignment} {s : List ℕ} {at : ℕ} {work text : List ℕ} {base n : ℕ} {all : Bool} {key : ℕ} {es : List Slot} {st : State} {g : Got}
     (l : Listed (readerMemory work text) base n all key es) (p : HitRead a s at work base n all key st g) where
   pub hit-state : g .state ≡ reached st (g .state .at) (st .events)
   hit-state = elim (ℕ-discrete (g .number) 0) [

@@ -10,7 +10,7 @@ use lib.Dec.{ltb}
 use borrow.Author.Tests.{ltb-true}
 use Rattle.text.specs.Text.{Text}
 use Rattle.spec_exi.specs.Sizes.{maxStore}
-use Rattle.spec_exi.specs.Tables.{Placed, Tables, indexOf, Role, target, Form, literal, eqForm, hitOr, newUri, newName, newValue, added}
+use Rattle.spec_exi.specs.Tables.{Slot, Tables, indexOf, Role, target, Form, literal, eqForm, hitOr, newUri, newName, newValue, added}
 use Rattle.rows.specs.declared.Row.{Row}
 use Rattle.rows.specs.declared.Found.{Found}
 use Rattle.rows.specs.declared.Found.the-variants.{At, Nothing}
@@ -61,7 +61,7 @@ module _ {s work text : List ℕ} {st : State} (h : ReadReady s work text st) (x
 
 -- ---- which literals are strict
 
-pub own-form : (es : List Placed) (x : Text) (f : Found) → indexOf es x ≡ numberOf f → eqForm literal (hitOr 0 (indexOf es x) literal) ≡ missing f
+pub own-form : (es : List Slot) (x : Text) (f : Found) → indexOf es x ≡ numberOf f → eqForm literal (hitOr 0 (indexOf es x) literal) ≡ missing f
 unfolding eqForm hitOr
 own-form es x (At number row) e = rw e
 own-form es x Nothing e = rw e

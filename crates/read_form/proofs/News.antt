@@ -9,12 +9,12 @@ use lib.Seq.{drop-at, take-at, length-take-le}
 use Rattle.spec_fields.specs.Bits.{Bits}
 use Rattle.spec_fields.specs.Refusal.{numberOf, loose}
 use Rattle.spec_fields.specs.Parser.{Result, bad, got, return, need, fail, andThen, _>>=_, _>>_}
+use Rattle.spec_fields.specs.Field.{bitPacked}
 use Rattle.spec_fields.proofs.Tests.{split}
 use Rattle.text.specs.Text.{Text, part}
 use Rattle.text.proofs.Parts.{part-inside}
 use Rattle.spec_exi.specs.Sizes.{maxStore}
 use Rattle.spec_exi.specs.Tables.{Placed, Tables, Role, Partitions, partitionsOf, Form, literal, eqForm, formOf}
-use Rattle.spec_exi.specs.Reader.{readLiteral}
 use Rattle.rows.specs.declared.Found.{Found}
 use Rattle.rows.specs.declared.Found.the-variants.{At, Nothing}
 use Rattle.rows.specs.Rows.{rows, hasText, findThat, found}
@@ -24,7 +24,8 @@ use Rattle.outcome.proofs.Outcome.{refused-outcome, gotten-outcome, declined-th
 use Rattle.outcome.proofs.Memory.{laid-length, laid-before, cleared-back}
 use Rattle.read_string.specs.Literal.{laidAt, Laid, LiteralRead}
 use Rattle.read_string.specs.declared.Literal as declared
-use Rattle.read_form.specs.Parts.{admit, judge, readAsNew, readNew, NewFit, missing, Tells, NewRead}
+use Rattle.read_form.specs.Content.{alignedBy}
+use Rattle.read_form.specs.Parts.{admit, judge, readNewText, readAsNew, readNew, NewFit, missing, Tells, NewRead}
 
 -- ---- the text behind the store
 
@@ -52,7 +53,7 @@ module _ (text : List ℕ) (stored : ℕ) (x : Text) (h : stored + length x ≤ 
 
 pub new-then : (t : Tables) (r : Role) (n : ℕ) (bs : Bits) → readAsNew t r n bs ≡ (readNew t (partitionsOf t r) n >>= admit t r) bs
 unfolding readNew readAsNew judge _>>=_ _>>_ andThen need return fail
-new-then t r n bs = go (readLiteral t n bs)
+new-then t r n bs = go (readNewText t n bs)
   where
     go : (o : Result (Form × Placed))
         → andThen o (judge t r)
@@ -75,37 +76,39 @@ laid-told {text} {stored} {n} {text′ = text′} v room d y answer =
 module _ {s : List ℕ} {at : ℕ} {text : List ℕ} {stored n : ℕ} {work : List ℕ} {base count : ℕ} {all : Bool} {key : ℕ} {text′ : List ℕ} {read : declared.Literal}
     (fit : NewFit s at text stored n work base count all key) (p : LiteralRead s at text stored n text′ read) where
   pub new-refused : (read .number ≡ 0 → ⊥) → NewRead s at text stored n work base count all key text′ read
-  unfolding readNew
+  unfolding readNew readNewText
   new-refused e =
-      record { outcome = λ t q l y. refused-outcome (declined-then _ (p .outcome t l .refused (omega arith))); unchanged = p .unchanged }
+      record { outcome = λ t q l y. refused-outcome (declined-then _ (p .outcome (alignedBy bitPacked) t l .refused (omega arith))); unchanged = p .unchanged }
 
   module _ (z : read .number ≡ 0) {f : Found}
       (answer : f ≡ found (findThat (hasText text′ (part text′ (record { place = stored; size = n }))) all key (rows work base count))) where
     module _ (t : Tables) {q : Partitions} (l : length (t .store) ≡ stored) (y : Tells text stored n work base count all key q) where
-      abbrev gotten : Gotten (readLiteral t n) s at (read .next)
-      gotten = p .outcome t l .read z
+      abbrev gotten : Gotten (readNewText t n) s at (read .next)
+      unfolding readNewText
+      gotten = p .outcome (alignedBy bitPacked) t l .read z
 
       told : eqForm (gotten .value .0) (formOf q (gotten .value .1 .text)) ≡ missing f
-      told = laid-told (gotten .value) (fit .literal .room) (p .outcome t l .is z) y answer
+      unfolding readNewText
+      told = laid-told (gotten .value) (fit .literal .room) (p .outcome (alignedBy bitPacked) t l .is z) y answer
 
     pub new-found : {k row : ℕ} {text″ : List ℕ} → f ≡ At k row → text″ ≡ take stored text′ ++ replicate (length text′ - stored) 0
         → NewRead s at text stored n work base count all key text″ (record { number = 10; next = at })
-    unfolding readNew numberOf
+    unfolding readNew readNewText numberOf
     new-found e c =
         record {
           outcome = λ t q l y. refused-outcome (gotten-declined _ (gotten t l y) (need-declined _ loose _ (told t l y ∙ rw e)));
           unchanged = λ _.
               let l : length (take stored text) ≡ stored = length-take-le stored text (omega (arith, fit .literal .room, fit .literal .few)) in
-              let d = p .outcome (record { uris = []; names = []; values = []; store = take stored text }) l .is z in
+              let d = p .outcome (alignedBy bitPacked) (record { uris = []; names = []; values = []; store = take stored text }) l .is z in
               (laid-cleared text stored _ (omega (arith, d .size, d .ends, fit .literal .room)) (fit .literal .zeros) (d .text-is) c, refl);
         }
 
     pub new-missing : f ≡ Nothing → NewRead s at text stored n work base count all key text′ read
-    unfolding readNew
+    unfolding readNew readNewText
     new-missing e =
         record {
           outcome = λ t q l y. gotten-outcome z
               (gotten-then _ (gotten t l y) (need-gotten _ loose (told t l y ∙ rw e) (return-gotten _ (gotten t l y .inside))))
-              (p .outcome t l .is z);
+              (p .outcome (alignedBy bitPacked) t l .is z);
           unchanged = λ b. absurd (omega arith);
         }

@@ -12,9 +12,10 @@ use Rattle.spec_fields.specs.Bits.{Bits, unpack}
 use Rattle.spec_fields.specs.Refusal.{numberOf, loose, name, limit}
 use Rattle.spec_fields.specs.Parser.{Result, bad, got, Parser, andThen, _>>=_}
 use Rattle.spec_fields.specs.Field.{Alignment, unsigned}
-use Rattle.spec_exi.specs.Tables.{Placed, Tables, Role, literals, partitionsOf, Form, eqForm, formOf, tablesAfter, nameAllowed}
+use Rattle.spec_exi.specs.Sizes.{sizes}
+use Rattle.spec_exi.specs.Tables.{Placed, Slot, Tables, Role, literals, partitionsOf, Form, eqForm, formOf, tablesAfter, nameAllowed}
 use Rattle.spec_exi.specs.Lists.{withinTables}
-use Rattle.spec_exi.specs.Reader.{readIn, readByLiterals, readForm, readString}
+use Rattle.spec_exi.specs.Reader.{readCharacter, readLiteral, readIn, readByLiterals, readForm, readString}
 use Rattle.read_field.specs.declared.Field.{Field}
 use Rattle.read_field.specs.declared.Field.the-variants.{Value, Refused}
 use Rattle.read_field.specs.View.{fieldAt}
@@ -23,8 +24,8 @@ use Rattle.outcome.specs.Outcome.{Declined, Gotten}
 use Rattle.outcome.specs.Memory.{tablesOf, ReadReady}
 use Rattle.outcome.proofs.Outcome.{outcome-weaken, declined-number, refused-outcome, outcome-as, outcome-then, declined-then, need-true, need-declined, declined-as, return-got, refused-declined, unsigned-gotten}
 use Rattle.read_form.specs.declared.Got.{Got}
-use Rattle.read_form.specs.Content.{refusedGot, PartRead, StringRead}
-use Rattle.read_form.specs.Parts.{admit, judge, readAsNew, readAsHit}
+use Rattle.read_form.specs.Content.{refusedGot, PartRead, alignedBy, StringRead}
+use Rattle.read_form.specs.Parts.{admit, judge, readNewText, readAsNew, readAsHit}
 
 abbrev pub rowless : Got → Got
 rowless g = record { number = g .number; row = 0; place = g .place; size = g .size; state = g .state }
@@ -73,21 +74,21 @@ field-positive p s at answer z = declined-number (refused-declined p s at (sym a
 -- ---- the form of a string
 
 module _ (a : Alignment) (t : Tables) (r : Role) where
-  pub string-form : (bs : Bits) → readString a t r bs ≡ (readForm a t (partitionsOf t r) >>= judge t r) bs
+  pub string-form : (bs : Bits) → readString sizes (alignedBy a) t r bs ≡ (readForm sizes (alignedBy a) t (partitionsOf t r) >>= judge t r) bs
   unfolding readString judge admit
   string-form bs = refl
 
   -- By partitions for literals.
-  module _ {ess : List (List Placed)} (e : partitionsOf t r ≡ literals ess) where
-    literals-form : (bs : Bits) → readString a t r bs ≡ (unsigned >>= λ v. readIn a t (length ess) v (getElem? ess v) >>= judge t r) bs
+  module _ {ess : List (List Slot)} (e : partitionsOf t r ≡ literals ess) where
+    literals-form : (bs : Bits) → readString sizes (alignedBy a) t r bs ≡ (unsigned >>= λ v. readIn sizes (alignedBy a) t (length ess) v (getElem? ess v) >>= judge t r) bs
     unfolding readForm readByLiterals
     literals-form bs =
-        string-form bs ∙ rw e (then-assoc unsigned (λ v. readIn a t (length ess) v (getElem? ess v)) (judge t r) bs)
+        string-form bs ∙ rw e (then-assoc unsigned (λ v. readIn sizes (alignedBy a) t (length ess) v (getElem? ess v)) (judge t r) bs)
 
 -- ---- what is judged behind the form
 
 module _ (t : Tables) (r : Role) (v : Form × Placed) where
-  pub admit-got : nameAllowed r (v .1 .text) ≡ true → withinTables (tablesAfter t r (v .0) (v .1 .text)) ≡ true
+  pub admit-got : nameAllowed r (v .1 .text) ≡ true → withinTables sizes (tablesAfter t r (v .0) (v .1 .text)) ≡ true
       → (bs : Bits) → admit t r v bs ≡ got (v .1, tablesAfter t r (v .0) (v .1 .text)) bs
   unfolding admit
   admit-got e w bs = need-true _ name _ _ e ∙ need-true _ limit _ _ w ∙ return-got _ _
@@ -101,11 +102,11 @@ module _ (t : Tables) (r : Role) (v : Form × Placed) {s : List ℕ} {at : ℕ} 
   unfolding admit numberOf
   admit-name e = need-declined _ name _ e
 
-  pub admit-limit : nameAllowed r (v .1 .text) ≡ true → withinTables (tablesAfter t r (v .0) (v .1 .text)) ≡ false → Declined (admit t r v) s at 12
+  pub admit-limit : nameAllowed r (v .1 .text) ≡ true → withinTables sizes (tablesAfter t r (v .0) (v .1 .text)) ≡ false → Declined (admit t r v) s at 12
   unfolding admit numberOf
   admit-limit e w = declined-as (need-true _ name _ _ e) (need-declined _ limit _ w)
 
-  abbrev pub admit-gotten : nameAllowed r (v .1 .text) ≡ true → withinTables (tablesAfter t r (v .0) (v .1 .text)) ≡ true → at ≤ 8 * length s
+  abbrev pub admit-gotten : nameAllowed r (v .1 .text) ≡ true → withinTables sizes (tablesAfter t r (v .0) (v .1 .text)) ≡ true → at ≤ 8 * length s
       → Gotten (admit t r v) s at at
   admit-gotten e w l =
       record { value = (v .1, tablesAfter t r (v .0) (v .1 .text)); result = admit-got t r v e w (drop at (unpack s)); after = le-refl at; inside = l }
@@ -124,7 +125,7 @@ beyond (x ∷ l) zero h = absurd (omega arith)
 beyond (x ∷ l) (suc i) h = beyond l i (omega arith)
 
 module _ (a : Alignment) {s work text : List ℕ} {st : State} {base n : ℕ} (r : Role) where
-  pub string-declined : {k : ℕ} → Declined (readForm a (tablesOf work text st) (partitionsOf (tablesOf work text st) r)) s (st .at) k
+  pub string-declined : {k : ℕ} → Declined (readForm sizes (alignedBy a) (tablesOf work text st) (partitionsOf (tablesOf work text st) r)) s (st .at) k
       → StringRead a r base n s work text st work text (refusedGot k st)
   string-declined d =
       record {
@@ -133,14 +134,14 @@ module _ (a : Alignment) {s work text : List ℕ} {st : State} {base n : ℕ} (r
       }
 
   -- By partitions for literals.
-  module _ {ess : List (List Placed)} (e : partitionsOf (tablesOf work text st) r ≡ literals ess) (h : ReadReady s work text st) {f : Field}
+  module _ {ess : List (List Slot)} (e : partitionsOf (tablesOf work text st) r ≡ literals ess) (h : ReadReady s work text st) {f : Field}
       (answer : f ≡ fieldAt unsigned s (st .at)) where
     pub literals-refused : {k : ℕ} → f ≡ Refused k → StringRead a r base n s work text st work text (refusedGot k st)
     unfolding readForm readByLiterals
     literals-refused z = string-declined (rw e (declined-then _ (refused-declined unsigned s (st .at) (sym answer ∙ z))))
 
     module _ {v q : ℕ} (z : f ≡ Value v q) {work′ text′ : List ℕ} {g : Got} where
-      literals-then : PartRead (readIn a (tablesOf work text st) (length ess) v (getElem? ess v) >>= judge (tablesOf work text st) r) base n s q
+      literals-then : PartRead (readIn sizes (alignedBy a) (tablesOf work text st) (length ess) v (getElem? ess v) >>= judge (tablesOf work text st) r) base n s q
           work text st work′ text′ g
           → StringRead a r base n s work text st work′ text′ g
       literals-then p =
@@ -152,10 +153,10 @@ module _ (a : Alignment) {s work text : List ℕ} {st : State} {base n : ℕ} (r
       pub literals-new : getElem? ess v ≡ none
           → PartRead (readAsNew (tablesOf work text st) r (v - length ess)) base n s q work text st work′ text′ g
           → StringRead a r base n s work text st work′ text′ g
-      unfolding readIn readAsNew
+      unfolding readIn readAsNew readNewText readLiteral readCharacter
       literals-new o p = literals-then (rw o p)
 
-      pub literals-hit : {es : List Placed} → getElem? ess v ≡ some es
+      pub literals-hit : {es : List Slot} → getElem? ess v ≡ some es
           → PartRead (readAsHit a (tablesOf work text st) r v es) base n s q work text st work′ text′ g
           → StringRead a r base n s work text st work′ text′ g
       unfolding readIn readAsHit

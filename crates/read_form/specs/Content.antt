@@ -2,11 +2,14 @@
 use Prim.Native.Nat.{ℕ, _+_, _<_}
 use mathlib.Core.Path.{_≡_}
 use mathlib.Core.Logic.{_⊎_}
+use mathlib.Core.Bool.{false}
 use mathlib.Core.List.{List}
 use lib.ListN.{length}
 use Rattle.spec_fields.specs.Parser.{Parser}
 use Rattle.spec_fields.specs.Field.{Alignment}
 use Rattle.text.specs.Text.{part}
+use Rattle.spec_exi.specs.Settings.{Settings}
+use Rattle.spec_exi.specs.Sizes.{sizes}
 use Rattle.spec_exi.specs.Tables.{Placed, Tables, Role}
 use Rattle.spec_exi.specs.Reader.{readString}
 use Rattle.state.specs.declared.State.{State}
@@ -44,6 +47,10 @@ pub record PartRead (p : Parser (Placed × Tables)) (base n : ℕ) (stream : Lis
   pub one-row : OneRow base n work work′
   pub counted : Counted (rowsOf st) (rowsOf (g .state)) work work′
 
+-- Of the settings the alignment alone matters to a string.
+abbrev pub alignedBy : Alignment → Settings
+alignedBy a = record { alignment = a; cookie = false; comments = false; instructions = false }
+
 -- A whole string in this role.
 pub record StringRead (a : Alignment) (r : Role) (base n : ℕ) (stream work text : List ℕ) (st : State) (work′ text′ : List ℕ) (g : Got) : Type 0 where
-  pub by : PartRead (readString a (tablesOf work text st) r) base n stream (st .at) work text st work′ text′ g
+  pub by : PartRead (readString sizes (alignedBy a) (tablesOf work text st) r) base n stream (st .at) work text st work′ text′ g

@@ -3,13 +3,15 @@ use Prim.Native.Nat.{ℕ, _+_, _*_, _≤_, _<_}
 use mathlib.Core.Path.{_≡_}
 use mathlib.Core.Bool.{Bool, true, false}
 use mathlib.Core.List.{List}
+use mathlib.Core.Option.{some}
 use lib.ListN.{length}
 use Rattle.spec_fields.specs.Refusal.{numberOf, loose, name, limit, reference}
 use Rattle.spec_fields.specs.Parser.{Parser, return, need, _>>=_, _>>_}
-use Rattle.spec_fields.specs.Field.{Alignment, choice}
+use Rattle.spec_fields.specs.Field.{Alignment, bitPacked, choice}
 use Rattle.text.specs.Text.{Text}
-use Rattle.spec_exi.specs.Sizes.{maxStream, maxStore}
-use Rattle.spec_exi.specs.Tables.{Placed, Tables, Role, Partitions, partitionsOf, Form, literal, eqForm, formOf, tablesAfter, nameAllowed}
+use Rattle.spec_exi.specs.Sizes.{sizes, maxStream, maxStore}
+use Rattle.spec_exi.specs.Tables.{Placed, Slot, Tables, Role, Partitions, partitionsOf, Form, literal, eqForm}
+use Rattle.spec_exi.specs.Tables.{formOf, tablesAfter, nameAllowed}
 use Rattle.spec_exi.specs.Lists.{withinTables}
 use Rattle.spec_exi.specs.Reader.{readLiteral, readHit}
 use Rattle.rows.specs.declared.Found.{Found}
@@ -25,7 +27,7 @@ use Rattle.outcome.specs.Memory.{readerMemory, ReadReady}
 use Rattle.read_string.specs.Literal.{laidAt, LiteralFit, Laid}
 use Rattle.read_string.specs.declared.Literal as declared
 use Rattle.read_form.specs.declared.Got.{Got}
-use Rattle.read_form.specs.Content.{refusedGot}
+use Rattle.read_form.specs.Content.{refusedGot, alignedBy}
 
 -- ---- the definitions' parts
 
@@ -33,7 +35,7 @@ use Rattle.read_form.specs.Content.{refusedGot}
 unfoldable pub admit : Tables → Role → Form × Placed → Parser (Placed × Tables)
 admit t r v = do
   need (nameAllowed r (v .1 .text)) name
-  need (withinTables (tablesAfter t r (v .0) (v .1 .text))) limit
+  need (withinTables sizes (tablesAfter t r (v .0) (v .1 .text))) limit
   return (v .1, tablesAfter t r (v .0) (v .1 .text))
 
 -- What stands behind a string's form: LOOSE, then these.
@@ -42,18 +44,22 @@ judge t r v = do
   need (eqForm (v .0) (formOf (partitionsOf t r) (v .1 .text))) loose
   admit t r v
 
+-- A literal of n code points, to which no setting matters.
+unfoldable pub readNewText : Tables → ℕ → Parser (Form × Placed)
+readNewText = readLiteral sizes (alignedBy bitPacked)
+
 -- A string of which a literal of n code points is left to read.
 unfoldable pub readAsNew : Tables → Role → ℕ → Parser (Placed × Tables)
-readAsNew t r n = readLiteral t n >>= judge t r
+readAsNew t r n = readNewText t n >>= judge t r
 
 -- A string of which a hit in partition j, of these entries, is left to read.
-unfoldable pub readAsHit : Alignment → Tables → Role → ℕ → List Placed → Parser (Placed × Tables)
-readAsHit a t r j es = readHit a j es >>= judge t r
+unfoldable pub readAsHit : Alignment → Tables → Role → ℕ → List Slot → Parser (Placed × Tables)
+readAsHit a t r j es = readHit sizes (alignedBy a) j es >>= judge t r
 
 -- A literal, and LOOSE.
 unfoldable pub readNew : Tables → Partitions → ℕ → Parser (Form × Placed)
 readNew t p n = do
-  v ← readLiteral t n
+  v ← readNewText t n
   need (eqForm (v .0) (formOf p (v .1 .text))) loose
   return v
 
@@ -71,7 +77,7 @@ pub record HitFit (stream : List ℕ) (at : ℕ) (work : List ℕ) (base n : ℕ
   pub room : Room work base n
   pub few : n ≤ 65536
   pub text : List ℕ
-  pub entries : List Placed
+  pub entries : List Slot
   pub listed : Listed (readerMemory work text) base n all key entries
 
 -- ---- a literal among the selected rows
@@ -112,9 +118,9 @@ pub record EntryTaken (work : List ℕ) (base n : ℕ) (all : Bool) (key i at : 
 
 -- A hit by a list of the definitions that is the selected rows.
 pub record HitRead (a : Alignment) (stream : List ℕ) (at : ℕ) (work : List ℕ) (base n : ℕ) (all : Bool) (key : ℕ) (st : State) (g : Got) : Type 0 where
-  pub outcome : (text : List ℕ) (es : List Placed) → Listed (readerMemory work text) base n all key es
+  pub outcome : (text : List ℕ) (es : List Slot) → Listed (readerMemory work text) base n all key es
       → Outcome (choice a reference es) stream at (g .number) (g .state .at)
-      (λ v. Taken work base n all key (v .0) st g × (v .1 ≡ placedAt (readerMemory work text) (rowAt work base (g .row))))
+      (λ v. Taken work base n all key (v .0) st g × (v .1 ≡ some (placedAt (readerMemory work text) (rowAt work base (g .row)))))
   pub refused : 0 < g .number → g ≡ refusedGot (g .number) st
 
 -- A literal that no selected row has.

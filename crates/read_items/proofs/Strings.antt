@@ -11,13 +11,13 @@ use Rattle.spec_fields.specs.Parser.{return}
 use Rattle.spec_fields.specs.Field.{Alignment}
 use Rattle.spec_fields.proofs.Tests.{split}
 use Rattle.spec_exi.specs.Event.{Event, startDocument, endDocument, endElement, startElement, attribute, characters, comment, instruction, Kind, SD, ED, SE, AT, EE, CH, CM, PI, kindOf, nameOf, mapEvent}
-use Rattle.spec_exi.specs.Sizes.{maxNames, maxOpen}
-use Rattle.spec_exi.specs.Tables.{Placed, Tables, value, target, plain, spanOf}
+use Rattle.spec_exi.specs.Sizes.{sizes, maxNames, maxOpen}
+use Rattle.spec_exi.specs.Tables.{Placed, nameText, eventText, Tables, value, target, plain, spanOf}
 use Rattle.spec_exi.specs.Grammar.{unnamed, kindNumber, fitsName, fits}
-use Rattle.spec_exi.specs.Context.{item, nameItems, items, afterItem, afterItems, characterRole}
-use Rattle.spec_exi.specs.Reader.{nameText, eventText, readContent}
+use Rattle.spec_exi.specs.Context.{characterRole}
+use Rattle.spec_exi.specs.Reader.{readContent}
 use Rattle.layout.specs.Layout.{valuesAt, tableCells}
-use Rattle.layout.specs.Meaning.{Memory, nameAt, kindAt, carriedName}
+use Rattle.layout.specs.Meaning.{Memory, placedName, nameAt, kindAt, carriedName}
 use Rattle.productions.specs.Numbered.{Numbered}
 use Rattle.productions.proofs.Known.{start-numbered, attribute-numbered, end-numbered, characters-numbered}
 use Rattle.event.specs.Cells.{asSpan, meaning}
@@ -34,13 +34,12 @@ use Rattle.outcome.proofs.Outcome.{declined-outcome, outcome-as, outcome-then, 
 use Rattle.read_code.specs.declared.Decoded.{Decoded}
 use Rattle.read_code.specs.Decoding.{productionIn}
 use Rattle.read_form.specs.declared.Got.{Got}
-use Rattle.read_form.specs.Content.{Read, StringRead}
+use Rattle.read_form.specs.Content.{Read, alignedBy, StringRead}
 use Rattle.read_value.specs.Value.{ReadyValue, ValueRow}
 use Rattle.read_items.specs.Content.{Left, nameIn, NameFits, NameRead, ContentFits, Held, ContentRead}
 use Rattle.read_items.specs.declared.Named.{Named}
 use Rattle.read_items.specs.declared.Content.{Content}
 use Rattle.read_items.proofs.Memory.{left-none, value-left, text-left}
-use Rattle.read_items.proofs.Names.{string-after, string-outcome}
 
 -- ---- productions
 
@@ -50,7 +49,7 @@ module _ (m : Memory) (code : Decoded) (k : Kind) (e : kindAt (code .kind) ≡ k
   unfolding productionIn unnamed
   plain-production n = rw (e, n) (split (code .learned) (λ l. rw l) (λ l. rw l))
 
-  named-production : carriedName m k (code .row) ≡ some (nameAt m (code .row)) → productionIn m code ≡ record { kind = k; qname = nameIn m code }
+  named-production : carriedName m k (code .row) ≡ some (placedName m (code .row)) → productionIn m code ≡ record { kind = k; qname = nameIn m code }
   unfolding productionIn nameIn
   named-production n = rw (e, n)
 
@@ -62,21 +61,21 @@ some-names fit l u = omega (arith, top-below (fit .standing) (fit .inside l u))
 
 module _ {a : Alignment} {stream work text : List ℕ} {st : State} {code : Decoded} (fit : ContentFits stream work text st code) where
   nothing-read : (k : Kind) (e : Event Placed) (ev : declared.Event) → productionIn (readerMemory work text) code ≡ unnamed k
-      → readContent a (tablesOf work text st) (contextOf (readerMemory work text) st .state) k none ≡ return e
+      → readContent sizes (alignedBy a) (tablesOf work text st) (contextOf (readerMemory work text) st .state) k none
+      ≡ return (e, tablesOf work text st)
       → meaning ev ≡ mapEvent spanOf e → fits (unnamed k) (eventText e) ≡ true
-      → items (contextOf (readerMemory work text) st .state) (unnamed k) (eventText e) ≡ []
       → (2 ≤ kindNumber (kindOf (eventText e)) → kindNumber (kindOf (eventText e)) ≤ 5 → Numbered (readerMemory work text) (countsOf st) (eventText e) 0)
       → ContentRead a (productionIn (readerMemory work text) code) stream work text st work text (record { number = 0; row = 0; event = ev; state = st })
-  unfolding unnamed afterItems
-  nothing-read k e ev p parser places fit-is none-is row =
+  unfolding unnamed
+  nothing-read k e ev p parser places fit-is row =
       rw p
       (record {
         outcome = rw parser
-            (return-outcome e
+            (return-outcome (e, tablesOf work text st)
             (record {
               places = places;
               fit = fit-is;
-              after = rw none-is;
+              tables = refl;
               kept = kept-refl (fit .ready .read .tidy);
               small = omega arith;
               row = row;
@@ -88,21 +87,21 @@ module _ {a : Alignment} {stream work text : List ℕ} {st : State} {code : Deco
 
   pub start-document : code .kind ≡ 0
       → ContentRead a (productionIn (readerMemory work text) code) stream work text st work text (record { number = 0; row = 0; event = StartDocument; state = st })
-  unfolding kindAt carriedName readContent meaning mapEvent eventText unnamed fits fitsName kindOf nameOf kindNumber items
+  unfolding kindAt carriedName readContent meaning mapEvent eventText unnamed fits fitsName kindOf nameOf kindNumber
   start-document e =
-      nothing-read SD startDocument StartDocument (plain-production (readerMemory work text) code SD (rw e) refl) refl refl refl refl (λ l u. absurd (omega arith))
+      nothing-read SD startDocument StartDocument (plain-production (readerMemory work text) code SD (rw e) refl) refl refl refl (λ l u. absurd (omega arith))
 
   pub end-document : code .kind ≡ 1
       → ContentRead a (productionIn (readerMemory work text) code) stream work text st work text (record { number = 0; row = 0; event = EndDocument; state = st })
-  unfolding kindAt carriedName readContent meaning mapEvent eventText unnamed fits fitsName kindOf nameOf kindNumber items
+  unfolding kindAt carriedName readContent meaning mapEvent eventText unnamed fits fitsName kindOf nameOf kindNumber
   end-document e =
-      nothing-read ED endDocument EndDocument (plain-production (readerMemory work text) code ED (rw e) refl) refl refl refl refl (λ l u. absurd (omega arith))
+      nothing-read ED endDocument EndDocument (plain-production (readerMemory work text) code ED (rw e) refl) refl refl refl (λ l u. absurd (omega arith))
 
   pub end-element : code .kind ≡ 4
       → ContentRead a (productionIn (readerMemory work text) code) stream work text st work text (record { number = 0; row = 0; event = EndElement; state = st })
-  unfolding kindAt carriedName readContent meaning mapEvent eventText unnamed fits fitsName kindOf nameOf kindNumber items
+  unfolding kindAt carriedName readContent meaning mapEvent eventText unnamed fits fitsName kindOf nameOf kindNumber
   end-element e =
-      nothing-read EE endElement EndElement (plain-production (readerMemory work text) code EE (rw e) refl) refl refl refl refl
+      nothing-read EE endElement EndElement (plain-production (readerMemory work text) code EE (rw e) refl) refl refl refl
       (λ l u. end-numbered (readerMemory work text) (countsOf st) (some-names fit (omega arith) (omega arith)))
 
 -- ---- what the functions answer
@@ -147,14 +146,14 @@ module _ {a : Alignment} {stream work text work′ text′ : List ℕ} {st : Sta
   pub start-element : code .kind ≡ 2 → NameRead a false (nameIn (readerMemory work text) code) stream work text st work′ text′ r
       → ContentRead a (productionIn (readerMemory work text) code) stream work text st work′ text′
       (record { number = r .number; row = r .row; event = StartElement (r .uri) (r .local); state = r .state })
-  unfolding kindAt carriedName readContent meaning mapEvent eventText fits kindOf nameOf kindNumber items nameText
+  unfolding kindAt carriedName readContent meaning mapEvent eventText fits kindOf nameOf kindNumber nameText
   start-element e n =
       rw (named-production (readerMemory work text) code SE (rw e) refl)
       (record {
-        outcome = outcome-map (λ v. startElement (v .0)) (n .outcome) (λ z v h. record {
+        outcome = outcome-map (λ v. (startElement (v .0), v .1)) (n .outcome) (λ z v h. record {
           places = ap startElement (h .places);
           fit = h .fit;
-          after = h .tables ∙ h .after SE;
+          tables = h .tables;
           kept = h .kept;
           small = few-names (h .kept) (h .below);
           row = λ l u. subst (λ q. Numbered (readerMemory work′ text′) (countsOf (r .state)) (startElement q) (r .row)) (h .is)
@@ -183,18 +182,17 @@ module _ {a : Alignment} {stream work text work′ text′ : List ℕ} {st : Sta
           (s : StringRead a (value (nameAt (readerMemory work′ text′) (r .row))) valuesAt (r .state .values) stream work′ text′ (r .state) work₂ text₂ g)
           (v : ValueRow (r .state) g) where
         attribute-held : g .number ≡ 0 → (x : Placed × Tables) → Read work′ text′ (r .state) work₂ text₂ g x
-            → x .1 ≡ afterItem (tablesOf work′ text′ (r .state)) (item (value (nameAt (readerMemory work′ text′) (r .row))) (x .0 .text))
             → Held (record { kind = AT; qname = nameIn (readerMemory work text) code }) work text st work₂ text₂ (anAttribute r g)
-            (attribute (n .outcome .read z .value .0) (x .0))
-        unfolding meaning asSpan spanOf mapEvent eventText fits kindOf nameOf kindNumber items nameItems nameText afterItems item
-        attribute-held z₂ x y after =
+            (attribute (n .outcome .read z .value .0) (x .0), x .1)
+        unfolding meaning asSpan spanOf mapEvent eventText fits kindOf nameOf kindNumber nameText
+        attribute-held z₂ x y =
             let h = n .outcome .is z in
             let k = kept-then (h .kept) (y .kept) in
             let b : r .row < g .state .names = omega (arith, h .below, y .kept .moreNames) in
             record {
               places = rw (h .places, y .place, y .size);
               fit = h .fit;
-              after = y .tables ∙ after ∙ rw (h .tables, h .after AT, h .is);
+              tables = y .tables;
               kept = k;
               small = few-names k b;
               row = λ l u. subst (λ q. Numbered (readerMemory work₂ text₂) (countsOf (g .state)) (attribute q (x .0 .text)) (r .row))
@@ -210,10 +208,8 @@ module _ {a : Alignment} {stream work text work′ text′ : List ℕ} {st : Sta
             rw (named-production (readerMemory work text) code AT (rw e) refl)
             (record {
               outcome = outcome-then _ (n .outcome .read z)
-                  (outcome-map (λ x. attribute (n .outcome .read z .value .0) (x .0))
-                  (outcome-as (rw (← h .tables, ← h .is))
-                  (string-outcome a (tablesOf work′ text′ (r .state)) (value (nameAt (readerMemory work′ text′) (r .row))) (s .by .outcome) attribute-held))
-                  (λ z₂ x w. w));
+                  (outcome-map (λ x. (attribute (n .outcome .read z .value .0) (x .0), x .1))
+                  (outcome-as (rw (← h .tables, ← h .is)) (s .by .outcome)) attribute-held);
               left = value-left (n .left) (n .values) (s .by) v;
             })
 
@@ -242,45 +238,42 @@ module _ {stream work text : List ℕ} {st : State} {code : Decoded} (fit : Cont
     pub characters-read : {a : Alignment} {work′ text′ : List ℕ} {g : Got} {key : ℕ} → key ≡ topOf (st .stack)
         → StringRead a (value (nameAt (readerMemory work text) key)) valuesAt (st .values) stream work text st work′ text′ g → ValueRow st g
         → ContentRead a (productionIn (readerMemory work text) code) stream work text st work′ text′ (aString g (Characters (record { place = g .place; size = g .size })))
-    unfolding kindAt carriedName unnamed readContent meaning asSpan spanOf mapEvent eventText fits fitsName kindOf nameOf kindNumber items afterItems
+    unfolding kindAt carriedName unnamed readContent meaning asSpan spanOf mapEvent eventText fits fitsName kindOf nameOf kindNumber
     characters-read {a} {work′} {text′} {g} k s v =
         let role = characters-role (fit .standing) inner ∙ ap (λ n. value (nameAt (readerMemory work text) n)) (sym k) in
         rw (plain-production (readerMemory work text) code CH (rw e) refl)
         (record {
-          outcome = outcome-map (λ x. characters (x .0))
-              (outcome-as (rw role)
-              (string-outcome a (tablesOf work text st) (value (nameAt (readerMemory work text) _)) (s .by .outcome) (λ z x y after. record {
+          outcome = outcome-map (λ x. (characters (x .0), x .1)) (outcome-as (rw role) (s .by .outcome))
+              (λ z x y. record {
                 places = rw (y .place, y .size);
                 fit = refl;
-                after = y .tables ∙ after ∙ rw role;
+                tables = y .tables;
                 kept = y .kept;
                 small = omega arith;
                 row = λ l u. characters-numbered (readerMemory work′ text′) (countsOf (g .state)) (x .0 .text)
                     (omega (arith, some-names fit (omega arith) (omega arith), y .kept .moreNames));
                 nameless = λ _. refl;
-              })))
-              (λ z x w. w);
+              });
           left = value-left (left-none (fit .ready .clear)) refl (s .by) v;
         })
 
   module _ {a : Alignment} {text′ : List ℕ} {g : Got} (s : StringRead a plain tableCells 0 stream work text st work text′ g) (v : ValueRow st g) where
     pub comment-read : code .kind ≡ 6
         → ContentRead a (productionIn (readerMemory work text) code) stream work text st work text′ (aString g (Comment (record { place = g .place; size = g .size })))
-    unfolding kindAt carriedName unnamed readContent meaning asSpan spanOf mapEvent eventText fits fitsName kindOf nameOf kindNumber items afterItems
+    unfolding kindAt carriedName unnamed readContent meaning asSpan spanOf mapEvent eventText fits fitsName kindOf nameOf kindNumber
     comment-read e =
         rw (plain-production (readerMemory work text) code CM (rw e) refl)
         (record {
-          outcome = outcome-map (λ x. comment (x .0))
-              (string-outcome a (tablesOf work text st) plain (s .by .outcome) (λ z x y after. record {
+          outcome = outcome-map (λ x. (comment (x .0), x .1)) (s .by .outcome)
+              (λ z x y. record {
                 places = rw (y .place, y .size);
                 fit = refl;
-                after = y .tables ∙ after;
+                tables = y .tables;
                 kept = y .kept;
                 small = omega arith;
                 row = λ l u. absurd (omega arith);
                 nameless = λ _. refl;
-              }))
-              (λ z x w. w);
+              });
           left = text-left (left-none (fit .ready .clear)) (s .by) v;
         })
 
@@ -304,23 +297,21 @@ module _ {stream work text : List ℕ} {st : State} {code : Decoded} (fit : Cont
       pub instruction-read : {text₂ : List ℕ} {h : Got} → StringRead a plain tableCells 0 stream work text′ (g .state) work text₂ h → ValueRow (g .state) h
           → ContentRead a (productionIn (readerMemory work text) code) stream work text st work text₂
           (aString h (Instruction (record { place = g .place; size = g .size }) (record { place = h .place; size = h .size })))
-      unfolding kindAt carriedName unnamed readContent meaning asSpan spanOf mapEvent eventText fits fitsName kindOf nameOf kindNumber items afterItems
+      unfolding kindAt carriedName unnamed readContent meaning asSpan spanOf mapEvent eventText fits fitsName kindOf nameOf kindNumber
       instruction-read s₂ v₂ =
           let t = s .by .outcome .is z in
           rw (plain-production (readerMemory work text) code PI (rw e) refl)
           (record {
             outcome = outcome-then _ (s .by .outcome .read z)
-                (outcome-map (λ x. instruction (s .by .outcome .read z .value .0) (x .0))
-                (outcome-as (rw (← t .tables))
-                (string-outcome a (tablesOf work text′ (g .state)) plain (s₂ .by .outcome) (λ z₂ x y after. record {
+                (outcome-map (λ x. (instruction (s .by .outcome .read z .value .0) (x .0), x .1))
+                (outcome-as (rw (← t .tables)) (s₂ .by .outcome)) (λ z₂ x y. record {
                   places = rw (t .place, t .size, y .place, y .size);
                   fit = refl;
-                  after = y .tables ∙ after ∙ rw (t .tables, string-after a (tablesOf work text st) target (s .by .outcome .read z));
+                  tables = y .tables;
                   kept = kept-then (t .kept) (y .kept);
                   small = omega arith;
                   row = λ l u. absurd (omega arith);
                   nameless = λ _. refl;
-                })))
-                (λ z₂ x w. w));
+                }));
             left = text-left target-left (s₂ .by) v₂;
           })

@@ -7,17 +7,15 @@ use mathlib.Core.List.{List}
 use mathlib.Core.Option.{Option, none, some}
 use lib.ListN.{length, getD}
 use Rattle.spec_fields.specs.Field.{Alignment}
-use Rattle.text.specs.Text.{Text}
-use Rattle.spec_exi.specs.Event.{QName, Event, Kind, kindOf, mapName, mapEvent}
-use Rattle.spec_exi.specs.Sizes.{maxUris, maxNames, maxValues}
-use Rattle.spec_exi.specs.Tables.{Placed, Tables, spanOf}
+use Rattle.spec_exi.specs.Event.{QName, Event, kindOf, mapName, mapEvent}
+use Rattle.spec_exi.specs.Sizes.{sizes, maxUris, maxNames, maxValues}
+use Rattle.spec_exi.specs.Tables.{Placed, nameText, eventText, Tables, spanOf}
 use Rattle.spec_exi.specs.Grammar.{Production, kindNumber, fitsName, fits}
-use Rattle.spec_exi.specs.Context.{nameItems, items, afterItems}
-use Rattle.spec_exi.specs.Reader.{nameText, eventText, readName, readContent}
+use Rattle.spec_exi.specs.Reader.{readName, readContent}
 use Rattle.rows.specs.declared.Row.{Row}
 use Rattle.rows.specs.Rows.{Room, rowAt}
 use Rattle.layout.specs.Layout.{urisAt, namesAt, valuesAt}
-use Rattle.layout.specs.Meaning.{Memory, nameAt, carries}
+use Rattle.layout.specs.Meaning.{Memory, placedName, nameAt, carries}
 use Rattle.productions.specs.Numbered.{Numbered}
 use Rattle.event.specs.Cells.{asName, meaning}
 use Rattle.event.specs.declared.Part.{Part}
@@ -27,6 +25,7 @@ use Rattle.standing.specs.Standing.{countsOf, contextOf, Standing, Kept}
 use Rattle.outcome.specs.Outcome.{Outcome}
 use Rattle.outcome.specs.Memory.{readerMemory, tablesOf, ReadReady, Clear, Longer}
 use Rattle.read_code.specs.declared.Decoded.{Decoded}
+use Rattle.read_form.specs.Content.{alignedBy}
 use Rattle.read_items.specs.declared.Named.{Named}
 use Rattle.read_items.specs.declared.Content.{Content}
 
@@ -76,25 +75,24 @@ carriedAt work st row =
     }
 
 -- The name that a code's production carries, if it is a learned one.
-unfoldable pub nameIn : Memory → Decoded → Option (QName Text)
-nameIn m code = cond (code .learned) (some (nameAt m (code .row))) none
+unfoldable pub nameIn : Memory → Decoded → Option (QName Placed)
+nameIn m code = cond (code .learned) (some (placedName m (code .row))) none
 
 pub record NameFits (stream work text : List ℕ) (st : State) (code : Decoded) : Type 0 where
   pub ready : Ready stream work text st
   pub row : code .learned ≡ true → code .row < st .names
 
 -- A name was read: where its strings lie, its row, and the tables after it.
-pub record NameHeld (attr : Bool) (n : Option (QName Text)) (work text : List ℕ) (st : State) (work′ text′ : List ℕ) (r : Named) (v : QName Placed × Tables) : Type 0 where
+pub record NameHeld (n : Option (QName Placed)) (work text : List ℕ) (st : State) (work′ text′ : List ℕ) (r : Named) (v : QName Placed × Tables) : Type 0 where
   pub places : asName (r .uri) (r .local) ≡ mapName spanOf (v .0)
   pub fit : fitsName n (some (nameText (v .0))) ≡ true
   pub tables : tablesOf work′ text′ (r .state) ≡ v .1
-  pub after : (k : Kind) → v .1 ≡ afterItems (tablesOf work text st) (nameItems (record { kind = k; qname = n }) attr (nameText (v .0)))
   pub kept : Kept (readerMemory work text) st (readerMemory work′ text′) (r .state)
   pub below : r .row < r .state .names
   pub is : nameAt (readerMemory work′ text′) (r .row) ≡ nameText (v .0)
 
-pub record NameRead (a : Alignment) (attr : Bool) (n : Option (QName Text)) (stream work text : List ℕ) (st : State) (work′ text′ : List ℕ) (r : Named) : Type 0 where
-  pub outcome : Outcome (readName a (tablesOf work text st) attr n) stream (st .at) (r .number) (r .state .at) (NameHeld attr n work text st work′ text′ r)
+pub record NameRead (a : Alignment) (attr : Bool) (n : Option (QName Placed)) (stream work text : List ℕ) (st : State) (work′ text′ : List ℕ) (r : Named) : Type 0 where
+  pub outcome : Outcome (readName sizes (alignedBy a) (tablesOf work text st) attr n) stream (st .at) (r .number) (r .state .at) (NameHeld n work text st work′ text′ r)
   pub left : Left work text st work′ text′ (r .state)
   pub values : r .state .values ≡ st .values
 
@@ -108,20 +106,19 @@ pub record ContentFits (stream work text : List ℕ) (st : State) (code : Decode
   pub inside : 4 ≤ code .kind → code .kind ≤ 5 → 4 ≤ st .mode
 
 -- An event of the production p was read: where its strings lie, the row of its name, and the tables after it.
-pub record Held (p : Production) (work text : List ℕ) (st : State) (work′ text′ : List ℕ) (r : Content) (e : Event Placed) : Type 0 where
-  pub places : meaning (r .event) ≡ mapEvent spanOf e
-  pub fit : fits p (eventText e) ≡ true
-  pub after : tablesOf work′ text′ (r .state)
-      ≡ afterItems (tablesOf work text st) (items (contextOf (readerMemory work text) st .state) p (eventText e))
+pub record Held (p : Production) (work text : List ℕ) (st : State) (work′ text′ : List ℕ) (r : Content) (v : Event Placed × Tables) : Type 0 where
+  pub places : meaning (r .event) ≡ mapEvent spanOf (v .0)
+  pub fit : fits p (eventText (v .0)) ≡ true
+  pub tables : tablesOf work′ text′ (r .state) ≡ v .1
   pub kept : Kept (readerMemory work text) st (readerMemory work′ text′) (r .state)
   pub small : r .row < 65536
-  pub row : 2 ≤ kindNumber (kindOf (eventText e)) → kindNumber (kindOf (eventText e)) ≤ 5
-      → Numbered (readerMemory work′ text′) (countsOf (r .state)) (eventText e) (r .row)
-  pub nameless : carries (kindOf (eventText e)) ≡ false → r .row ≡ 0
+  pub row : 2 ≤ kindNumber (kindOf (eventText (v .0))) → kindNumber (kindOf (eventText (v .0))) ≤ 5
+      → Numbered (readerMemory work′ text′) (countsOf (r .state)) (eventText (v .0)) (r .row)
+  pub nameless : carries (kindOf (eventText (v .0))) ≡ false → r .row ≡ 0
 
 -- Before anything is taken back.
 pub record ContentRead (a : Alignment) (p : Production) (stream work text : List ℕ) (st : State) (work′ text′ : List ℕ) (r : Content) : Type 0 where
-  pub outcome : Outcome (readContent a (tablesOf work text st) (contextOf (readerMemory work text) st .state) (p .kind) (p .qname)) stream (st .at) (r .number)
+  pub outcome : Outcome (readContent sizes (alignedBy a) (tablesOf work text st) (contextOf (readerMemory work text) st .state) (p .kind) (p .qname)) stream (st .at) (r .number)
       (r .state .at) (Held p work text st work′ text′ r)
   pub left : Left work text st work′ text′ (r .state)
 
@@ -131,7 +128,7 @@ refusedContent number st = record { number = number; row = 0; event = StartDocum
 
 -- By the definitions' parser of an event's content. A refusal leaves everything as it was.
 pub record ItemsRead (a : Alignment) (p : Production) (stream work text : List ℕ) (st : State) (work′ text′ : List ℕ) (r : Content) : Type 0 where
-  pub outcome : Outcome (readContent a (tablesOf work text st) (contextOf (readerMemory work text) st .state) (p .kind) (p .qname)) stream (st .at) (r .number)
+  pub outcome : Outcome (readContent sizes (alignedBy a) (tablesOf work text st) (contextOf (readerMemory work text) st .state) (p .kind) (p .qname)) stream (st .at) (r .number)
       (r .state .at) (Held p work text st work′ text′ r)
   pub left : r .number ≡ 0 → Left work text st work′ text′ (r .state)
   pub unchanged : 0 < r .number → (work′ ≡ work) × (text′ ≡ text) × (r ≡ refusedContent (r .number) st)

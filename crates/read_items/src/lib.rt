@@ -11,6 +11,13 @@ ghost use Rattle.read_code.specs.Decoding.{productionIn};
 ghost use Rattle.read_items.specs.Content.{CarriedFits, carriedAt, nameIn, NameFits, NameRead, ContentFits, ContentRead, ItemsRead};
 use event::Event;
 use event::Part;
+use event_code::AT;
+use event_code::CH;
+use event_code::CM;
+use event_code::ED;
+use event_code::EE;
+use event_code::SD;
+use event_code::SE;
 use layout::NAMES;
 use layout::URIS;
 use layout::VALUES;
@@ -206,9 +213,9 @@ fn read_strings(
 {
     let kind = code.kind;
     match kind {
-        0 => bare(Event::StartDocument, st),
-        1 => bare(Event::EndDocument, st),
-        2 => {
+        SD => bare(Event::StartDocument, st),
+        ED => bare(Event::EndDocument, st),
+        SE => {
             let name = read_name(aligned, stream, st, false, code, text, work);
             let state = name.state;
             let u = name.uri;
@@ -220,15 +227,15 @@ fn read_strings(
                 state,
             }
         }
-        3 => read_attribute(aligned, stream, st, code, text, work),
-        4 => bare(Event::EndElement, st),
-        5 => {
+        AT => read_attribute(aligned, stream, st, code, text, work),
+        EE => bare(Event::EndElement, st),
+        CH => {
             let row = state::top(st.stack) as u32;
             let value = read_value::read_value(aligned, stream, st, row, text, work);
             let v = part_of(value);
             nameless(Event::Characters(v), value)
         }
-        6 => {
+        CM => {
             let comment = read_value::read_text(stream, st, false, text, work);
             let x = part_of(comment);
             nameless(Event::Comment(x), comment)

@@ -5,13 +5,14 @@ use native.Mathlib.Omega.{arith}
 use mathlib.Core.Path.{_≡_, refl, sym, ap, _∙_}
 use mathlib.Core.Logic.{inr}
 use mathlib.Core.Bool.{Bool, true, false}
-use mathlib.Core.List.{List, [], _∷_, _++_}
+use mathlib.Core.List.{List, [], _∷_, _++_, map}
+use mathlib.Core.Option.{some}
 use lib.ListN.{length, take, replicate}
 use lib.Dec.{ltb}
 use borrow.Author.Tests.{eqb-true}
 use Rattle.spec_fields.specs.Field.{Alignment, unsigned}
 use Rattle.text.specs.Text.{Text, part}
-use Rattle.spec_exi.specs.Sizes.{maxNames, maxStore}
+use Rattle.spec_exi.specs.Sizes.{sizes, maxNames, maxStore}
 use Rattle.spec_exi.specs.Tables.{Placed, Tables, namesOf, indexOf, local, partitionsOf, literal, eqForm, added, nameAllowed}
 use Rattle.spec_exi.specs.Lists.{withinTables}
 use Rattle.rows.specs.declared.Row.{Row}
@@ -54,7 +55,8 @@ unfolding uriText textOf
 allowed-by work text key attr e u r x = e ∙ rw (x, u, r)
 
 module _ {s work text : List ℕ} {st : State} {at key : ℕ} (h : LocalFrom s work text st at key) where
-  names-list : Listed (readerMemory work text) namesAt (st .names) false key (namesOf (tablesOf work text st) (uriText (readerMemory work text) key))
+  names-list : Listed (readerMemory work text) namesAt (st .names) false key
+      (map some (namesOf (tablesOf work text st) (uriText (readerMemory work text) key)))
   names-list =
       let t = h .from .ready .tidy in
       names-listed (readerMemory work text) (countsOf st) (t .distinct) (t .strings) key (h .row)
@@ -69,7 +71,7 @@ module _ {s work text : List ℕ} {st : State} {at key : ℕ} (h : LocalFrom s w
     abbrev LocalHit : Got → Type 0
     LocalHit g =
         PartRead (readAsHit a (tablesOf work text st) (local attr (uriText (readerMemory work text) key)) 0
-        (namesOf (tablesOf work text st) (uriText (readerMemory work text) key))) namesAt (st .names) s at work text st work text g
+        (map some (namesOf (tablesOf work text st) (uriText (readerMemory work text) key)))) namesAt (st .names) s at work text st work text g
         × NameRow (uriText (readerMemory work text) key) st work text g
 
     pub local-missed : (g .number ≡ 0 → ⊥) → LocalHit g
@@ -134,8 +136,8 @@ module _ {s work text : List ℕ} {st : State} (h : ReadReady s work text st) (n
             let same : namesOf t u ≡ namesOf (later h x refl few′) (uriText (readerMemory work (laidAt text (st .stored) x)) key) =
             cc (same-names h x refl few′, after .uris key b) in
             ap (eqForm literal) (form-local t x attr u)
-            ∙ own-form (namesOf t u) x (found (findThat (hasText (laidAt text (st .stored) x) x) false key (rows work namesAt (st .names))))
-            (ap (λ (es : List Placed). indexOf es x) same
+            ∙ own-form (map some (namesOf t u)) x (found (findThat (hasText (laidAt text (st .stored) x) x) false key (rows work namesAt (st .names))))
+            (ap (λ (es : List Placed). indexOf (map some es) x) same
             ∙ find-answer (names-listed _ _ (after .tidy .distinct) (after .tidy .strings) key b) x refl);
       }
 
@@ -173,7 +175,7 @@ module _ {s work text : List ℕ} {st : State} {at key : ℕ} (h : LocalFrom s w
 
   module _ (good : allowed ≡ true) {ok : Bool} {work′ : List ℕ} (test : ok ≡ ltb (st .names) maxNames)
       (add : work′ ≡ withRowBelow maxNames work namesAt (st .names) (record { key = key; place = st .stored; size = n })) where
-    local-within : withinTables (added (tablesOf work text st) (local attr (uriText (readerMemory work text) key)) (f .x)) ≡ ok
+    local-within : withinTables sizes (added (tablesOf work text st) (local attr (uriText (readerMemory work text) key)) (f .x)) ≡ ok
     local-within =
         within-local (tablesOf work text st) (f .x) (within-tables (h .from .ready .tidy .sized)) (store-few (h .from) f) attr _
         ∙ rw (length-names (readerMemory work text) (countsOf st)) (sym test)
@@ -192,7 +194,7 @@ module _ {s work text : List ℕ} {st : State} {at key : ℕ} (h : LocalFrom s w
         let u : Text = uriText (readerMemory work text) key in
         let tidy = h .from .ready .tidy in
         let d = entered (h .from) f (room-names (tidy .sized) (le-refl maxNames)) (st .names) key test add e in
-        let lacks = none-form 0 (indexOf (namesOf t u) (f .x)) literal (ap (eqForm literal) (sym (form-local t (f .x) attr u)) ∙ f .strict) .0 in (
+        let lacks = none-form 0 (indexOf (map some (namesOf t u)) (f .x)) literal (ap (eqForm literal) (sym (form-local t (f .x) attr u)) ∙ f .strict) .0 in (
           fresh-passed (h .from) f (after-local tidy (fresh-few (h .from) f) attr key (h .row) (d .left) (d .grows) (d .row) lacks)
               (omega arith) (omega arith) (name-test ∙ good) (local-within ∙ e) (inr (_, d .work-is)) (inr (omega arith)),
           record {
@@ -218,7 +220,7 @@ module _ (a : Alignment) {s work text : List ℕ} {st : State} (h : ReadReady s 
 
     module _ {v q : ℕ} (z : f ≡ Value v q) {work′ text′ : List ℕ} {g : Got} where
       pub local-hit : v ≡ 0
-          → PartRead (readAsHit a (tablesOf work text st) (local attr u) 0 (namesOf (tablesOf work text st) u)) namesAt (st .names) s q work text st work′ text′ g
+          → PartRead (readAsHit a (tablesOf work text st) (local attr u) 0 (map some (namesOf (tablesOf work text st) u))) namesAt (st .names) s q work text st work′ text′ g
           → StringRead a (local attr u) namesAt (st .names) s work text st work′ text′ g
       unfolding partitionsOf
       local-hit e = literals-hit a (local attr u) refl h answer (rw e at z) refl
@@ -227,4 +229,4 @@ module _ (a : Alignment) {s work text : List ℕ} {st : State} (h : ReadReady s 
           → PartRead (readAsNew (tablesOf work text st) (local attr u) (v - 1)) namesAt (st .names) s q work text st work′ text′ g
           → StringRead a (local attr u) namesAt (st .names) s work text st work′ text′ g
       unfolding partitionsOf
-      local-new e = literals-new a (local attr u) refl h answer z (beyond (namesOf (tablesOf work text st) u ∷ []) v (omega arith))
+      local-new e = literals-new a (local attr u) refl h answer z (beyond (map some (namesOf (tablesOf work text st) u) ∷ []) v (omega arith))

@@ -1,6 +1,8 @@
 // The local name of a name (EXI 7.3.2), read by the names of its URI; a literal joins them, and a form that is not the strict one is refused. What the
 // functions ask and leave is in specs/Local.antt, and in crates/read_form/specs.
 ghost use mathlib.Core.Path.{_≡_};
+ghost use mathlib.Core.List.{map};
+ghost use mathlib.Core.Option.{some};
 ghost use Prim.Native.Nat.{_+_};
 ghost use Rattle.text.specs.Text.{part};
 ghost use Rattle.spec_exi.specs.Tables.{local, namesOf, nameAllowed};
@@ -18,6 +20,7 @@ use read_field::Field;
 use read_form::Got;
 use refusal::LIMIT;
 use refusal::NAME;
+use sizes::MAX_NAMES;
 use state::State;
 
 // Whether the string at this place may be a local name in the URI with this row.
@@ -42,7 +45,7 @@ fn read_local_hit(
     work: &[u32],
 ) -> Got
     requires { ⌜ LocalFrom (now stream) (now work) (now text) st at key ⌝ }
-    ensures { λ r. ⌜ PartRead (readAsHit (alignmentOf aligned) (tablesOf (now (work .entry)) (now (text .entry)) st) (local attr (uriText (readerMemory (now (work .entry)) (now (text .entry))) key)) 0 (namesOf (tablesOf (now (work .entry)) (now (text .entry)) st) (uriText (readerMemory (now (work .entry)) (now (text .entry))) key))) namesAt (st .names) (now (stream .entry)) at (now (work .entry)) (now (text .entry)) st (now (work .entry)) (now (text .entry)) r ⌝ }
+    ensures { λ r. ⌜ PartRead (readAsHit (alignmentOf aligned) (tablesOf (now (work .entry)) (now (text .entry)) st) (local attr (uriText (readerMemory (now (work .entry)) (now (text .entry))) key)) 0 (map some (namesOf (tablesOf (now (work .entry)) (now (text .entry)) st) (uriText (readerMemory (now (work .entry)) (now (text .entry))) key)))) namesAt (st .names) (now (stream .entry)) at (now (work .entry)) (now (text .entry)) st (now (work .entry)) (now (text .entry)) r ⌝ }
     ensures { λ r. ⌜ NameRow (uriText (readerMemory (now (work .entry)) (now (text .entry))) key) st (now (work .entry)) (now (text .entry)) r ⌝ }
 {
     let hit = read_form::read_hit(aligned, stream, st, at, work, NAMES, st.names, false, key);
@@ -78,7 +81,7 @@ fn read_new_local(
     if !is_allowed(attr, key, place, n, text, work) {
         return read_form::undone(NAME, st, text);
     }
-    if !add_row::add_within(work, NAMES, st.names, 128, key, place, n) {
+    if !add_row::add_within(work, NAMES, st.names, MAX_NAMES, key, place, n) {
         return read_form::undone(LIMIT, st, text);
     }
     let mut t = read_form::laid(st, read.next, n);

@@ -13,12 +13,12 @@ use lib.ListN.{length, take, drop, replicate, getElem?, length-map}
 use lib.Dec.{ltb}
 use Rattle.spec_fields.specs.Bits.{Bits, unpack}
 use Rattle.spec_fields.specs.Refusal.{numberOf, reference}
-use Rattle.spec_fields.specs.Parser.{return, andThen, _>>=_}
+use Rattle.spec_fields.specs.Parser.{present, return, andThen, _>>=_}
 use Rattle.spec_fields.specs.Field.{Alignment, numberField, width, choice, unsigned}
-use Rattle.spec_exi.specs.Sizes.{maxStream, maxUris, maxStore}
-use Rattle.spec_exi.specs.Tables.{Placed, Tables, indexOf, uri, partitionsOf, hit, literal, eqForm, added, nameAllowed}
+use Rattle.spec_exi.specs.Sizes.{sizes, maxStream, maxUris, maxStore}
+use Rattle.spec_exi.specs.Tables.{Placed, Slot, Tables, indexOf, uri, partitionsOf, hit, literal, eqForm, added, nameAllowed}
 use Rattle.spec_exi.specs.Lists.{withinTables}
-use Rattle.spec_exi.specs.Reader.{readIn, readByLiterals, readEntry, readForm}
+use Rattle.spec_exi.specs.Reader.{readCharacter, readLiteral, readIn, readByLiterals, readEntry, readForm}
 use Rattle.rows.specs.Rows.{rows, textOf, withRowBelow, hasText, findThat, found}
 use Rattle.rows.proofs.Laws.{rows-length}
 use Rattle.rows.proofs.Selection.{count-all}
@@ -40,8 +40,8 @@ use Rattle.outcome.proofs.Outcome.{declined-then, refused-declined, unsigned-go
 use Rattle.read_string.specs.Literal.{laidAt}
 use Rattle.read_string.specs.declared.Literal as declared
 use Rattle.read_form.specs.declared.Got.{Got}
-use Rattle.read_form.specs.Content.{refusedGot, PartRead, StringRead}
-use Rattle.read_form.specs.Parts.{judge, readAsNew, ReadFrom, readGot, EntryTaken, Tells, NewFit, NewRead}
+use Rattle.read_form.specs.Content.{refusedGot, PartRead, alignedBy, StringRead}
+use Rattle.read_form.specs.Parts.{judge, readNewText, readAsNew, ReadFrom, readGot, EntryTaken, Tells, NewFit, NewRead}
 use Rattle.read_uri.specs.Uri.{UriRow}
 use Rattle.read_form.proofs.Steps.{then-assoc, part-as, part-then, part-declined, field-positive, string-form, string-declined}
 use Rattle.read_form.proofs.Hits.{listed-at, hit-judged}
@@ -54,20 +54,24 @@ no-uri b = record { below = λ z. absurd (omega arith); is = λ z. absurd (omega
 
 -- ---- a URI, by its choice
 
-some-member : (es : List Placed) (i : ℕ) {e : Placed} → getElem? es i ≡ some e → getElem? (map some es) i ≡ some (some e)
+some-member : {A : Type 0} (es : List A) (i : ℕ) {e : A} → getElem? es i ≡ some e → getElem? (map some es) i ≡ some (some e)
 some-member [] i o = absurd (Option·none-ne-some _ o)
 some-member (x ∷ es) zero o = cc
 some-member (x ∷ es) (suc i) o = some-member es i o
 
-uri-choices : (work text : List ℕ) (st : State) → length (none ∷ map some (tablesOf work text st .uris)) ≡ st .uris + 1
-uri-choices work text st = rw (length-map, length-uris (readerMemory work text) (countsOf st), add-one)
+-- The partition of URIs.
+abbrev uriSlots : List ℕ → List ℕ → State → List Slot
+uriSlots work text st = map some (tablesOf work text st .uris)
+
+uri-choices : (work text : List ℕ) (st : State) → length (none ∷ map some (uriSlots work text st)) ≡ st .uris + 1
+uri-choices work text st = rw (length-map, length-map, length-uris (readerMemory work text) (countsOf st), add-one)
 
 module _ (a : Alignment) {s work text : List ℕ} {st : State} (h : ReadReady s work text st) {f : Field}
     (answer : f ≡ fieldAt (numberField a (width (st .uris + 1))) s (st .at)) where
-  wide : f ≡ fieldAt (numberField a (width (length (none ∷ map some (tablesOf work text st .uris))))) s (st .at)
+  wide : f ≡ fieldAt (numberField a (width (length (none ∷ map some (uriSlots work text st))))) s (st .at)
   wide = rw (uri-choices work text st) answer
 
-  uri-missed : {k : ℕ} → Declined (choice a reference (none ∷ map some (tablesOf work text st .uris))) s (st .at) k
+  uri-missed : {k : ℕ} → Declined (choice a reference (none ∷ map some (uriSlots work text st))) s (st .at) k
       → StringRead a uri urisAt (st .uris) s work text st work text (refusedGot k st)
   unfolding partitionsOf readForm
   uri-missed d = string-declined a uri (declined-then _ d)
@@ -86,8 +90,8 @@ module _ (a : Alignment) {s work text : List ℕ} {st : State} (h : ReadReady s 
         (omega (arith, uri-choices work text st)))
 
     module _ {work′ text′ : List ℕ} {g : Got} where
-      uri-entry : {x : Option Placed} → getElem? (none ∷ map some (tablesOf work text st .uris)) v ≡ some x
-          → PartRead (readEntry a (tablesOf work text st) v x >>= judge (tablesOf work text st) uri) urisAt (st .uris) s q work text st work′ text′ g
+      uri-entry : {x : Option Slot} → getElem? (none ∷ map some (uriSlots work text st)) v ≡ some x
+          → PartRead (readEntry sizes (alignedBy a) (tablesOf work text st) v x >>= judge (tablesOf work text st) uri) urisAt (st .uris) s q work text st work′ text′ g
           → StringRead a uri urisAt (st .uris) s work text st work′ text′ g
       unfolding partitionsOf readForm
       uri-entry o p =
@@ -98,11 +102,11 @@ module _ (a : Alignment) {s work text : List ℕ} {st : State} (h : ReadReady s 
                 (part-then _ (choice-gotten a reference _ (number-gotten s (st .at) (h .place) a _ (sym wide ∙ z)) o) p);
           }
 
-      uri-hit : {i : ℕ} {e : Placed} → v ≡ suc i → getElem? (tablesOf work text st .uris) i ≡ some e
+      uri-hit : {i : ℕ} {e : Placed} → v ≡ suc i → getElem? (uriSlots work text st) i ≡ some (some e)
           → PartRead (judge (tablesOf work text st) uri (hit 0 (v - 1), e)) urisAt (st .uris) s q work text st work′ text′ g
           → StringRead a uri urisAt (st .uris) s work text st work′ text′ g
-      unfolding readEntry return _>>=_ andThen
-      uri-hit {i} {e} y o p = uri-entry {x = some e} (rw y (some-member (tablesOf work text st .uris) i o)) p
+      unfolding readEntry present return _>>=_ andThen
+      uri-hit {i} {e} y o p = uri-entry {x = some (some e)} (rw y (some-member (uriSlots work text st) i o)) p
 
     module _ (y : v ≡ 0) {u : Field} (second : u ≡ fieldAt unsigned s q) where
       new-uri-refused : {k : ℕ} → u ≡ Refused k → StringRead a uri urisAt (st .uris) s work text st work text (refusedGot k st)
@@ -114,7 +118,7 @@ module _ (a : Alignment) {s work text : List ℕ} {st : State} (h : ReadReady s 
       pub new-uri : {work′ text′ : List ℕ} {g : Got} {l q′ : ℕ} → u ≡ Value l q′
           → PartRead (readAsNew (tablesOf work text st) uri l) urisAt (st .uris) s q′ work text st work′ text′ g
           → StringRead a uri urisAt (st .uris) s work text st work′ text′ g
-      unfolding readEntry readByLiterals readIn readAsNew
+      unfolding readEntry readByLiterals readIn readAsNew readNewText readLiteral readCharacter
       new-uri {l} w p =
           let t : Tables = tablesOf work text st in
           let m : l - 0 ≡ l = omega arith in
@@ -147,7 +151,7 @@ module _ (a : Alignment) {s work text : List ℕ} {st : State} (h : ReadReady s 
 module _ (a : Alignment) {s work text : List ℕ} {st : State} (h : ReadReady s work text st) {f : Field} {v q : ℕ} {g : Got}
     (answer : f ≡ fieldAt (numberField a (width (st .uris + 1))) s (st .at)) (z : f ≡ Value v q) (some : v ≡ 0 → ⊥)
     (p : EntryTaken work urisAt (st .uris) true 0 (v - 1) q st g) where
-  uris-list : Listed (readerMemory work text) urisAt (st .uris) true 0 (tablesOf work text st .uris)
+  uris-list : Listed (readerMemory work text) urisAt (st .uris) true 0 (uriSlots work text st)
   uris-list = uris-listed (readerMemory work text) (countsOf st) (h .tidy .distinct) 0
 
   row-taken : g .number ≡ 0 → StringRead a uri urisAt (st .uris) s work text st work text g × UriRow st work text g
@@ -187,8 +191,8 @@ module _ {s work text : List ℕ} {st : State} (h : ReadReady s work text st) (n
             let few′ : st .stored + length x ≤ maxStore = omega arith in
             let tidy = laid-after h x refl few′ .tidy in
             ap (eqForm literal) (form-uri t x)
-            ∙ own-form (t .uris) x (found (findThat (hasText (laidAt text (st .stored) x) x) true 0 (rows work urisAt (st .uris))))
-            (ap (λ (es : List Placed). indexOf es x) (sym (same-uris h x refl few′))
+            ∙ own-form (map some (t .uris)) x (found (findThat (hasText (laidAt text (st .stored) x) x) true 0 (rows work urisAt (st .uris))))
+            (ap (λ (es : List Placed). indexOf (map some es) x) (sym (same-uris h x refl few′))
             ∙ find-answer (uris-listed _ _ (tidy .distinct) 0) x refl);
       }
 
@@ -209,7 +213,7 @@ module _ {s work text : List ℕ} {st : State} {at : ℕ} (h : ReadFrom s work t
 module _ {s work text : List ℕ} {st : State} {at : ℕ} (h : ReadFrom s work text st at) {n : ℕ} {text′ : List ℕ} {next : ℕ}
     (f : Fresh uri n s at work text st text′ next) {ok : Bool} {work′ : List ℕ} (test : ok ≡ ltb (st .uris) maxUris)
     (add : work′ ≡ withRowBelow maxUris work urisAt (st .uris) (record { key = 0; place = st .stored; size = n })) where
-  uri-within : withinTables (added (tablesOf work text st) uri (f .x)) ≡ ok
+  uri-within : withinTables sizes (added (tablesOf work text st) uri (f .x)) ≡ ok
   uri-within =
       within-uri (tablesOf work text st) (f .x) (within-tables (h .ready .tidy .sized)) (store-few h f)
       ∙ rw (length-uris (readerMemory work text) (countsOf st)) (sym test)
@@ -229,7 +233,7 @@ module _ {s work text : List ℕ} {st : State} {at : ℕ} (h : ReadFrom s work t
   uri-joins e =
       let t : Tables = tablesOf work text st in
       let d = entered h f (room-uris (h .ready .tidy .sized) (le-refl maxUris)) (st .uris) 0 test add e in
-      let lacks = none-form 0 (indexOf (t .uris) (f .x)) literal (ap (eqForm literal) (sym (form-uri t (f .x))) ∙ f .strict) .0 in (
+      let lacks = none-form 0 (indexOf (map some (t .uris)) (f .x)) literal (ap (eqForm literal) (sym (form-uri t (f .x))) ∙ f .strict) .0 in (
         fresh-passed h f (after-uri (h .ready .tidy) (fresh-few h f) (d .left) (d .grows) (d .row) lacks) (omega arith) (omega arith) refl
             (uri-within ∙ e) (inr (_, d .work-is)) (inr (omega arith)),
         record { below = λ _. omega arith; is = λ _. rw (d .here); names = refl; values = refl },

@@ -11,6 +11,7 @@ use layout::URIS;
 use read_field::Field;
 use read_form::Got;
 use refusal::LIMIT;
+use sizes::MAX_URIS;
 use state::State;
 
 // A URI as a literal of n code points.
@@ -31,7 +32,7 @@ fn read_new_uri(
         return read_form::refused(read.number, st);
     }
     let place = st.stored as u32;
-    if !add_row::add_within(work, URIS, st.uris, 16, 0, place, n) {
+    if !add_row::add_within(work, URIS, st.uris, MAX_URIS, 0, place, n) {
         return read_form::undone(LIMIT, st, text);
     }
     let mut t = read_form::laid(st, read.next, n);

@@ -7,9 +7,9 @@ use mathlib.Core.Bool.{Bool, true, false, not, cond, _||_}
 use mathlib.Core.List.{List, [], _++_}
 use lib.ListN.{length, take, replicate}
 use lib.Dec.{T}
-use Rattle.spec_fields.specs.Field.{Alignment, unsigned}
+use Rattle.spec_fields.specs.Field.{Alignment, bitPacked, unsigned}
 use Rattle.text.specs.Text.{Text, part}
-use Rattle.spec_exi.specs.Sizes.{maxStore}
+use Rattle.spec_exi.specs.Sizes.{sizes, maxStore}
 use Rattle.spec_exi.specs.Tables.{Tables, Role, target, plain, literals, partitionsOf, eqForm, firstHit, formOf, added, nameAllowed}
 use Rattle.spec_exi.specs.Lists.{withinTables}
 use Rattle.layout.specs.Layout.{tableCells}
@@ -26,7 +26,7 @@ use Rattle.outcome.specs.Memory.{tablesOf, ReadReady}
 use Rattle.read_string.specs.Literal.{LiteralRead}
 use Rattle.read_string.specs.declared.Literal as declared
 use Rattle.read_form.specs.declared.Got.{Got}
-use Rattle.read_form.specs.Content.{refusedGot, PartRead, StringRead}
+use Rattle.read_form.specs.Content.{refusedGot, PartRead, alignedBy, StringRead}
 use Rattle.read_form.specs.Parts.{readAsNew, readGot}
 use Rattle.read_value.specs.Value.{ValueRow}
 use Rattle.read_form.proofs.Steps.{literals-refused, literals-new}
@@ -49,8 +49,8 @@ text-after : {m m′ : Memory} {c : Counts} {x : Text} (named : Bool) → Tidy m
 text-after true = after-target
 text-after false = after-plain
 
-text-within : (named : Bool) (t : Tables) (x : Text) → T (withinTables t) → length (t .store) + length x ≤ maxStore
-    → withinTables (added t (cond named target plain) x) ≡ true
+text-within : (named : Bool) (t : Tables) (x : Text) → T (withinTables sizes t) → length (t .store) + length x ≤ maxStore
+    → withinTables sizes (added t (cond named target plain) x) ≡ true
 text-within true = within-target
 text-within false = within-plain
 
@@ -81,7 +81,7 @@ module _ {s work text : List ℕ} {st : State} (h : ReadReady s work text st) {f
       text-declined e = (text-string (literal-declined (number-from h answer z) role p e), record { row = refl; uris = refl; names = refl })
 
       pub text-ends : read .number ≡ 0 → st .stored + v ≤ maxStore
-      text-ends y = p .outcome (tablesOf work text st) (stored-is (number-from h answer z)) .is y .ends
+      text-ends y = p .outcome (alignedBy bitPacked) (tablesOf work text st) (stored-is (number-from h answer z)) .is y .ends
 
       module _ (y : read .number ≡ 0) {allowed : Bool}
           (test : allowed ≡ (not named || nameAllowed target (part text′ (record { place = st .stored; size = v })))) where

@@ -15,8 +15,9 @@ use Rattle.spec_fields.specs.Field.{Alignment, unsigned}
 use Rattle.spec_fields.proofs.Tests.{split}
 use Rattle.text.specs.Text.{Text, eqText, isEmpty}
 use Rattle.spec_exi.specs.Event.{QName}
-use Rattle.spec_exi.specs.Sizes.{maxValues, maxStore}
-use Rattle.spec_exi.specs.Tables.{Placed, Entry, Tables, partition, valuesOf, allValues, indexOf, value, partitionsOf, hit, literal, eqForm, hitOr, formOf, added, nameAllowed}
+use Rattle.spec_exi.specs.Sizes.{sizes, maxValues, maxStore}
+use Rattle.spec_exi.specs.Tables.{Slot, Entry, Tables, partition, valuesOf, allValues, indexOf, value, partitionsOf, hit, literal, eqForm, hitOr, formOf, added, nameAllowed}
+use Rattle.spec_exi.specs.Tables as tables
 use Rattle.spec_exi.specs.Lists.{withinTables}
 use Rattle.rows.specs.declared.Found.{Found}
 use Rattle.rows.specs.declared.Found.the-variants.{At, Nothing}
@@ -48,7 +49,7 @@ use Rattle.read_form.proofs.Joins.{laid-grows, laid-after, same-values, none-fo
 
 -- ---- a hit
 
-module _ {a : Alignment} {s : List ℕ} {at : ℕ} {work text : List ℕ} {base n : ℕ} {all : Bool} {key : ℕ} {es : List Placed} {st : State} {g : Got}
+module _ {a : Alignment} {s : List ℕ} {at : ℕ} {work text : List ℕ} {base n : ℕ} {all : Bool} {key : ℕ} {es : List Slot} {st : State} {g : Got}
     (l : Listed (readerMemory work text) base n all key es) (p : HitRead a s at work base n all key st g) where
   hit-values : ValueRow st (rowless g)
   hit-values = record { row = refl; uris = ap (λ (x : State). x .uris) (hit-state l p); names = ap (λ (x : State). x .names) (hit-state l p) }
@@ -62,7 +63,7 @@ module _ {s work text : List ℕ} {st : State} {at key : ℕ} (h : ValueFrom s w
   any-list : Listed (readerMemory work text) valuesAt (st .values) true 0 (allValues (tablesOf work text st))
   any-list = any-listed (readerMemory work text) (countsOf st) (h .from .ready .tidy .distinct) 0
 
-  value-hit-asks : {all : Bool} {k : ℕ} {es : List Placed} → Listed (readerMemory work text) valuesAt (st .values) all k es
+  value-hit-asks : {all : Bool} {k : ℕ} {es : List Slot} → Listed (readerMemory work text) valuesAt (st .values) all k es
       → HitFit s at work valuesAt (st .values) all k
   unfolding maxValues
   value-hit-asks l =
@@ -75,7 +76,7 @@ module _ {s work text : List ℕ} {st : State} {at key : ℕ} (h : ValueFrom s w
   pub any-asks : HitFit s at work valuesAt (st .values) true 0
   any-asks = value-hit-asks any-list
 
-  abbrev ValueHit : Alignment → ℕ → List Placed → Got → Type 0
+  abbrev ValueHit : Alignment → ℕ → List Slot → Got → Type 0
   ValueHit a j es g =
       PartRead (readAsHit a (tablesOf work text st) (value (nameAt (readerMemory work text) key)) j es) valuesAt (st .values) s at work text st work text g
       × ValueRow st g
@@ -138,14 +139,14 @@ later-none none e = refl
 later-none (some i) e = absurd (Option·none-ne-some _ (sym e))
 
 -- What no key has, this key has not.
-part-none : {K : Type 0} (has : K → Bool) (es : List (Entry K)) (x : Text) → indexOf (map (λ e. e .string) es) x ≡ none
-    → indexOf (partition has es) x ≡ none
-unfolding indexOf partition
+part-none : {K : Type 0} (has : K → Bool) (es : List (Entry K)) (x : Text) → indexOf (map (λ e. some (e .string)) es) x ≡ none
+    → indexOf (map some (partition has es)) x ≡ none
+unfolding indexOf tables.hasText partition
 part-none has [] x o = refl
 part-none has (e ∷ es) x o =
     split (eqText (e .string .text) x)
     (λ y. absurd (Option·none-ne-some _ (sym (rw y at o))))
-    (λ y. let z : indexOf (partition has es) x ≡ none = part-none has es x (later-none _ (rw y at o)) in
+    (λ y. let z : indexOf (map some (partition has es)) x ≡ none = part-none has es x (later-none _ (rw y at o)) in
     split (has (e .key)) (λ b. rw (b, y, z)) (λ b. rw (b, z)))
 
 value-form : (t : Tables) (x : Text) (q : QName Text) (f : Found) → indexOf (allValues t) x ≡ numberOf f
@@ -169,7 +170,7 @@ module _ {s work text : List ℕ} {st : State} (h : ReadReady s work text st) (n
             let tidy = laid-after h x refl few′ .tidy in
             ap (eqForm literal) (form-value t x q)
             ∙ value-form t x q (found (findThat (hasText (laidAt text (st .stored) x) x) true 0 (rows work valuesAt (st .values))))
-            (ap (λ (es : List (Entry (QName Text))). indexOf (map (λ e. e .string) es) x) (sym (same-values h x refl few′))
+            (ap (λ (es : List (Entry (QName Text))). indexOf (map (λ e. some (e .string)) es) x) (sym (same-values h x refl few′))
             ∙ find-answer (any-listed _ _ (tidy .distinct) 0) x refl);
       }
 
@@ -223,7 +224,7 @@ module _ {s work text : List ℕ} {st : State} {at key : ℕ} (h : ValueFrom s w
     not-empty : isEmpty (f .x) ≡ false
     not-empty = full-is (f .x) (λ z. some (sym (f .size) ∙ z))
 
-    value-within : withinTables (added (tablesOf work text st) (value (nameAt (readerMemory work text) key)) (f .x)) ≡ ok
+    value-within : withinTables sizes (added (tablesOf work text st) (value (nameAt (readerMemory work text) key)) (f .x)) ≡ ok
     value-within =
         within-value (tablesOf work text st) (f .x) (within-tables (h .from .ready .tidy .sized)) (store-few (h .from) f) _ not-empty
         ∙ rw (length-values (readerMemory work text) (countsOf st)) (sym test)

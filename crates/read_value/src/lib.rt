@@ -16,6 +16,7 @@ use read_form::Got;
 use refusal::LIMIT;
 use refusal::LOOSE;
 use refusal::NAME;
+use sizes::MAX_VALUES;
 use state::State;
 
 // A value as a hit among all values; LOOSE where it is the name's own.
@@ -66,7 +67,7 @@ fn read_new_value(
     if n == 0 {
         return read_form::read_as(0, place, n, t);
     }
-    if !add_row::add_within(work, VALUES, st.values, 512, key, place, n) {
+    if !add_row::add_within(work, VALUES, st.values, MAX_VALUES, key, place, n) {
         return read_form::undone(LIMIT, st, text);
     }
     t.values = st.values + 1;

@@ -4,19 +4,21 @@ use native.Mathlib.Omega.{arith}
 use mathlib.Core.Path.{_≡_, refl, sym, ap, _∙_}
 use mathlib.Core.Bool.{cond}
 use mathlib.Core.List.{List, [], _∷_, map}
+use mathlib.Core.Option.{none, some}
 use lib.ListN.{length, set, length-map, length-set}
 use lib.Seq.{getD-set-same, getD-set-other}
 use lib.Dec.{T, leb, eqb}
 use borrow.Author.Tests.{le-leb, eq-eqb, ne-eqb, eqb-true, eqb-false}
 use Rattle.spec_fields.proofs.Tests.{split, is-T}
 use Rattle.text.specs.Text.{Text}
-use Rattle.spec_exi.specs.Sizes.{maxOpen, maxNames, maxLearned, maxGrammars}
+use Rattle.spec_exi.specs.Sizes.{sizes, maxOpen, maxNames, maxLearned, maxGrammars}
 use Rattle.spec_exi.specs.Event.{QName}
-use Rattle.spec_exi.specs.Grammar.{document, docContent, docEnd, finished, startTag, elementContent, openElements, inContent, closed}
+use Rattle.spec_exi.specs.Settings.{Settings}
+use Rattle.spec_exi.specs.Grammar.{document, docContent, docEnd, finished, startTag, elementContent, openElements, siteOf, inContent, closed}
 use Rattle.spec_exi.specs.Grammar as grammar
 use Rattle.spec_exi.specs.Lists.{withinTables, withinGrammars}
 use Rattle.rows.specs.Rows.{rows}
-use Rattle.layout.specs.Meaning.{Memory, nameAt, stateIn, tablesIn, learnedFrom, grammarsFrom, newestFirst, contextIn}
+use Rattle.layout.specs.Meaning.{Memory, nameAt, siteFor, stateIn, tablesIn, learnedFrom, grammarsFrom, newestFirst, contextIn}
 use Rattle.layout.specs.Tidy.{Tidy}
 use Rattle.layout.proofs.Sizes.{within-tables, length-learned, length-grammars}
 use Rattle.state.specs.declared.Stack.{Stack}
@@ -31,6 +33,17 @@ use Rattle.state.specs.Changed.{reached, restated}
 state-is : (m : Memory) (st : State) → contextOf m st .state ≡ stateIn (st .mode) (map (nameAt m) (openNumbers (st .stack)))
 unfolding contextOf contextIn
 state-is m st = refl
+
+no-site : (k : ℕ) → siteOf (stateIn k []) ≡ none
+unfolding siteOf stateIn
+no-site zero = refl
+no-site (suc zero) = refl
+no-site (suc (suc zero)) = refl
+no-site (suc (suc (suc k))) = refl
+
+site-in : (k : ℕ) (q : QName Text) (outer : List (QName Text)) → siteOf (stateIn k (q ∷ outer)) ≡ some (siteFor q (eqb k 4))
+unfolding siteOf stateIn
+site-in k q outer = split (eqb k 4) (λ e. rw e) (λ e. rw e)
 
 module _ {m : Memory} {st : State} (h : Standing m st) where
   -- Outside any element.
@@ -68,6 +81,13 @@ module _ {m : Memory} {st : State} (h : Standing m st) where
   unfolding stateIn
   elementContent-state e = rw (inner-state (omega arith), e)
 
+  -- Where the state learns.
+  pub outer-site : st .mode < 4 → siteOf (contextOf m st .state) ≡ none
+  outer-site l = rw (outer-state l) (no-site (st .mode))
+
+  pub inner-site : 4 ≤ st .mode → siteOf (contextOf m st .state) ≡ some (siteFor (nameAt m (topOf (st .stack))) (eqb (st .mode) 4))
+  inner-site l = rw (inner-state l) (site-in (st .mode) (nameAt m (topOf (st .stack))) (map (nameAt m) (openNumbers (popped (st .stack)))))
+
   pub top-below : 4 ≤ st .mode → topOf (st .stack) < st .names
   unfolding topOf
   top-below l = h .opened (st .stack .depth - 1) (omega (arith, h .mode .inner l))
@@ -101,7 +121,7 @@ pub full-depth : {m : Memory} {st : State} → Standing m st → maxOpen ≤ st 
     → length (openElements (contextOf m st .state)) ≡ maxOpen
 full-depth {m} {st} h full = rw (open-depth m st) (omega (arith, h .deep))
 
-pub within-start : {m : Memory} {st : State} → Standing m st → T (withinGrammars (contextOf m st))
+pub within-start : {m : Memory} {st : State} → Standing m st → T (withinGrammars sizes (contextOf m st))
 unfolding withinGrammars contextOf contextIn
 within-start {m} {st} h =
     rw (
@@ -113,7 +133,7 @@ within-start {m} {st} h =
     )
     (is-T (leb (st .learned) maxLearned) (le-leb (st .learned) maxLearned (h .tidy .sized .learned)))
 
-pub tables-within : {m : Memory} {st : State} → Standing m st → T (withinTables (contextOf m st .tables))
+pub tables-within : {m : Memory} {st : State} → Standing m st → T (withinTables sizes (contextOf m st .tables))
 unfolding contextOf contextIn
 tables-within h = within-tables (h .tidy .sized)
 
@@ -152,11 +172,11 @@ in-content-outer (suc zero) = refl
 in-content-outer (suc (suc zero)) = refl
 in-content-outer (suc (suc (suc k))) = refl
 
-closed-state : (d : ℕ) (q : QName Text) (outer : List (QName Text)) → length (q ∷ outer) ≡ d
-    → stateIn (cond (eqb d 1) 2 5) outer ≡ closed (q ∷ outer)
+closed-state : (s : Settings) (d : ℕ) (q : QName Text) (outer : List (QName Text)) → length (q ∷ outer) ≡ d
+    → stateIn (cond (eqb d 1) 2 5) outer ≡ closed s (q ∷ outer)
 unfolding stateIn closed
-closed-state d q [] e = rw (eq-eqb d 1 (omega arith))
-closed-state d q (p ∷ outer) e = rw (ne-eqb d 1 (λ i. omega arith))
+closed-state s d q [] e = rw (eq-eqb d 1 (omega arith))
+closed-state s d q (p ∷ outer) e = rw (ne-eqb d 1 (λ i. omega arith))
 
 -- The number where the innermost of d elements has been left.
 closing : (d : ℕ) → 0 < d → Moded (cond (eqb d 1) 2 5) (d - 1)
@@ -225,20 +245,20 @@ module _ {m : Memory} {st : State} (h : Standing m st) where
         opened = λ i b. h .opened i (omega arith);
       }
 
-  closed-context : 4 ≤ st .mode → stateIn (cond (eqb (st .stack .depth) 1) 2 5) (map (nameAt m) (openNumbers (popped (st .stack))))
-      ≡ closed (openElements (contextOf m st .state))
-  closed-context l =
+  closed-context : (s : Settings) → 4 ≤ st .mode → stateIn (cond (eqb (st .stack .depth) 1) 2 5) (map (nameAt m) (openNumbers (popped (st .stack))))
+      ≡ closed s (openElements (contextOf m st .state))
+  closed-context s l =
       let q : QName Text = nameAt m (topOf (st .stack)) in
       let outer : List (QName Text) = map (nameAt m) (openNumbers (popped (st .stack))) in
       let parts : openElements (contextOf m st .state) ≡ q ∷ outer =
       open-elements m st ∙ ap (map (nameAt m)) (some-open (st .stack) (h .mode .inner l)) in
       let deep : length (q ∷ outer) ≡ st .stack .depth = ap length (sym parts) ∙ open-depth m st in
-      rw parts (closed-state (st .stack .depth) q outer deep)
+      rw parts (closed-state s (st .stack .depth) q outer deep)
 
   -- The innermost element is left.
-  pub left-moves : 4 ≤ st .mode
-      → Moved m st (restated st (cond (eqb (st .stack .depth) 1) 2 5) (popped (st .stack))) (closed (openElements (contextOf m st .state)))
-  left-moves l = moved (popped-standing l) (closed-context l)
+  pub left-moves : (s : Settings) → 4 ≤ st .mode
+      → Moved m st (restated st (cond (eqb (st .stack .depth) 1) 2 5) (popped (st .stack))) (closed s (openElements (contextOf m st .state)))
+  left-moves s l = moved (popped-standing l) (closed-context s l)
 
 -- ---- the start
 

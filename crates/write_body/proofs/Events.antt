@@ -16,7 +16,7 @@ use Rattle.spec_fields.specs.Refusal.{Refusal, numberOf, limit, shape, Answer, 
 use Rattle.text.specs.Text.{Text, Span, part}
 use Rattle.spec_exi.specs.Event.{Event, mapEvent}
 use Rattle.spec_exi.specs.Settings.{Settings}
-use Rattle.spec_exi.specs.Sizes.{maxEvents}
+use Rattle.spec_exi.specs.Sizes.{sizes, maxEvents}
 use Rattle.spec_exi.specs.Grammar.{isFinished}
 use Rattle.spec_exi.specs.Context.{Context, next}
 use Rattle.spec_exi.specs.Strict.{eventBits}
@@ -60,11 +60,11 @@ shifted-prepended n w u (accepted bs) = ap accepted (sym (append-assoc w u bs))
 
 -- The first of these events is refused, and this is written of it.
 record Stops (n : ℕ) (s : Settings) (c : Context) (store : Text) (xs : List Stored) (k : Refusal) (bs : Bits) : Type 0 where
-  answer : writeEvents n s c store xs ≡ refused k 0
+  answer : writeEvents n sizes s c store xs ≡ refused k 0
   passed : listPassed n s c store xs ≡ bs
 
 module _ (n : ℕ) (s : Settings) (c : Context) (store : Text) where
-  answer-ended : isFinished (c .state) ≡ true → writeEvents n s c store [] ≡ accepted []
+  answer-ended : isFinished (c .state) ≡ true → writeEvents n sizes s c store [] ≡ accepted []
   unfolding writeEvents
   answer-ended e = rw e
 
@@ -85,13 +85,13 @@ module _ (n : ℕ) (s : Settings) (c : Context) (store : Text) where
   stops-shape xs = record { answer = refl; passed = refl }
 
   module _ (e : Event Span) (xs : List Stored) where
-    stops-refused : (k : Refusal) → faultOf s c store e ≡ some k → Stops (suc n) s c store (some e ∷ xs) k (eventPassed s c store e)
+    stops-refused : (k : Refusal) → faultOf sizes s c store e ≡ some k → Stops (suc n) s c store (some e ∷ xs) k (eventPassed s c store e)
     unfolding writeEvents unless listPassed unlessFailed
     stops-refused k f = record { answer = rw f; passed = rw (f, append-nil) }
 
-    module _ (f : faultOf s c store e ≡ none) where
+    module _ (f : faultOf sizes s c store e ≡ none) where
       answer-more : (let e′ = mapEvent (part store) e in
-          writeEvents (suc n) s c store (some e ∷ xs) ≡ prepended (eventBits s c e′) (writeEvents n s (next s c e′) store xs))
+          writeEvents (suc n) sizes s c store (some e ∷ xs) ≡ prepended (eventBits s c e′) (writeEvents n sizes s (next s c e′) store xs))
       unfolding writeEvents unless
       answer-more = rw f
 
@@ -117,7 +117,7 @@ unfinished {m} {st} h other = by-mode (st .mode) refl where
 -- ---- the loop
 
 abbrev answerFor : ℕ → Settings → List ℕ → State → Text → List ℕ → Answer Bits
-answerFor n s w st store cells = writeEvents n s (contextOf (writerMemory w) st) store (eventsOf cells)
+answerFor n s w st store cells = writeEvents n sizes s (contextOf (writerMemory w) st) store (eventsOf cells)
 
 abbrev passedOf : ℕ → Settings → List ℕ → State → Text → List ℕ → Bits
 passedOf n s w st store cells = listPassed n s (contextOf (writerMemory w) st) store (eventsOf cells)
@@ -132,7 +132,7 @@ pub record Running (s : Settings) (cells : List ℕ) (store : Text) (stream₀ w
   pub near : t .at ≤ 64 + 262144 * t .events
   pub standing : Standing (writerMemory w) t
   pub few : t .events ≤ maxEvents
-  pub place : cell ≡ 7 * t .events
+  pub place : cell ≡ 9 * t .events
   pub size : length w ≡ length w₀
 
 pub running-start : {s : Settings} {cells : List ℕ} {store : Text} {stream w : List ℕ} {st : State} → ((i : ℕ) → Fits w8 (getD stream i 0))
@@ -212,9 +212,9 @@ module _ {s : Settings} {cells : List ℕ} {store : Text} {stream₀ w₀ : List
   module _ (inside : cell < length cells) where
     some-left : (x : Stored) × (xs : List Stored) × (eventsOf (drop cell cells) ≡ x ∷ xs)
     some-left =
-        split (ltb (length cells) (cell + 7))
-        (λ l. (none, [], events-cut cells cell inside (ltb-true (length cells) (cell + 7) l)))
-        (λ l. (_, _, events-at cells cell (ltb-false (length cells) (cell + 7) l)))
+        split (ltb (length cells) (cell + 9))
+        (λ l. (none, [], events-cut cells cell inside (ltb-true (length cells) (cell + 9) l)))
+        (λ l. (_, _, events-at cells cell (ltb-false (length cells) (cell + 9) l)))
 
     pub too-many : t .events ≡ 4096 → Ran s (eventsOf cells) store stream₀ w₀ st stream (record { number = 12; index = t .events; at = 0 })
     unfolding maxEvents numberOf
@@ -232,7 +232,7 @@ module _ {s : Settings} {cells : List ℕ} {store : Text} {stream₀ w₀ : List
       unfolding numberOf
       shape-here e = ran-refused 14 one-less e (stops-shape _ s _ store _) refl nothing-more
 
-      pub cut-short : length cells - cell < 7 → Ran s (eventsOf cells) store stream₀ w₀ st stream (record { number = 14; index = t .events; at = 0 })
+      pub cut-short : length cells - cell < 9 → Ran s (eventsOf cells) store stream₀ w₀ st stream (record { number = 14; index = t .events; at = 0 })
       cut-short l = shape-here (events-cut cells cell inside (omega arith))
 
       pub step-asks : RunFits stream₀ w₀ st → StepReady stream w t
@@ -245,30 +245,30 @@ module _ {s : Settings} {cells : List ℕ} {store : Text} {stream₀ w₀ : List
             room = omega (arith, h .size, f .room);
           }
 
-      module _ (whole : cell + 7 ≤ length cells) where
-        pub no-event : loadedFrom (take 7 (drop cell cells)) ≡ none
+      module _ (whole : cell + 9 ≤ length cells) where
+        pub no-event : loadedFrom (take 9 (drop cell cells)) ≡ none
             → Ran s (eventsOf cells) store stream₀ w₀ st stream (record { number = 14; index = t .events; at = 0 })
-        no-event l = shape-here (events-at cells cell whole ∙ ap (λ x. x ∷ eventsOf (drop (cell + 7) cells)) l)
+        no-event l = shape-here (events-at cells cell whole ∙ ap (λ x. x ∷ eventsOf (drop (cell + 9) cells)) l)
 
-        module _ {e : Event Span} {stream′ w′ : List ℕ} {r : Stepped} (loaded : loadedFrom (take 7 (drop cell cells)) ≡ some e)
+        module _ {e : Event Span} {stream′ w′ : List ℕ} {r : Stepped} (loaded : loadedFrom (take 9 (drop cell cells)) ≡ some e)
             (step : Step s store e stream w t stream′ w′ r) where
-          first-left : eventsOf (drop cell cells) ≡ some e ∷ eventsOf (drop (cell + 7) cells)
-          first-left = events-at cells cell whole ∙ ap (λ x. x ∷ eventsOf (drop (cell + 7) cells)) loaded
+          first-left : eventsOf (drop cell cells) ≡ some e ∷ eventsOf (drop (cell + 9) cells)
+          first-left = events-at cells cell whole ∙ ap (λ x. x ∷ eventsOf (drop (cell + 9) cells)) loaded
 
           pub refused-event : (r .number ≡ 0 → ⊥)
               → Ran s (eventsOf cells) store stream₀ w₀ st stream′ (record { number = r .number; index = t .events; at = 0 })
           refused-event some-number =
               let c : Context = contextOf (writerMemory w) t in
-              let (k, f) = some-refusal (faultOf s c store e) (omega (arith, step .fault)) in
+              let (k, f) = some-refusal (faultOf sizes s c store e) (omega (arith, step .fault)) in
               ran-refused (r .number) one-less first-left (stops-refused _ s c store e _ k f) (step .fault ∙ ap faultNumber f ∙ some-fault k)
               (put-then (h .put) (record { octets = step .octets; next = refl }))
 
           pub event-more : r .number ≡ 0
-              → Running s cells store stream₀ w₀ st stream′ w′ (reached (r .state) (r .state .at) (r .state .events + 1)) (cell + 7)
+              → Running s cells store stream₀ w₀ st stream′ w′ (reached (r .state) (r .state .at) (r .state .events + 1)) (cell + 9)
           event-more zero-number =
               let c : Context = contextOf (writerMemory w) t in
               let e′ : Event Text = mapEvent (part store) e in
-              let fine : faultOf s c store e ≡ none = fault-none (faultOf s c store e) (sym (step .fault) ∙ zero-number) in
+              let fine : faultOf sizes s c store e ≡ none = fault-none (faultOf sizes s c store e) (sym (step .fault) ∙ zero-number) in
               let d : Done s e′ stream w t stream′ w′ (r .state) = step .done zero-number in
               let count : t .events + 1 ≡ r .state .events + 1 = omega (arith, d .events) in
               let t′ : State = reached (r .state) (r .state .at) (r .state .events + 1) in
@@ -279,11 +279,11 @@ module _ {s : Settings} {cells : List ℕ} {store : Text} {stream₀ w₀ : List
                 answer = h .answer
                     ∙ ap (shifted (t .events) (h .bits)) (rw (one-less, first-left) (answer-more _ s c store e _ fine))
                     ∙ shifted-prepended (t .events) (h .bits) (eventBits s c e′) _
-                    ∙ ap₂ (λ n x. shifted n (h .bits ++ eventBits s c e′) (writeEvents (maxEvents - n) s x store (eventsOf (drop (cell + 7) cells)))) count context;
+                    ∙ ap₂ (λ n x. shifted n (h .bits ++ eventBits s c e′) (writeEvents (maxEvents - n) sizes s x store (eventsOf (drop (cell + 9) cells)))) count context;
                 passed = h .passed
                     ∙ ap (λ l. h .bits ++ l) (rw (one-less, first-left) (passed-more _ s c store e _ fine))
                     ∙ sym (append-assoc (h .bits) (eventBits s c e′) _)
-                    ∙ ap₂ (λ n x. (h .bits ++ eventBits s c e′) ++ listPassed (maxEvents - n) s x store (eventsOf (drop (cell + 7) cells))) count context;
+                    ∙ ap₂ (λ n x. (h .bits ++ eventBits s c e′) ++ listPassed (maxEvents - n) s x store (eventsOf (drop (cell + 9) cells))) count context;
                 put = put-then (h .put) (d .put);
                 near = omega (arith, h .near, d .near);
                 standing = reached-standing (r .state .at) (r .state .events + 1) (d .standing);

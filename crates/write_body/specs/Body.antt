@@ -9,7 +9,7 @@ use Rattle.spec_fields.specs.Bits.{Bits}
 use Rattle.spec_fields.specs.Refusal.{Refusal, numberOf, refused, accepted}
 use Rattle.text.specs.Text.{Text, part}
 use Rattle.spec_exi.specs.Event.{mapEvent}
-use Rattle.spec_exi.specs.Sizes.{maxEvents, writerWork}
+use Rattle.spec_exi.specs.Sizes.{sizes, maxEvents, writerWork}
 use Rattle.spec_exi.specs.Settings as format
 use Rattle.spec_exi.specs.Context.{Context, next}
 use Rattle.spec_exi.specs.Writer.{Stored, faultOf, writeEvents}
@@ -36,13 +36,13 @@ listPassed zero s c store (x ∷ xs) = []
 listPassed (suc n) s c store (none ∷ xs) = []
 listPassed (suc n) s c store (some e ∷ xs) =
     let later = listPassed n s (next s c (mapEvent (part store) e)) store xs in
-    eventPassed s c store e ++ unlessFailed (faultOf s c store e) later
+    eventPassed s c store e ++ unlessFailed (faultOf sizes s c store e) later
 
 -- By the definitions' answer for the events. Work memory is free: `write` clears it.
 pub record Ran (s : format.Settings) (xs : List Stored) (store : Text) (stream w : List ℕ) (st : State) (stream′ : List ℕ) (r : Run) : Type 0 where
-  pub refused-as : (k : Refusal) (i : ℕ) → writeEvents maxEvents s (contextOf (writerMemory w) st) store xs ≡ refused k i
+  pub refused-as : (k : Refusal) (i : ℕ) → writeEvents maxEvents sizes s (contextOf (writerMemory w) st) store xs ≡ refused k i
       → r ≡ record { number = numberOf k; index = i; at = 0 }
-  pub accepted-as : (bs : Bits) → writeEvents maxEvents s (contextOf (writerMemory w) st) store xs ≡ accepted bs
+  pub accepted-as : (bs : Bits) → writeEvents maxEvents sizes s (contextOf (writerMemory w) st) store xs ≡ accepted bs
       → (r .number ≡ 0) × (r .index ≡ 0) × Put stream (st .at) bs stream′ (r .at)
   pub octets : stream′ ≡ written stream (st .at) (listPassed maxEvents s (contextOf (writerMemory w) st) store xs)
   pub few : r .index ≤ maxEvents

@@ -7,6 +7,8 @@ use event::Loaded;
 use refusal::LIMIT;
 use refusal::SHAPE;
 use settings::Settings;
+use sizes::CELLS_PER_EVENT;
+use sizes::MAX_EVENTS;
 use state::State;
 
 // A list that was gone through: the number and index of its refusal, or 0, and the position behind its bits, or 0.
@@ -42,10 +44,10 @@ pub fn put_events(
     let mut t = st;
     let mut cell: usize = 0;
     while cell < events.len() {
-        if t.events == 4096 {
+        if t.events == MAX_EVENTS {
             return stopped(LIMIT, t);
         }
-        if events.len() - cell < 7 {
+        if events.len() - cell < CELLS_PER_EVENT {
             return stopped(SHAPE, t);
         }
         match event::load(events, cell) {
@@ -61,7 +63,7 @@ pub fn put_events(
                 t.events += 1;
             }
         }
-        cell += 7;
+        cell += CELLS_PER_EVENT;
     }
     if t.mode != 3 {
         return stopped(SHAPE, t);

@@ -9,7 +9,6 @@ use lib.ListN.{length}
 use lib.Dec.{eqb, ltb}
 use borrow.Author.Tests.{ne-eqb, ltb-true, ltb-false}
 use Rattle.spec_fields.proofs.Tests.{split}
-use Rattle.spec_exi.specs.Grammar.{State, document, docContent, docEnd, finished, startTag, elementContent, Learned, learn, learnedAfter}
 use Rattle.spec_exi.specs.Context.{levelsIn}
 use Rattle.rows.specs.declared.Found.{Found}
 use Rattle.layout.specs.Meaning.{Memory}
@@ -28,6 +27,7 @@ use Rattle.event_code.proofs.Codes.{fixed-coded, fixed-none, learned-coded}
 use Rattle.fitting.specs.declared.Newer.{Newer}
 use Rattle.fitting.specs.Fitting.{rowOr, Newest}
 use Rattle.fitting.proofs.Sought.{mode-is}
+use Rattle.fitting.proofs.Fitting.{kind-unlearned}
 use Rattle.write_code.specs.Coding.{CodeReady, Coded}
 
 -- ---- where a kind can stand
@@ -69,11 +69,6 @@ inner-none mode count comments instructions kind l h =
     )
     (split (eqb mode 4) (λ e. rw e) (λ e. rw e (split (eqb mode 5) (λ f. rw f) (λ f. rw f))))
 
-learned-none : (st : State) (ls : List Learned) → learnedAfter st none ls ≡ ls
-unfolding learnedAfter learn
-learned-none st ls =
-    elim st [ document ↦ refl | docContent ↦ refl | docEnd ↦ refl | finished ↦ refl | startTag q o ↦ refl | elementContent q o ↦ refl ]
-
 -- ---- what is asked
 
 pub code-asks : {stream w : List ℕ} {st : state.State} {parts : List (ℕ × ℕ)} → CodeReady stream w st → PartsFit parts → CodeFits stream (st .at) parts
@@ -113,7 +108,7 @@ module _ (o : Settings) {m : Memory} {st : state.State} (h : Standing m st) {kin
         row-is = refl;
         sent = λ e s.
             let f = w .fitting e s in
-            let x = learned-coded (settingsFrom o) (contextOf m st .learned) (contextOf m st .state) e (n .number) (f .hit hit) in
+            let x = learned-coded (settingsFrom o) (contextOf m st .learned) (contextOf m st .state) e (n .number) _ (sym (f .named hit .name)) (f .hit hit) in
             record {
               no-code = λ z. absurd (true≢false z);
               neither = λ z. absurd (true≢false z);
@@ -129,7 +124,7 @@ module _ (o : Settings) {m : Memory} {st : state.State} (h : Standing m st) {kin
                     strict = λ z. absurd (true≢false z);
                     fitting = λ _ z. Option·none-ne-some _ (sym z ∙ f .hit hit);
                     row = λ _. f .named hit;
-                    taught-is = x .teaches ∙ sym (learned-none (contextOf m st .state) (contextOf m st .learned));
+                    taught-is = x .teaches;
                     new = λ z. absurd (true≢false (sym z));
                     inner = λ z. absurd (true≢false (sym z));
                     kinds = λ z. absurd (true≢false (sym z));
@@ -174,7 +169,7 @@ module _ (o : Settings) {m : Memory} {st : state.State} (h : Standing m st) {kin
           sent = λ e s.
               let f = w .fitting e s in
               let x =
-              fixed-coded (settingsFrom o) (contextOf m st .learned) (contextOf m st .state) e (f .miss miss) q qs
+              fixed-coded (settingsFrom o) (contextOf m st .learned) (contextOf m st .state) e (f .miss miss) (kind-unlearned m st e (f .miss miss)) q qs
               (rw (mode-is h, f .count, ← s .kind-is) (sym is)) in
               record {
                 no-code = λ z. absurd (true≢false z);
@@ -191,7 +186,7 @@ module _ (o : Settings) {m : Memory} {st : state.State} (h : Standing m st) {kin
                       strict = λ _. f .miss miss;
                       fitting = λ z. absurd (true≢false (sym z));
                       row = λ z. absurd (true≢false (sym z));
-                      taught-is = x .teaches ∙ rw (mode-is h, s .kind-is);
+                      taught-is = λ p. x .teaches p ∙ rw (mode-is h, s .kind-is);
                       new = λ _. f .miss miss;
                       inner = λ z. teaches-in (st .mode) kind z .0;
                       kinds = λ z. omega (arith, teaches-in (st .mode) kind z, s .kind-is);

@@ -3,15 +3,16 @@ use Prim.Native.Nat.{ℕ, _+_, _≤_, _<_}
 use mathlib.Core.Path.{_≡_}
 use mathlib.Core.Bool.{true, false, cond}
 use mathlib.Core.List.{List}
-use mathlib.Core.Option.{none, some}
+use mathlib.Core.Option.{Option, none, some}
 use lib.Dec.{T}
 use Rattle.text.specs.Text.{Text}
-use Rattle.spec_exi.specs.Event.{Event, kindOf}
+use Rattle.spec_exi.specs.Event.{QName, Event, kindOf}
 use Rattle.spec_exi.specs.Settings.{Settings}
-use Rattle.spec_exi.specs.Grammar.{Code, codeOf, codeBits, kindNumber, unnamed, productionFor, firstFit, learnedAfter, taught}
+use Rattle.spec_exi.specs.Grammar.{Code, codeOf, codeBits, kindNumber, unnamed, siteOf, firstFit, taught, learn}
+use Rattle.spec_exi.specs.Tables.{Placed}
 use Rattle.spec_exi.specs.Context.{levelsIn}
 use Rattle.rows.specs.declared.Found.{Found}
-use Rattle.layout.specs.Meaning.{Memory}
+use Rattle.layout.specs.Meaning.{Memory, productionAt}
 use Rattle.layout.specs.Writer.{writerMemory}
 use Rattle.productions.specs.Numbered.{Numbered}
 use Rattle.state.specs.declared.State.{State}
@@ -19,6 +20,7 @@ use Rattle.standing.specs.Standing.{countsOf, contextOf, Standing}
 use Rattle.write_field.specs.Written.{blankFrom, Put}
 use Rattle.write_form.specs.Form.{midway}
 use Rattle.state.specs.Changed.{moved}
+use Rattle.event_code.specs.Parts.{learnt}
 use Rattle.fitting.specs.Fitting.{Sought, rowOr, learnedHere}
 use Rattle.write_code.specs.declared.Coding.{Coding}
 
@@ -42,14 +44,15 @@ pub record Encoded (s : Settings) (m : Memory) (st : State) (e : Event Text) (st
   pub put : Put stream (st .at) (codeBits (s .alignment) (levelsIn s (contextOf m st)) (code .parts)) stream′ (r .state .at)
   pub near : r .state .at ≤ st .at + 48
   pub moved-is : r .state ≡ moved st (r .state .at) (st .stored)
-  pub production : code .production ≡ cond (r .learned) (productionFor e) (unnamed (kindOf e))
+  pub production : code .production ≡ cond (r .learned) (productionAt m (kindOf e) (r .row)) (unnamed (kindOf e))
   -- a learned production where one fits
   pub strict : r .learned ≡ false → firstFit (learnedHere m st) e ≡ none
   pub fitting : r .learned ≡ true → firstFit (learnedHere m st) e ≡ none → ⊥
   -- it carries the name with this row
   pub row : r .learned ≡ true → Numbered m (countsOf st) e (r .row)
-  pub taught-is : learnedAfter (contextOf m st .state) (taught code e) (contextOf m st .learned)
-      ≡ learnedAfter (contextOf m st .state) (cond (r .teaches) (some (productionFor e)) none) (contextOf m st .learned)
+  pub taught-is : (q : Option (QName Placed))
+      → learn (siteOf (contextOf m st .state)) (taught (learnedHere m st) code (kindOf e) q) (contextOf m st .learned)
+      ≡ learnt (contextOf m st .state) (r .teaches) (kindOf e) q (contextOf m st .learned)
   -- what is taught is new, in an element, and SE, AT, EE or CH
   pub new : r .teaches ≡ true → firstFit (learnedHere m st) e ≡ none
   pub inner : r .teaches ≡ true → 4 ≤ st .mode

@@ -4,24 +4,25 @@ use native.Mathlib.Omega.{arith}
 use mathlib.Core.Path.{_≡_, refl, sym, ap, subst, _∙_}
 use mathlib.Core.Bool.{true, false}
 use mathlib.Core.List.{List, _++_}
-use mathlib.Core.Option.{none, some}
+use mathlib.Core.Option.{none, some, Option·map}
 use lib.ListN.{length, getD}
 use mir.Syntax.{w8}
 use mir.Val.{Fits}
 use Rattle.spec_fields.specs.Refusal.{Refusal, numberOf}
 use Rattle.spec_fields.proofs.Refusal.{refusal-number}
 use Rattle.text.specs.Text.{Text, Span, inside, part}
-use Rattle.spec_exi.specs.Event.{Event, startDocument, endDocument, endElement, startElement, attribute, characters, comment, instruction, mapEvent, stringsOf, kindOf}
+use Rattle.spec_exi.specs.Event.{Event, startDocument, endDocument, endElement, startElement, attribute, characters, comment, instruction, mapEvent, stringsOf, kindOf, nameOf}
 use Rattle.spec_exi.specs.Settings.{Settings}
-use Rattle.spec_exi.specs.Sizes.{writerWork}
+use Rattle.spec_exi.specs.Sizes.{sizes, writerWork}
 use Rattle.spec_exi.specs.Grammar.{State, Production, codeBits, kindNumber}
-use Rattle.spec_exi.specs.Context.{Context, levelsIn, nameItems, items, after, afterCode, next}
+use Rattle.spec_exi.specs.Context.{Context, levelsIn, nameItems, items, entriesOf, after, afterCode, next}
 use Rattle.spec_exi.specs.Strict.{itemsBits, eventBits}
 use Rattle.spec_exi.specs.Lists.{every, withinGrammars}
 use Rattle.spec_exi.specs.Writer.{firstFailed, contentTests, faultOf}
-use Rattle.layout.specs.Meaning.{Memory, contextIn}
+use Rattle.layout.specs.Meaning.{Memory, Counts, tablesIn, carriedName, contextIn}
+use Rattle.layout.specs.Tidy.{Tidy}
 use Rattle.layout.specs.Writer.{writerMemory}
-use Rattle.productions.proofs.Known.{Numbered}
+use Rattle.productions.proofs.Known.{Numbered, numbered-entries}
 use Rattle.state.specs.declared.Stack.{Stack}
 use Rattle.state.specs.declared.State as state
 use Rattle.standing.specs.Standing.{countsOf, contextOf, Standing}
@@ -58,6 +59,20 @@ items-few st p = elim [
   | instruction x y ↦ omega arith
 ]
 
+-- Where the event's name lies: at its row's strings, which are its entries.
+name-entries : {m : Memory} {c : Counts} → Tidy m c → (e : Event Text) (i : ℕ)
+    → (2 ≤ kindNumber (kindOf e) → kindNumber (kindOf e) ≤ 5 → Numbered m c e i)
+    → Option·map (entriesOf (tablesIn m c)) (nameOf e) ≡ carriedName m (kindOf e) i
+unfolding kindOf nameOf kindNumber carriedName
+name-entries {m} {c} t startDocument i h = refl
+name-entries {m} {c} t endDocument i h = refl
+name-entries {m} {c} t endElement i h = refl
+name-entries {m} {c} t (startElement q) i h = numbered-entries m c t (startElement q) i (h (omega arith) (omega arith))
+name-entries {m} {c} t (attribute q v) i h = numbered-entries m c t (attribute q v) i (h (omega arith) (omega arith))
+name-entries {m} {c} t (characters v) i h = refl
+name-entries {m} {c} t (comment x) i h = refl
+name-entries {m} {c} t (instruction x y) i h = refl
+
 -- ---- behind the code
 
 module _ {s : Settings} {w : List ℕ} {st : state.State} {ev : Event Text} {stream stream₁ : List ℕ} {code : Coding}
@@ -70,7 +85,7 @@ module _ {s : Settings} {w : List ℕ} {st : state.State} {ev : Event Text} {str
   unfolding contextOf contextIn
   same-tables = ap (tablesOf w) (enc .moved-is)
 
-  same-items : items (contextOf (writerMemory w) (code .state) .state) (productionOf (code .learned) ev) ev
+  same-items : items (contextOf (writerMemory w) (code .state) .state) (productionOf (writerMemory w) (code .learned) (code .row) ev) ev
       ≡ items (contextOf (writerMemory w) st .state) (enc .code .production) ev
   unfolding productionOf
   same-items = rw (same-context (writerMemory w), enc .production)
@@ -90,9 +105,9 @@ module _ {s : Settings} {w : List ℕ} {st : state.State} {ev : Event Text} {str
           inside = λ l u. rw (ap (λ (x : state.State). x .mode) (enc .moved-is)) (enc .inside l u);
         }
 
-  module _ {stream₂ w₂ : List ℕ} {r : Sent} (sent : ItemsSent (s .alignment) (code .learned) ev stream₁ w (code .state) stream₂ w₂ r) where
+  module _ {stream₂ w₂ : List ℕ} {r : Sent} (sent : ItemsSent (s .alignment) (code .learned) (code .row) ev stream₁ w (code .state) stream₂ w₂ r) where
     content-fault : r .number
-        ≡ faultNumber (firstFailed (contentTests (contextOf (writerMemory w) st .tables)
+        ≡ faultNumber (firstFailed (contentTests sizes (contextOf (writerMemory w) st .tables)
         (items (contextOf (writerMemory w) st .state) (enc .code .production) ev)))
     content-fault = sent .sent .fault ∙ rw (same-tables, same-items)
 
@@ -110,7 +125,7 @@ module _ {s : Settings} {w : List ℕ} {st : state.State} {ev : Event Text} {str
         sym (same-context (writerMemory w₂)) ∙ context-back (code-standing stand) (sent .sent .wrote) ∙ same-context (writerMemory w)
 
     module _ (stand : Standing (writerMemory w) st) (zero : r .number ≡ 0) where
-      content-passed : firstFailed (contentTests (contextOf (writerMemory w) st .tables)
+      content-passed : firstFailed (contentTests sizes (contextOf (writerMemory w) st .tables)
           (items (contextOf (writerMemory w) st .state) (enc .code .production) ev)) ≡ none
       content-passed = fault-none _ (sym content-fault ∙ zero)
 
@@ -127,9 +142,19 @@ module _ {s : Settings} {w : List ℕ} {st : state.State} {ev : Event Text} {str
       items-context = kept-context (code-standing stand) (wrote .kept) ∙ rw (same-context (writerMemory w))
 
       -- What the grammars then leave is what the event leaves.
-      next-grown : grownContext (contextOf (writerMemory w₂) (r .state)) ev (code .teaches) ≡ next s (contextOf (writerMemory w) st) ev
+      next-grown : grownContext s (contextOf (writerMemory w₂) (r .state)) ev (code .teaches)
+          (carriedName (writerMemory w₂) (kindOf ev) (r .row))
+          ≡ next s (contextOf (writerMemory w) st) ev
       unfolding grownContext next afterCode after
-      next-grown = rw (items-context, enc .is, wrote .tables, same-tables, enc .taught-is)
+      next-grown =
+          rw (
+            items-context,
+            enc .is,
+            ← (enc .taught-is (carriedName (writerMemory w₂) (kindOf ev) (r .row))),
+            ← name-entries (wrote .kept .tidy) ev (r .row) (sent .row zero),
+            wrote .tables,
+            same-tables,
+          )
 
       pub items-grow : {kind : ℕ} → kind ≡ kindNumber (kindOf ev) → Grows (writerMemory w₂) (r .state) ev kind (code .teaches) (r .row)
       items-grow k =
@@ -146,9 +171,10 @@ module _ {s : Settings} {w : List ℕ} {st : state.State} {ev : Event Text} {str
             kinds = enc .kinds;
           }
 
-      module _ {w₃ : List ℕ} {g : Grown} (grew : Growth (writerMemory w₂) (writerMemory w₃) (r .state) ev (code .teaches) g) where
-        grammars-within : withinGrammars (next s (contextOf (writerMemory w) st) ev) ≡ g .ok
-        grammars-within = sym (grew .within ∙ ap withinGrammars next-grown)
+      module _ {w₃ : List ℕ} {g : Grown} (grew : Growth s (writerMemory w₂) (writerMemory w₃) (r .state) ev (code .teaches)
+          (carriedName (writerMemory w₂) (kindOf ev) (r .row)) g) where
+        grammars-within : withinGrammars sizes (next s (contextOf (writerMemory w) st) ev) ≡ g .ok
+        grammars-within = sym (grew .within ∙ ap (withinGrammars sizes) next-grown)
 
         event-done : Put stream (st .at) (eventBits s (contextOf (writerMemory w) st) ev) stream₂ (r .state .at)
             → Above (r .state .stack) (g .state .stack) → g .ok ≡ true → Done s ev stream w st stream₂ w₃ (g .state)
@@ -166,7 +192,7 @@ module _ {s : Settings} {w : List ℕ} {st : state.State} {ev : Event Text} {str
 -- ---- the step: refused at one of its parts, or done
 
 module _ {s : Settings} (store : Text) (e : Event Span) {stream w : List ℕ} {st : state.State} where
-  refused-step : {k : Refusal} {stream′ w′ : List ℕ} (number : ℕ) → faultOf s (contextOf (writerMemory w) st) store e ≡ some k → number ≡ numberOf k
+  refused-step : {k : Refusal} {stream′ w′ : List ℕ} (number : ℕ) → faultOf sizes s (contextOf (writerMemory w) st) store e ≡ some k → number ≡ numberOf k
       → stream′ ≡ written stream (st .at) (eventPassed s (contextOf (writerMemory w) st) store e) → length w′ ≡ length w
       → contextOf (writerMemory w′) st ≡ contextOf (writerMemory w) st
       → Step s store e stream w st stream′ w′ (record { number = number; state = st })
@@ -196,20 +222,21 @@ module _ {s : Settings} (store : Text) (e : Event Span) {stream w : List ℕ} {s
         (rw (code-passed s (contextOf (writerMemory w) st) store e (enc .code) (enc .is) h) (enc .put .octets)) refl refl
 
     module _ (stand : Standing (writerMemory w) st) (h : every (inside store) (stringsOf e) ≡ true) {stream₂ w₂ : List ℕ} {r : Sent}
-        (sent : ItemsSent (s .alignment) (code .learned) (mapEvent (part store) e) stream₁ w (code .state) stream₂ w₂ r) where
+        (sent : ItemsSent (s .alignment) (code .learned) (code .row) (mapEvent (part store) e) stream₁ w (code .state) stream₂ w₂ r) where
       event-put : Put stream (st .at) (eventPassed s (contextOf (writerMemory w) st) store e) stream₂ (r .state .at)
       event-put = rw (items-passed s (contextOf (writerMemory w) st) store e (enc .code) (enc .is) h) (passed-put enc sent)
 
       pub content-step : 0 < r .number → Step s store e stream w st stream₂ w₂ (record { number = r .number; state = st })
       content-step n =
-          let (k, f) = some-refusal (firstFailed (contentTests (contextOf (writerMemory w) st .tables)
+          let (k, f) = some-refusal (firstFailed (contentTests sizes (contextOf (writerMemory w) st .tables)
           (items (contextOf (writerMemory w) st .state) (enc .code .production) (mapEvent (part store) e)))) (omega (arith, content-fault enc sent)) in
           refused-step (r .number) (fault-content s (contextOf (writerMemory w) st) store e (enc .code) (enc .is) h k f)
           (content-fault enc sent ∙ ap faultNumber f ∙ some-fault k) (event-put .octets) (sent .sent .wrote .kept .size)
           (old-context enc sent stand)
 
       module _ (zero : r .number ≡ 0) {w₃ : List ℕ} {g : Grown}
-          (grew : Growth (writerMemory w₂) (writerMemory w₃) (r .state) (mapEvent (part store) e) (code .teaches) g) where
+          (grew : Growth s (writerMemory w₂) (writerMemory w₃) (r .state) (mapEvent (part store) e) (code .teaches)
+          (carriedName (writerMemory w₂) (kindOf (mapEvent (part store) e)) (r .row)) g) where
         pub limit-step : g .ok ≡ false → w₃ ≡ w₂ → Step s store e stream w st stream₂ w₃ (record { number = 12; state = st })
         unfolding numberOf
         limit-step f still =
@@ -223,7 +250,7 @@ module _ {s : Settings} (store : Text) (e : Event Span) {stream w : List ℕ} {s
             → Step s store e stream w st stream₂ w₃ (record { number = 0; state = g .state })
         done-step above f =
             let c : Context = contextOf (writerMemory w) st in
-            let fine : faultOf s c store e ≡ none =
+            let fine : faultOf sizes s c store e ≡ none =
             fault-none-of s c store e (enc .code) (enc .is) h (content-passed enc sent stand zero) (grammars-within enc sent stand zero grew ∙ f) in
             record {
               fault = rw fine (sym none-fault);

@@ -7,6 +7,7 @@ use mathlib.Core.Option.{Option, none, some, Option·some-ne-none}
 use Rattle.spec_fields.specs.Refusal.{Refusal, limit, shape, place}
 use Rattle.spec_fields.proofs.Tests.{split}
 use Rattle.text.specs.Text.{Text, Span, inside, part}
+use Rattle.spec_exi.specs.Sizes.{sizes}
 use Rattle.spec_exi.specs.Event.{Event, mapEvent, stringsOf}
 use Rattle.spec_exi.specs.Settings.{Settings}
 use Rattle.spec_exi.specs.Grammar.{Code, codeOf, codeBits}
@@ -31,7 +32,7 @@ places-outside store [] e = absurd (true≢false e)
 places-outside store (x ∷ xs) e = split (inside store x) (λ t. rw t (places-outside store xs (rw t at e))) (λ t. rw t)
 
 module _ (s : Settings) (c : Context) (store : Text) (e : Event Span) where
-  pub fault-shape : codeOf (levelsIn s c) (mapEvent (part store) e) ≡ none → faultOf s c store e ≡ some shape
+  pub fault-shape : codeOf (levelsIn s c) (mapEvent (part store) e) ≡ none → faultOf sizes s c store e ≡ some shape
   unfolding faultOf eventTests firstFailed
   fault-shape h = rw h
 
@@ -41,16 +42,16 @@ module _ (s : Settings) (c : Context) (store : Text) (e : Event Span) where
 
   module _ (x : Code) (is : codeOf (levelsIn s c) (mapEvent (part store) e) ≡ some x) where
     abbrev content : List Test
-    content = contentTests (c .tables) (items (c .state) (x .production) (mapEvent (part store) e))
+    content = contentTests sizes (c .tables) (items (c .state) (x .production) (mapEvent (part store) e))
 
     abbrev grammars : List Test
-    grammars = (withinGrammars (next s c (mapEvent (part store) e)), limit) ∷ []
+    grammars = (withinGrammars sizes (next s c (mapEvent (part store) e)), limit) ∷ []
 
-    coded : faultOf s c store e ≡ firstFailed (placeTests store (stringsOf e) ++ (content ++ grammars))
+    coded : faultOf sizes s c store e ≡ firstFailed (placeTests store (stringsOf e) ++ (content ++ grammars))
     unfolding faultOf eventTests
     coded = rw is (ap firstFailed (append-assoc (placeTests store (stringsOf e)) content grammars))
 
-    pub fault-place : every (inside store) (stringsOf e) ≡ false → faultOf s c store e ≡ some place
+    pub fault-place : every (inside store) (stringsOf e) ≡ false → faultOf sizes s c store e ≡ some place
     fault-place h = coded ∙ failed-first place (placeTests store (stringsOf e)) (content ++ grammars) (places-outside store (stringsOf e) h)
 
     pub code-passed : every (inside store) (stringsOf e) ≡ false → eventPassed s c store e ≡ codeBits (s .alignment) (levelsIn s c) (x .parts)
@@ -69,26 +70,26 @@ module _ (s : Settings) (c : Context) (store : Text) (e : Event Span) where
       unfolding eventBits codedBits
       event-passed f = items-passed ∙ rw (is, passed-all (c .tables) (items (c .state) (x .production) (mapEvent (part store) e)) f)
 
-      behind : faultOf s c store e ≡ firstFailed (content ++ grammars)
+      behind : faultOf sizes s c store e ≡ firstFailed (content ++ grammars)
       behind = coded ∙ failed-then (placeTests store (stringsOf e)) (content ++ grammars) (places-inside store (stringsOf e) h)
 
-      pub fault-content : (k : Refusal) → firstFailed content ≡ some k → faultOf s c store e ≡ some k
+      pub fault-content : (k : Refusal) → firstFailed content ≡ some k → faultOf sizes s c store e ≡ some k
       fault-content k f = behind ∙ failed-first k content grammars f
 
-      pub fault-limit : firstFailed content ≡ none → withinGrammars (next s c (mapEvent (part store) e)) ≡ false → faultOf s c store e ≡ some limit
+      pub fault-limit : firstFailed content ≡ none → withinGrammars sizes (next s c (mapEvent (part store) e)) ≡ false → faultOf sizes s c store e ≡ some limit
       unfolding firstFailed
       fault-limit f g = behind ∙ failed-then content grammars f ∙ rw g
 
-      pub fault-none-of : firstFailed content ≡ none → withinGrammars (next s c (mapEvent (part store) e)) ≡ true → faultOf s c store e ≡ none
+      pub fault-none-of : firstFailed content ≡ none → withinGrammars sizes (next s c (mapEvent (part store) e)) ≡ true → faultOf sizes s c store e ≡ none
       unfolding firstFailed
       fault-none-of f g = behind ∙ failed-then content grammars f ∙ rw g
 
 -- An event without a refusal is written whole.
-pub event-whole : (s : Settings) (c : Context) (store : Text) (e : Event Span) → faultOf s c store e ≡ none
+pub event-whole : (s : Settings) (c : Context) (store : Text) (e : Event Span) → faultOf sizes s c store e ≡ none
     → eventPassed s c store e ≡ eventBits s c (mapEvent (part store) e)
 event-whole s c store e fine = by-code (codeOf (levelsIn s c) (mapEvent (part store) e)) refl
   where
-    none-of : (k : Refusal) → faultOf s c store e ≡ some k → ⊥
+    none-of : (k : Refusal) → faultOf sizes s c store e ≡ some k → ⊥
     none-of k f = Option·some-ne-none k (sym f ∙ fine)
 
     by-code : (o : Option Code) → codeOf (levelsIn s c) (mapEvent (part store) e) ≡ o → eventPassed s c store e ≡ eventBits s c (mapEvent (part store) e)

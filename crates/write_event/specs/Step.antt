@@ -9,7 +9,7 @@ use lib.Dec.{T}
 use Rattle.spec_fields.specs.Bits.{Bits}
 use Rattle.text.specs.Text.{Text, Span, inside, part}
 use Rattle.spec_exi.specs.Event.{Event, kindOf, nameOf, mapEvent, stringsOf}
-use Rattle.spec_exi.specs.Sizes.{writerWork}
+use Rattle.spec_exi.specs.Sizes.{sizes, writerWork}
 use Rattle.spec_exi.specs.Settings.{Settings}
 use Rattle.spec_exi.specs.Grammar.{Code, codeOf, codeBits, kindNumber}
 use Rattle.spec_exi.specs.Context.{Context, levelsIn, items, next}
@@ -66,7 +66,7 @@ eventPassed s c store e = codedPassed s c store e (codeOf (levelsIn s c) (mapEve
 -- The number is the refusal's that the definitions give the stored event here, or 0. After a refusal the state is as it was, and memory means by it
 -- what it meant.
 pub record Step (s : Settings) (store : Text) (e : Event Span) (stream w : List ℕ) (st : State) (stream′ w′ : List ℕ) (r : Stepped) : Type 0 where
-  pub fault : r .number ≡ faultNumber (faultOf s (contextOf (writerMemory w) st) store e)
+  pub fault : r .number ≡ faultNumber (faultOf sizes s (contextOf (writerMemory w) st) store e)
   pub octets : stream′ ≡ written stream (st .at) (eventPassed s (contextOf (writerMemory w) st) store e)
   pub size : length w′ ≡ length w
   pub done : r .number ≡ 0 → Done s (mapEvent (part store) e) stream w st stream′ w′ (r .state)

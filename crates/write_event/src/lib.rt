@@ -13,6 +13,14 @@ ghost use Rattle.write_code.specs.Coding.{CodeReady, CodeSent};
 ghost use Rattle.write_event.specs.Step.{NamedCode, StepReady, Step};
 use event::Event;
 use event::Part;
+use event_code::AT;
+use event_code::CH;
+use event_code::CM;
+use event_code::ED;
+use event_code::EE;
+use event_code::PI;
+use event_code::SD;
+use event_code::SE;
 use refusal::LIMIT;
 use refusal::PLACE;
 use refusal::SHAPE;
@@ -31,14 +39,14 @@ fn kind_of(e: Event) -> u32
     ensures { λ r. ⌜ r ≡ kindNumber (kindOf (meaning e)) ⌝ }
 {
     match e {
-        Event::StartDocument => 0,
-        Event::EndDocument => 1,
-        Event::StartElement(uri, local) => 2,
-        Event::Attribute(uri, local, value) => 3,
-        Event::EndElement => 4,
-        Event::Characters(value) => 5,
-        Event::Comment(text) => 6,
-        Event::Instruction(target, text) => 7,
+        Event::StartDocument => SD,
+        Event::EndDocument => ED,
+        Event::StartElement(uri, local) => SE,
+        Event::Attribute(uri, local, value) => AT,
+        Event::EndElement => EE,
+        Event::Characters(value) => CH,
+        Event::Comment(text) => CM,
+        Event::Instruction(target, text) => PI,
     }
 }
 
@@ -101,13 +109,22 @@ fn put_event_code(
     ensures { λ r. ⌜ CodeSent (settingsFrom o) (writerMemory (now (work .entry))) st (mapEvent (part (now (text .entry))) (meaning e)) (now (stream .entry)) (now (stream .exit)) r ⌝ }
 {
     match e {
-        Event::StartElement(uri, local) => put_named_code(o, stream, st, text, 2, uri, local, work),
+        Event::StartElement(uri, local) => put_named_code(
+            o,
+            stream,
+            st,
+            text,
+            SE,
+            uri,
+            local,
+            work,
+        ),
         Event::Attribute(uri, local, value) => put_named_code(
             o,
             stream,
             st,
             text,
-            3,
+            AT,
             uri,
             local,
             work,
@@ -116,7 +133,7 @@ fn put_event_code(
             o,
             stream,
             st,
-            4,
+            EE,
             Found::At { number: 0, row: 0 },
             work,
         ),
@@ -124,7 +141,7 @@ fn put_event_code(
             o,
             stream,
             st,
-            5,
+            CH,
             Found::At { number: 0, row: 0 },
             work,
         ),

@@ -14,7 +14,7 @@ use Rattle.spec_fields.proofs.Refusal.{refusal-number}
 use Rattle.text.specs.Text.{Text}
 use Rattle.spec_exi.specs.Settings.{meaningful, settingsOf, headerOf}
 use Rattle.spec_exi.specs.Settings as format
-use Rattle.spec_exi.specs.Sizes.{maxStream, maxEvents, writerWork, readerWork, maxStore}
+use Rattle.spec_exi.specs.Sizes.{sizes, maxStream, maxEvents, writerWork, readerWork, maxStore}
 use Rattle.spec_exi.specs.Context.{start}
 use Rattle.spec_exi.specs.Writer.{Stored, writeEvents, asOctets, writeList, enoughToWrite, writeReply}
 use Rattle.spec_exi.specs.Writer as format-writer
@@ -79,19 +79,19 @@ module _ {stream after : List ℕ} {r : declared.WriteReply} where
 -- ---- a list
 
 module _ {s : format.Settings} {xs : List Stored} {store : Text} {stream mid w : List ℕ} {at : ℕ} {st : State} {after : List ℕ} {r : Run}
-    (header : HeaderPut s stream mid at) (b : Begins at w st)
+    (header : HeaderPut s stream mid at) (b : Begins s at w st)
     (ran : Ran s xs store mid w st after r) where
-  module _ (k : Refusal) (i : ℕ) (e : writeEvents maxEvents s start store xs ≡ refused k i) where
+  module _ (k : Refusal) (i : ℕ) (e : writeEvents maxEvents sizes s (start s) store xs ≡ refused k i) where
     run-refused : (r .number ≡ numberOf k) × (r .index ≡ i)
     run-refused =
         let is : r ≡ record { number = numberOf k; index = i; at = 0 } = ran .refused-as k i (rw (b .context) e) in
         (ap (λ (x : Run). x .number) is, ap (λ (x : Run). x .index) is)
 
-    answer-refused : writeList s xs store ≡ refused k i
+    answer-refused : writeList sizes s xs store ≡ refused k i
     unfolding writeList asOctets
     answer-refused = rw e
 
-  module _ (bs : Bits) (e : writeEvents maxEvents s start store xs ≡ accepted bs) where
+  module _ (bs : Bits) (e : writeEvents maxEvents sizes s (start s) store xs ≡ accepted bs) where
     run-accepted : (r .number ≡ 0) × (r .index ≡ 0) × Put mid (st .at) bs after (r .at)
     run-accepted = ran .accepted-as bs (rw (b .context) e)
 
@@ -102,37 +102,37 @@ module _ {s : format.Settings} {xs : List Stored} {store : Text} {stream mid w :
     unfolding octetsFor
     octets-are = rw (pack-length (unpack (headerOf s) ++ bs)) (omega (arith, all-put .next))
 
-    answer-long : maxStream < length (pack (unpack (headerOf s) ++ bs)) → writeList s xs store ≡ refused long 0
+    answer-long : maxStream < length (pack (unpack (headerOf s) ++ bs)) → writeList sizes s xs store ≡ refused long 0
     unfolding writeList asOctets
     answer-long l = rw (e, lt-leb (length (pack (unpack (headerOf s) ++ bs))) maxStream l)
 
-    answer-octets : length (pack (unpack (headerOf s) ++ bs)) ≤ maxStream → writeList s xs store ≡ accepted (pack (unpack (headerOf s) ++ bs))
+    answer-octets : length (pack (unpack (headerOf s) ++ bs)) ≤ maxStream → writeList sizes s xs store ≡ accepted (pack (unpack (headerOf s) ++ bs))
     unfolding writeList asOctets
     answer-octets l = rw (e, le-leb (length (pack (unpack (headerOf s) ++ bs))) maxStream l)
 
   pub list-refused : (r .number ≡ 0 → ⊥) → ListPut s xs store stream after (record { number = r .number; index = r .index; octets = 0 })
-  list-refused h = by-answer (writeEvents maxEvents s start store xs) refl where
-    by-answer : (x : Answer Bits) → writeEvents maxEvents s start store xs ≡ x
+  list-refused h = by-answer (writeEvents maxEvents sizes s (start s) store xs) refl where
+    by-answer : (x : Answer Bits) → writeEvents maxEvents sizes s (start s) store xs ≡ x
         → ListPut s xs store stream after (record { number = r .number; index = r .index; octets = 0 })
     by-answer (refused k i) e = attempted-refused k i (r .number) (r .index) (answer-refused k i e) (run-refused k i e .0) (run-refused k i e .1)
     by-answer (accepted bs) e = absurd (h (run-accepted bs e .0))
 
   module _ (none : r .number ≡ 0) where
-    some-bits : (x : Answer Bits) → writeEvents maxEvents s start store xs ≡ x → (bs : Bits) × (writeEvents maxEvents s start store xs ≡ accepted bs)
+    some-bits : (x : Answer Bits) → writeEvents maxEvents sizes s (start s) store xs ≡ x → (bs : Bits) × (writeEvents maxEvents sizes s (start s) store xs ≡ accepted bs)
     some-bits (refused k i) e = absurd (omega (arith, refusal-number k, run-refused k i e .0))
     some-bits (accepted bs) e = (bs, e)
 
     pub list-long : 16384 < (r .at + 7) / 8 → ListPut s xs store stream after (record { number = 3; index = 0; octets = 0 })
     unfolding maxStream numberOf
     list-long l =
-        let (bs, e) = some-bits (writeEvents maxEvents s start store xs) refl in
+        let (bs, e) = some-bits (writeEvents maxEvents sizes s (start s) store xs) refl in
         attempted-refused long 0 3 0 (answer-long bs e (omega (arith, octets-are bs e))) refl refl
 
     pub list-put : (r .at + 7) / 8 ≤ 16384 → maxStream ≤ length stream
         → ListPut s xs store stream after (record { number = 0; index = 0; octets = (r .at + 7) / 8 })
     unfolding maxStream
     list-put l enough =
-        let (bs, e) = some-bits (writeEvents maxEvents s start store xs) refl in
+        let (bs, e) = some-bits (writeEvents maxEvents sizes s (start s) store xs) refl in
         let os : List ℕ = pack (unpack (headerOf s) ++ bs) in
         attempted-accepted os ((r .at + 7) / 8) (answer-octets bs e (omega (arith, octets-are bs e))) (octets-are bs e)
         (put-packed (all-put bs e) (omega (arith, octets-are bs e)))
@@ -169,12 +169,12 @@ module _ (s : SettingNumbers) (stream : List ℕ) (xs : List Stored) (store : Te
       no-meaning after e =
           attempted-refused settings 0 2 0 (rw (enough (length stream) (length work) 16384 20480, few, ← meant, e)) refl refl
 
-      answer-list : not asked ≡ false → answerOf s stream xs store work ≡ writeList (settingsOf (numbersOf s)) xs store
+      answer-list : not asked ≡ false → answerOf s stream xs store work ≡ writeList sizes (settingsOf (numbersOf s)) xs store
       unfolding answerOf format-writer.write enoughToWrite maxStream writerWork readerWork maxStore
       answer-list e = rw (enough (length stream) (length work) 16384 20480, few, ← meant, e)
 
       pub list-answered : {o : Settings} {zeros after : List ℕ} {r : declared.WriteReply} → not asked ≡ false → o ≡ settingsMeant s → zeros ≡ replicate (length stream) 0
           → ListPut (settingsFrom o) xs store zeros after r → Attempted (answerOf s stream xs store work) stream after r
       list-answered e o-is zeros-are a =
-          attempted-as (ap (λ o. writeList (settingsFrom o) xs store) o-is ∙ ap (λ x. writeList x xs store) (settings-from s) ∙ sym (answer-list e))
+          attempted-as (ap (λ o. writeList sizes (settingsFrom o) xs store) o-is ∙ ap (λ x. writeList sizes x xs store) (settings-from s) ∙ sym (answer-list e))
           (ap length zeros-are ∙ length-replicate {A = ℕ} (length stream) 0) a

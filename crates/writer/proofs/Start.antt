@@ -30,9 +30,9 @@ unfolding headerOf
 short-header s = split (s .cookie) (λ e. rw e (omega arith)) (λ e. rw e (omega arith))
 
 -- The state at this position, over this memory, is that before the first event.
-pub record Begins (at : ℕ) (w : List ℕ) (st : State) : Type 0 where
+pub record Begins (s : Settings) (at : ℕ) (w : List ℕ) (st : State) : Type 0 where
   pub there : st .at ≡ at
-  pub context : contextOf (writerMemory w) st ≡ start
+  pub context : contextOf (writerMemory w) st ≡ start s
 
 module _ (w : List ℕ) (room : writerWork ≤ length w) where
   pub tables-fit : tableCells ≤ length w
@@ -62,11 +62,11 @@ module _ (w : List ℕ) (room : writerWork ≤ length w) where
           first = refl;
         })
 
-    pub list-begins : Begins at w′ st
+    pub list-begins : (s : Settings) → Begins s at w′ st
     unfolding start startCounts started
-    list-begins =
+    list-begins s =
         rw (text, rows, begins)
         (record {
           there = refl;
-          context = rw (start-context (writerMemory (withText (withTables w 4096) 4096)) at 99 3 6, start-tables _ begun);
+          context = rw (start-context (writerMemory (withText (withTables w 4096) 4096)) at 99 3 6, start-tables _ begun s);
         })

@@ -6,7 +6,7 @@ use lib.ListN.{length, replicate}
 use lib.Dec.{T}
 use Rattle.spec_fields.specs.Refusal.{Refusal, numberOf, Answer, refused, accepted}
 use Rattle.text.specs.Text.{Text}
-use Rattle.spec_exi.specs.Sizes.{maxStream, writerWork}
+use Rattle.spec_exi.specs.Sizes.{sizes, maxStream, writerWork}
 use Rattle.spec_exi.specs.Settings as format
 use Rattle.spec_exi.specs.Writer.{Stored, writeList, WriteReply}
 use Rattle.spec_exi.specs.Writer as format-writer
@@ -46,4 +46,4 @@ pub record ListFits (stream w : List ℕ) : Type 0 where
   pub room : writerWork ≤ length w
 
 abbrev pub ListPut : format.Settings → List Stored → Text → List ℕ → List ℕ → declared.WriteReply → Type 0
-ListPut s xs store stream stream′ r = Attempted (writeList s xs store) stream stream′ r
+ListPut s xs store stream stream′ r = Attempted (writeList sizes s xs store) stream stream′ r

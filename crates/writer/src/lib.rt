@@ -12,6 +12,8 @@ use refusal::ROOM;
 use refusal::SETTINGS;
 use settings::SettingNumbers;
 use settings::Settings;
+use sizes::MAX_STREAM;
+use sizes::WRITER_WORK;
 
 // The number of the refusal or 0, the index of the event concerned, and the count of octets.
 #[repr(C)]
@@ -44,7 +46,7 @@ fn put_list(
         };
     }
     let octets = (run.at + 7) / 8;
-    if 16384 < octets {
+    if MAX_STREAM < octets {
         return WriteReply {
             number: LONG,
             index: 0,
@@ -68,7 +70,7 @@ fn attempt(
 ) -> WriteReply
     ensures { λ r. ⌜ Attempted (answerOf s (now (stream .entry)) (eventsOf (now (events .entry))) (now (text .entry)) (now (work .entry))) (now (stream .entry)) (now (stream .exit)) r ⌝ }
 {
-    if (stream.len() < 16384) | (work.len() < 20480) {
+    if (stream.len() < MAX_STREAM) | (work.len() < WRITER_WORK) {
         return WriteReply {
             number: ROOM,
             index: 0,

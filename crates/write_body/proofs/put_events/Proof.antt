@@ -1,11 +1,12 @@
 -- `put_events` meets its contract: the loop keeps `Running`.
-use mathlib.Core.Path.{sym, _∙_}
+use mathlib.Core.Path.{sym, ap, _∙_}
 use Prim.Native.Nat.{_-_}
 use native.Mathlib.Omega.{arith}
 use lib.ListN.{length}
 use borrow.Author.Needs.{needs}
 use Rattle.spec_exi.specs.Sizes.{maxEvents}
 use Rattle.settings.specs.Meant.{settingsFrom}
+use Rattle.event.specs.Cells.{judged}
 use Rattle.event.proofs.Laws.{whole-means, shape-means}
 use Rattle.write_field.proofs.Written.{put-length}
 use Rattle.write_body.proofs.Events.{Running, running-start, ended-early, ended, too-many, cut-short, no-event, step-asks, refused-event, event-more}
@@ -68,7 +69,7 @@ returns-3 c =
     let l = c .before .before .before in
     rw (c .stopped3 .ensures)
     (no-event (l .before .before .before .before .before .loop .inv) (l .before .before .before .before .loop-test .taken) (l .before .before .if1 .left) (omega (arith, l .before .if2 .left))
-    (shape-means _ (sym (c .before .enum-told .given .1) ∙ l .load .ensures)))
+    (shape-means _ (ap judged (sym (c .before .enum-told .given .1)) ∙ l .load .ensures)))
 
 enum-known-e : tie.Need-enum-known-e Inv-loop μ-loop
 enum-known-e c = search needs
@@ -97,7 +98,7 @@ returns-4 c =
     let l = c .before .before .before .before .before .before .before .before .before .before .before .before .before in
     rw (c .stopped4 .ensures)
     (refused-event (l .before .before .before .before .before .loop .inv) (l .before .before .before .before .loop-test .taken) (l .before .before .if1 .left) (omega (arith, l .before .if2 .left))
-    (whole-means _ _ (sym (c .before .before .before .before .before .before .before .before .before .before .before .e .given .1) ∙ l .load .ensures)) (c .before .before .before .before .before .before .before .step .ensures) (c .before .if3 .taken))
+    (whole-means _ _ (ap judged (sym (c .before .before .before .before .before .before .before .before .before .before .before .e .given .1)) ∙ l .load .ensures)) (c .before .before .before .before .before .before .before .step .ensures) (c .before .if3 .taken))
 
 add-t : tie.Need-add-t Inv-loop μ-loop
 unfolding maxEvents
@@ -115,7 +116,7 @@ loop-again : tie.Need-loop-again Inv-loop μ-loop
 loop-again c =
     let l = c .before .before .before .before .before .before .before .before .before .before .before .before .before .before in
     event-more (l .before .before .before .before .before .loop .inv) (l .before .before .before .before .loop-test .taken) (l .before .before .if1 .left) (omega (arith, l .before .if2 .left))
-    (whole-means _ _ (sym (c .before .before .before .before .before .before .before .before .before .before .before .before .e .given .1) ∙ l .load .ensures)) (c .before .before .before .before .before .before .before .before .step .ensures)
+    (whole-means _ _ (ap judged (sym (c .before .before .before .before .before .before .before .before .before .before .before .before .e .given .1)) ∙ l .load .ensures)) (c .before .before .before .before .before .before .before .before .step .ensures)
     (c .before .before .if3 .left)
 
 stopped-requires-5 : tie.Need-stopped-requires-5 Inv-loop μ-loop

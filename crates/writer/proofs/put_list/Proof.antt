@@ -55,7 +55,7 @@ returns c =
     list-refused (h .put-header .ensures)
     (list-begins (now (a .args .work)) (a .pre .room) (h .put-header .result)
     (e .before .before .before .before .before .before .before .before .before .before .lay-rows .ensures) (e .before .before .before .before .before .before .lay-text .ensures)
-    (e .before .before .start .ensures))
+    (e .before .before .start .ensures) _)
     (e .put-events .ensures) (c .before .if1 .taken)
 
 add-octets : tie.Need-add-octets
@@ -77,7 +77,7 @@ returns-2 c =
     list-long (h .put-header .ensures)
     (list-begins (now (a .args .work)) (a .pre .room) (h .put-header .result)
     (e .before .before .before .before .before .before .before .before .before .before .lay-rows .ensures) (e .before .before .before .before .before .before .lay-text .ensures)
-    (e .before .before .start .ensures))
+    (e .before .before .start .ensures) _)
     (e .put-events .ensures) (c .before .before .if1 .left) (c .if2 .taken)
 
 cast-t14 : tie.Need-cast-t14
@@ -99,7 +99,7 @@ returns-3 c =
     list-put (h .put-header .ensures)
     (list-begins (now (a .args .work)) (a .pre .room) (h .put-header .result)
     (e .before .before .before .before .before .before .before .before .before .before .lay-rows .ensures) (e .before .before .before .before .before .before .lay-text .ensures)
-    (e .before .before .start .ensures))
+    (e .before .before .start .ensures) _)
     (e .put-events .ensures) (c .before .before .if1 .left) (c .if2 .left) (a .pre .octets)
 
 pub put-list-spec : {M : Type 1} → statement M
