@@ -35,7 +35,7 @@ cells-append [] b = refl
 cells-append (e ∷ a) b =
     ap (λ (r : List ℕ). cellsOf (mapEvent spanOf e) ++ r) (cells-append a b) ∙ sym (append-assoc (cellsOf (mapEvent spanOf e)) (cellsOfAll a) (cellsOfAll b))
 
-pub cells-size : (es : List (Event Placed)) → length (cellsOfAll es) ≡ 7 * length es
+pub cells-size : (es : List (Event Placed)) → length (cellsOfAll es) ≡ 9 * length es
 unfolding cellsOfAll
 cells-size [] = refl
 cells-size (e ∷ es) =
@@ -43,17 +43,17 @@ cells-size (e ∷ es) =
 
 -- One event more, in the place of zeros.
 pub event-added : (es : List (Event Placed)) (e : Event Placed) (st : State) (n : ℕ) → length es ≡ st .events
-    → withEvent (cellsOfAll es ++ replicate (n - 7 * st .events) 0) st e ≡ cellsOfAll (es ++ e ∷ []) ++ replicate (n - 7 * (st .events + 1)) 0
+    → withEvent (cellsOfAll es ++ replicate (n - 9 * st .events) 0) st e ≡ cellsOfAll (es ++ e ∷ []) ++ replicate (n - 9 * (st .events + 1)) 0
 unfolding withEvent cellsOfAll
 event-added es e st n count =
-    let k : ℕ = 7 * st .events in
+    let k : ℕ = 9 * st .events in
     let zeros : List ℕ = replicate (n - k) 0 in
     let size : length (cellsOfAll es) ≡ k = omega (arith, cells-size es) in
-    let behind : drop (k + 7) (cellsOfAll es ++ zeros) ≡ replicate (n - 7 * (st .events + 1)) 0 =
-    sym (drop-drop 7 k (cellsOfAll es ++ zeros))
-    ∙ ap (drop 7) (drop-at (cellsOfAll es) zeros k size)
-    ∙ drop-zeros 7 (n - k)
-    ∙ (let m : n - k - 7 ≡ n - 7 * (st .events + 1) = omega arith in ap (λ m. replicate m 0) m) in
+    let behind : drop (k + 9) (cellsOfAll es ++ zeros) ≡ replicate (n - 9 * (st .events + 1)) 0 =
+    sym (drop-drop 9 k (cellsOfAll es ++ zeros))
+    ∙ ap (drop 9) (drop-at (cellsOfAll es) zeros k size)
+    ∙ drop-zeros 9 (n - k)
+    ∙ (let m : n - k - 9 ≡ n - 9 * (st .events + 1) = omega arith in ap (λ m. replicate m 0) m) in
     let cells : cellsOfAll (es ++ e ∷ []) ≡ cellsOfAll es ++ cellsOf (mapEvent spanOf e) =
     cells-append es (e ∷ []) ∙ ap (λ (r : List ℕ). cellsOfAll es ++ r) (append-nil (cellsOf (mapEvent spanOf e))) in
     rw (take-at (cellsOfAll es) zeros k size, behind, cells)

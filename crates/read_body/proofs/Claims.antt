@@ -37,7 +37,7 @@ module _ (p : ReaderRoom) (x : Reading) where
   unfolding readReply eventsFilled cellsPerEvent
   events-left =
       let cells : List ℕ = cellsOfAll (x .events) in
-      ap eventsOf (take-at cells (replicate (p .events - length cells) 0) (7 * length (x .events)) (cells-size (x .events))) ∙ all-mean (x .events)
+      ap eventsOf (take-at cells (replicate (p .events - length cells) 0) (9 * length (x .events)) (cells-size (x .events))) ∙ all-mean (x .events)
 
   store-left : storeLeft p (accepted x) ≡ x .store
   unfolding readReply textFilled

@@ -11,11 +11,11 @@ use Rattle.spec_fields.specs.Refusal.{Refusal, numberOf, limit, tail, Answer, r
 use Rattle.spec_fields.specs.Parser.{bad, got}
 use Rattle.spec_exi.specs.Event.{Event}
 use Rattle.spec_exi.specs.Settings.{Settings}
-use Rattle.spec_exi.specs.Sizes.{maxEvents, eventCells, cellsPerEvent}
+use Rattle.spec_exi.specs.Sizes.{sizes, maxEvents, eventCells, cellsPerEvent}
 use Rattle.spec_exi.specs.Tables.{Placed}
 use Rattle.spec_exi.specs.Grammar.{isFinished}
-use Rattle.spec_exi.specs.Context.{Context, next}
-use Rattle.spec_exi.specs.Reader.{Reading, step, eventText, following, ending, onward, readEvents, readReply}
+use Rattle.spec_exi.specs.Context.{Context}
+use Rattle.spec_exi.specs.Reader.{Reading, step, following, ending, onward, readEvents, readReply}
 use Rattle.layout.specs.Meaning.{Memory, tablesIn, contextIn}
 use Rattle.state.specs.declared.State.{State}
 use Rattle.standing.specs.Standing.{contextOf, Standing}
@@ -49,21 +49,21 @@ shifted-following es e (accepted r) =
 
 -- Behind an event: the end, or n more.
 pub behind : ℕ → Settings → Context → Bits → Answer Reading
-behind n s c bs = cond (isFinished (c .state)) (ending c bs) (readEvents n s c bs)
+behind n s c bs = cond (isFinished (c .state)) (ending s c bs) (readEvents n sizes s c bs)
 
 module _ (n : ℕ) (s : Settings) (c : Context) (bs : Bits) where
-  answer-full : readEvents 0 s c bs ≡ refused limit 0
+  answer-full : readEvents 0 sizes s c bs ≡ refused limit 0
   unfolding readEvents
   answer-full = refl
 
-  answer-refused : (k : Refusal) → step s c bs ≡ bad k → readEvents (suc n) s c bs ≡ refused k 0
+  answer-refused : (k : Refusal) → step sizes s c bs ≡ bad k → readEvents (suc n) sizes s c bs ≡ refused k 0
   unfolding readEvents onward
   answer-refused k e = rw e
 
-  answer-more : (e : Event Placed) (rest : Bits) → step s c bs ≡ got e rest
-      → readEvents (suc n) s c bs ≡ following e (behind n s (next s c (eventText e)) rest)
+  answer-more : (v : Event Placed × Context) (rest : Bits) → step sizes s c bs ≡ got v rest
+      → readEvents (suc n) sizes s c bs ≡ following (v .0) (behind n s (v .1) rest)
   unfolding readEvents onward behind
-  answer-more e rest f = rw f
+  answer-more v rest f = rw f
 
 -- ---- the end document
 
@@ -86,7 +86,7 @@ store-is work text st = refl
 -- ---- the loop
 
 abbrev leftAt : Settings → List ℕ → List ℕ → List ℕ → State → Answer Reading
-leftAt s stream text work t = readEvents (maxEvents - t .events) s (contextOf (readerMemory work text) t) (drop (t .at) (unpack stream))
+leftAt s stream text work t = readEvents (maxEvents - t .events) sizes s (contextOf (readerMemory work text) t) (drop (t .at) (unpack stream))
 
 abbrev pub behindAt : Settings → List ℕ → List ℕ → List ℕ → State → Answer Reading
 behindAt s stream text work t = behind (maxEvents - t .events) s (contextOf (readerMemory work text) t) (drop (t .at) (unpack stream))
@@ -96,7 +96,7 @@ pub record Running (s : Settings) (stream events₀ text₀ work₀ : List ℕ) 
   pub before : List (Event Placed)
   pub answer : answerFrom s stream text₀ work₀ st ≡ shifted before x
   pub count : length before ≡ t .events
-  pub cells : events ≡ cellsOfAll before ++ replicate (length events₀ - 7 * t .events) 0
+  pub cells : events ≡ cellsOfAll before ++ replicate (length events₀ - 9 * t .events) 0
   pub standing : Standing (readerMemory work text) t
   pub clear : Clear work text t
   pub there : t .at ≤ 8 * length stream
@@ -112,10 +112,10 @@ pub turning-start : (s : Settings) {stream events text work : List ℕ} {st : St
 unfolding cellsOfAll
 turning-start s {stream} {events} {text} {work} {st} h =
     let e : maxEvents ≡ maxEvents - st .events = omega (arith, h .first) in
-    let z : length events ≡ length events - 7 * st .events = omega (arith, h .first) in
+    let z : length events ≡ length events - 9 * st .events = omega (arith, h .first) in
     record {
       before = [];
-      answer = ap (λ n. readEvents n s (contextOf (readerMemory work text) st) (drop (st .at) (unpack stream))) e ∙ sym (shifted-none (leftAt s stream text work st));
+      answer = ap (λ n. readEvents n sizes s (contextOf (readerMemory work text) st) (drop (st .at) (unpack stream))) e ∙ sym (shifted-none (leftAt s stream text work st));
       count = omega (arith, h .first);
       cells = h .none ∙ ap (λ n. replicate n 0) z;
       standing = h .standing;
@@ -132,7 +132,7 @@ module _ {s : Settings} {stream events₀ text₀ work₀ : List ℕ} {st : Stat
   unfolding eventCells cellsPerEvent maxEvents
   same-events l =
       ap length (h .cells)
-      ∙ omega (arith, length-append (cellsOfAll (h .before)) (replicate (length events₀ - 7 * t .events) 0), cells-size (h .before), h .count, h .few, length-replicate {A = ℕ} (length events₀ - 7 * t .events) 0)
+      ∙ omega (arith, length-append (cellsOfAll (h .before)) (replicate (length events₀ - 9 * t .events) 0), cells-size (h .before), h .count, h .few, length-replicate {A = ℕ} (length events₀ - 9 * t .events) 0)
 
   -- What is left is refused at its first event.
   run-refused : (k : Refusal) → x ≡ refused k 0 → {number : ℕ} {events′ text′ : List ℕ} {r : declared.ReadReply} → number ≡ numberOf k → r ≡ refusalOf number (t .events)
@@ -150,7 +150,7 @@ module _ {s : Settings} {stream events₀ text₀ work₀ : List ℕ} {st : Stat
       let all : answerFrom s stream text₀ work₀ st ≡ accepted (record { events = h .before; store = take (t .stored) text }) =
       h .answer ∙ ap (shifted (h .before)) e ∙ ap (λ l. accepted (record { events = l; store = take (t .stored) text })) (append-nil (h .before)) in
       let stored : length (take (t .stored) text) ≡ t .stored = length-take-le (t .stored) text (omega (arith, h .standing .tidy .sized .store)) in
-      let size : length (cellsOfAll (h .before)) ≡ 7 * t .events = omega (arith, cells-size (h .before), h .count) in
+      let size : length (cellsOfAll (h .before)) ≡ 9 * t .events = omega (arith, cells-size (h .before), h .count) in
       record {
         reply = rw (all, stored, h .count);
         cells = λ z. rw (all, size) (h .cells);
@@ -200,15 +200,15 @@ module _ {s : Settings} {stream events₀ text₀ work₀ : List ℕ} {st : Stat
       pub event-read : r .number ≡ 0 → Running s stream events₀ text₀ work₀ st events′ text′ work′ (r .state) (behindAt s stream text′ work′ (r .state))
       event-read z =
           let g = step .outcome .read z in
-          let e : Event Placed = g .value in
-          let d : Done s events text work t events′ text′ work′ r e = step .outcome .is z in
+          let e : Event Placed = g .value .0 in
+          let d : Done events text work t events′ text′ work′ r (g .value) = step .outcome .is z in
           let c : Context = contextOf (readerMemory work text) t in
           record {
             before = h .before ++ e ∷ [];
             answer = h .answer
                 ∙ ap (shifted (h .before))
-                (rw one-less (answer-more (maxEvents - (t .events + 1)) s c (drop (t .at) (unpack stream)) e (drop (r .state .at) (unpack stream)) (g .result)))
-                ∙ shifted-following (h .before) e (behind (maxEvents - (t .events + 1)) s (next s c (eventText e)) (drop (r .state .at) (unpack stream)))
+                (rw one-less (answer-more (maxEvents - (t .events + 1)) s c (drop (t .at) (unpack stream)) (g .value) (drop (r .state .at) (unpack stream)) (g .result)))
+                ∙ shifted-following (h .before) e (behind (maxEvents - (t .events + 1)) s (g .value .1) (drop (r .state .at) (unpack stream)))
                 ∙ ap₂ (λ n y. shifted (h .before ++ e ∷ []) (behind (maxEvents - n) s y (drop (r .state .at) (unpack stream)))) (sym (d .count)) (sym (d .context));
             count = length-append (h .before) (e ∷ []) ∙ omega (arith, h .count, d .count);
             cells = d .cells ∙ rw (h .cells, d .count) (event-added (h .before) e t (length events₀) (h .count));

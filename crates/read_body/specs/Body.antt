@@ -6,7 +6,7 @@ use lib.ListN.{length, drop, replicate}
 use Rattle.spec_fields.specs.Bits.{unpack}
 use Rattle.spec_fields.specs.Refusal.{Answer}
 use Rattle.spec_exi.specs.Settings.{Settings}
-use Rattle.spec_exi.specs.Sizes.{maxStream, maxEvents, maxStore, eventCells}
+use Rattle.spec_exi.specs.Sizes.{sizes, maxStream, maxEvents, maxStore, eventCells}
 use Rattle.spec_exi.specs.Reader.{Reading, readEvents}
 use Rattle.state.specs.declared.State.{State}
 use Rattle.standing.specs.Standing.{contextOf, Standing}
@@ -29,4 +29,4 @@ pub record RunReady (stream events text work : List ℕ) (st : State) : Type 0 w
 
 -- The definitions' answer from a state on.
 abbrev pub answerFrom : Settings → List ℕ → List ℕ → List ℕ → State → Answer Reading
-answerFrom s stream text work st = readEvents maxEvents s (contextOf (readerMemory work text) st) (drop (st .at) (unpack stream))
+answerFrom s stream text work st = readEvents maxEvents sizes s (contextOf (readerMemory work text) st) (drop (st .at) (unpack stream))

@@ -11,6 +11,7 @@ use read_field::Field;
 use refusal::LIMIT;
 use refusal::TAIL;
 use settings::Settings;
+use sizes::MAX_EVENTS;
 use state::State;
 
 // The number of the refusal or 0, the index of the event concerned, and the counts of events and code points.
@@ -63,7 +64,7 @@ fn run(
     ensures { λ r. ⌜ Attempted (answerFrom (settingsFrom o) (now (stream .entry)) (now (text .entry)) (now (work .entry)) st) (now (events .entry)) (now (text .entry)) (now (events .exit)) (now (text .exit)) r ⌝ }
 {
     let mut t = st;
-    while t.events < 4096 {
+    while t.events < MAX_EVENTS {
         let r = read_event::step(o, stream, t, events, text, work);
         if r.number != 0 {
             return refused(r.number, t.events);

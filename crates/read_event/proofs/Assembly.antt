@@ -5,36 +5,41 @@ use mathlib.Core.Path.{_≡_, refl, sym, ap, subst, _∙_}
 use mathlib.Core.Logic.{inl}
 use mathlib.Core.Bool.{true, false, not, _&&_, true≢false}
 use mathlib.Core.List.{List, _++_}
-use mathlib.Core.Option.{none, some}
+use mathlib.Core.Option.{none, some, Option·map}
 use lib.ListN.{length, getD, take, drop}
-use lib.Dec.{ltb}
+use lib.Dec.{T, ltb}
 use borrow.Author.Tests.{ltb-true, ltb-false}
+use Rattle.spec_fields.specs.Bits.{unpack}
 use Rattle.spec_fields.specs.Refusal.{numberOf, loose, limit}
+use Rattle.spec_fields.specs.Parser.{Parser}
 use Rattle.spec_fields.proofs.Tests.{split, is-T}
 use Rattle.text.specs.Text.{Text}
-use Rattle.spec_exi.specs.Event.{Event, kindOf}
+use Rattle.spec_exi.specs.Event.{Event, kindOf, nameOf}
 use Rattle.spec_exi.specs.Settings.{Settings}
-use Rattle.spec_exi.specs.Sizes.{maxEvents, maxUris, maxNames, maxValues, cellsPerEvent, eventCells}
-use Rattle.spec_exi.specs.Grammar.{Production, kindNumber, firstFit, codeOf}
-use Rattle.spec_exi.specs.Context.{levelsIn, items, afterItems, after, afterCode, next}
+use Rattle.spec_exi.specs.Sizes.{sizes, maxEvents, maxUris, maxNames, maxValues, cellsPerEvent, eventCells}
+use Rattle.spec_exi.specs.Tables.{Placed, eventText, Tables}
+use Rattle.spec_exi.specs.Grammar.{Production, isWildcard, kindNumber, firstFit, codeOf, sameCode}
+use Rattle.spec_exi.specs.Context.{Context, levelsIn, entriesOf, after}
 use Rattle.spec_exi.specs.Lists.{withinGrammars}
-use Rattle.spec_exi.specs.Reader.{readContent, sameCode, eventText, step}
+use Rattle.spec_exi.specs.Reader.{readContent, step}
 use Rattle.spec_exi.proofs.Codes.{fits-kind}
+use Rattle.spec_exi.proofs.Content.{content-reads, content-first}
 use Rattle.event.specs.Cells.{meaning, cellsOf}
 use Rattle.rows.specs.declared.Found.the-variants.{At}
 use Rattle.rows.specs.Rows.{rows}
 use Rattle.productions.specs.Locate.{hasKey}
 use Rattle.layout.specs.Layout.{grammarsAt, tableCells}
-use Rattle.layout.specs.Meaning.{kindAt, contextIn}
+use Rattle.layout.specs.Meaning.{kindAt, carriedName, contextIn}
 use Rattle.layout.proofs.Sizes.{urisAt-is, namesAt-is, valuesAt-is, tableCells-is}
 use Rattle.productions.specs.Numbered.{Numbered}
+use Rattle.productions.proofs.Known.{numbered-entries}
 use Rattle.state.specs.declared.Stack.{Stack}
 use Rattle.state.specs.declared.State.{State}
 use Rattle.standing.specs.Standing.{countsOf, contextOf, Standing}
 use Rattle.state.specs.Changed.{reached}
 use Rattle.standing.proofs.Laws.{reached-standing, reached-context}
 use Rattle.standing.proofs.Kept.{kept-standing, kept-context}
-use Rattle.event_code.specs.Parts.{teachesIn}
+use Rattle.event_code.specs.Parts.{teachesIn, learnt}
 use Rattle.event_code.proofs.Parts.{teaches-in}
 use Rattle.learning.specs.declared.Grown.{Grown}
 use Rattle.learning.specs.Learning.{grown, withGrowth}
@@ -53,6 +58,7 @@ use Rattle.read_items.specs.declared.Content.{Content}
 use Rattle.read_items.specs.Content.{Off, ContentFits, Held, ItemsRead}
 use Rattle.undo.specs.Undone.{undoneWork, undoneText}
 use Rattle.read_items.proofs.Memory.{text-back, work-back}
+use Rattle.read_items.proofs.Aligned.{content-aligned}
 use Rattle.read_event.specs.Step.{looseIn, teachesHere, grownBy, settled, withSettled, SettleFits, StepReady, withEvent, Done, Step}
 use Rattle.read_event.proofs.Growth.{Cells, growth-cells}
 
@@ -150,7 +156,7 @@ off-behind st k h =
 
 -- A refused step leaves everything as it was.
 refused-step : {s : Settings} {stream events text work text′ work′ : List ℕ} {st : State} {number : ℕ}
-    → Declined (step s (contextOf (readerMemory work text) st)) stream (st .at) number → text′ ≡ text → work′ ≡ work
+    → Declined (step sizes s (contextOf (readerMemory work text) st)) stream (st .at) number → text′ ≡ text → work′ ≡ work
     → Step s stream events text work st events text′ work′ (record { number = number; state = st })
 refused-step d x w = record { outcome = refused-outcome d; unchanged = λ _. (refl, refl, x, w) }
 
@@ -165,7 +171,7 @@ pub few-events : {stream events text work : List ℕ} {st : State} → StepReady
 unfolding maxEvents
 few-events ready = ready .few
 
-pub store-asks : {stream events text work : List ℕ} {st : State} → StepReady stream events text work st → 7 * st .events + 7 ≤ length events
+pub store-asks : {stream events text work : List ℕ} {st : State} → StepReady stream events text work st → 9 * st .events + 9 ≤ length events
 unfolding eventCells cellsPerEvent maxEvents
 store-asks ready = omega (arith, ready .cells, ready .few)
 
@@ -203,11 +209,15 @@ module _ {s : Settings} {stream events text work : List ℕ} {st : State} {r : D
 
     module _ {work₁ text₁ : List ℕ} {g : Content}
         (strings : ItemsRead (s .alignment) (productionIn (readerMemory work text) r) stream work text (reached st (r .at) (st .events)) work₁ text₁ g) where
-      content-outcome : Outcome (readContent (s .alignment) (contextOf (readerMemory work text) st .tables) (contextOf (readerMemory work text) st .state)
+      content-outcome : Outcome (readContent sizes s (contextOf (readerMemory work text) st .tables) (contextOf (readerMemory work text) st .state)
           (code .outcome .read z .value .production .kind) (code .outcome .read z .value .production .qname)) stream (r .at) (g .number) (g .state .at)
           (Held (productionIn (readerMemory work text) r) work text (reached st (r .at) (st .events)) work₁ text₁ g)
       unfolding contextOf contextIn
-      content-outcome = outcome-as (rw (code .outcome .is z .production)) (strings .outcome)
+      content-outcome =
+          outcome-as
+          (rw (code .outcome .is z .production)
+          (ap (λ (p : Parser (Event Placed × Tables)). p (drop (r .at) (unpack stream))) (content-aligned s _ _ _ _)))
+          (strings .outcome)
 
       pub content-refused : 0 < g .number → Step s stream events text work st events text₁ work₁ (record { number = g .number; state = st })
       unfolding step
@@ -218,11 +228,14 @@ module _ {s : Settings} {stream events text work : List ℕ} {st : State} {r : D
       module _ (y : g .number ≡ 0) where
         -- ---- what is known of the event
 
-        kind-is : r .kind ≡ kindNumber (kindOf (eventText (content-outcome .read y .value)))
+        abbrev event : Event Text
+        event = eventText (content-outcome .read y .value .0)
+
+        kind-is : r .kind ≡ kindNumber (kindOf event)
         unfolding productionIn
         kind-is =
             sym (kind-number (r .kind) (code .outcome .is z .kind))
-            ∙ ap kindNumber (fits-kind (productionIn (readerMemory work text) r) (eventText (content-outcome .read y .value)) (is-T _ (content-outcome .is y .fit)))
+            ∙ ap kindNumber (fits-kind (productionIn (readerMemory work text) r) event (is-T _ (content-outcome .is y .fit)))
 
         same-mode : g .state .mode ≡ st .mode
         same-mode = content-outcome .is y .kept .sameMode
@@ -243,18 +256,21 @@ module _ {s : Settings} {stream events text work : List ℕ} {st : State} {r : D
             }
         strings-context = kept-context behind-standing (content-outcome .is y .kept) ∙ rw (reached-context (readerMemory work text) st (r .at) (st .events))
 
-        strings-tables : tablesOf work₁ text₁ (g .state)
-            ≡ afterItems (contextOf (readerMemory work text) st .tables)
-            (items (contextOf (readerMemory work text) st .state) (code .outcome .read z .value .production) (eventText (content-outcome .read y .value)))
-        unfolding contextOf contextIn
-        strings-tables = rw (code .outcome .is z .production) (content-outcome .is y .after)
+        strings-tables : tablesOf work₁ text₁ (g .state) ≡ content-outcome .read y .value .1
+        strings-tables = content-outcome .is y .tables
+
+        -- The context that the event leaves.
+        abbrev leaves : Context
+        leaves =
+            after s (contextOf (readerMemory work text) st) (code .outcome .read z .value) (content-outcome .read y .value .1)
+            (nameOf (content-outcome .read y .value .0)) event
 
         same-learned : learnedHere (readerMemory work₁ text₁) (g .state) ≡ learnedHere (readerMemory work text) st
         same-learned = rw strings-context
 
         -- Where the code is not the strict one.
         other-code : looseIn work₁ (g .state) r (g .row) ≡ true
-            → sameCode (code .outcome .read z .value .parts) (codeOf (levelsIn s (contextOf (readerMemory work text) st)) (eventText (content-outcome .read y .value))) ≡ false
+            → sameCode (code .outcome .read z .value .parts) (codeOf (levelsIn s (contextOf (readerMemory work text) st)) event) ≡ false
         other-code hit =
             let (plain, p, e) = loose-some r strings-standing kind-is (content-outcome .is y .row) hit in
             code .outcome .is z .fixed plain _ (sym kind-is) .loose p (rw (← same-learned) e)
@@ -262,10 +278,10 @@ module _ {s : Settings} {stream events text work : List ℕ} {st : State} {r : D
         -- ---- where it is
 
         module _ (strict : looseIn work₁ (g .state) r (g .row) ≡ false) where
-          none-fits : r .learned ≡ false → firstFit (learnedHere (readerMemory work₁ text₁) (g .state)) (eventText (content-outcome .read y .value)) ≡ none
+          none-fits : r .learned ≡ false → firstFit (learnedHere (readerMemory work₁ text₁) (g .state)) event ≡ none
           none-fits plain = loose-none r strings-standing kind-is (content-outcome .is y .row) plain strict
 
-          event-code : Strict s (readerMemory work text) st r (code .outcome .read z .value) (eventText (content-outcome .read y .value))
+          event-code : Strict s (readerMemory work text) st r (code .outcome .read z .value) event
           event-code =
               let x = code .outcome .is z in
               split (r .learned)
@@ -277,7 +293,7 @@ module _ {s : Settings} {stream events text work : List ℕ} {st : State} {r : D
           unfolding teachesHere
           teaches e = split (r .learned) (λ t. absurd (true≢false (sym (rw t at e)))) (λ f. (f, rw f at e))
 
-          strings-grow : Grows (readerMemory work₁ text₁) (g .state) (eventText (content-outcome .read y .value)) (r .kind) (teachesHere (g .state) r) (g .row)
+          strings-grow : Grows (readerMemory work₁ text₁) (g .state) event (r .kind) (teachesHere (g .state) r) (g .row)
           strings-grow =
               let h = content-outcome .is y in
               let x = code .outcome .is z in
@@ -294,17 +310,45 @@ module _ {s : Settings} {stream events text work : List ℕ} {st : State} {r : D
                 kinds = λ t. omega (arith, teaches-in (g .state .mode) (r .kind) (teaches t .1));
               }
 
-          -- What the grammars then leave is what the event leaves.
-          next-grown : grownContext (contextOf (readerMemory work₁ text₁) (g .state)) (eventText (content-outcome .read y .value)) (teachesHere (g .state) r)
-              ≡ next s (contextOf (readerMemory work text) st) (eventText (content-outcome .read y .value))
-          unfolding grownContext next afterCode after
-          next-grown =
-              rw (teaches-same, strings-context, event-code .code, strings-tables, event-code .taught-is)
+          -- A name that was written lies at its row.
+          wildcard : r .learned ≡ false → T (isWildcard (code .outcome .read z .value .production .qname))
+          unfolding productionIn isWildcard
+          wildcard f = rw (code .outcome .is z .production, f) tt
 
-          growth : Growth (readerMemory work₁ text₁) (readerMemory (withGrowth work₁ (g .state) (r .kind) (teachesHere (g .state) r) (g .row)) text₁) (g .state)
-              (eventText (content-outcome .read y .value)) (teachesHere (g .state) r) (grownBy work₁ (g .state) r (g .row))
+          name-is : teachesHere (g .state) r ≡ true
+              → carriedName (readerMemory work₁ text₁) (kindOf event) (g .row) ≡ nameOf (content-outcome .read y .value .0)
+          name-is t =
+              let h = content-outcome .is y in
+              let k = strings-grow .kinds t in
+              let v = content-outcome .read y in
+              let (w, x, e) = content-reads sizes s _ _ _ _ .sound _ (v .value) _ (v .result) in
+              sym (content-first x (wildcard (teaches t .0))
+              ∙ ap (λ (t : Tables). Option·map (entriesOf t) (nameOf event)) (sym strings-tables)
+              ∙ numbered-entries (readerMemory work₁ text₁) (countsOf (g .state)) (strings-standing .tidy) event (g .row) (h .row (k .0) (k .1)))
+
+          -- What it teaches.
+          taught-same : learnt (contextOf (readerMemory work text) st .state) (teachesHere (g .state) r) (kindOf event)
+              (carriedName (readerMemory work₁ text₁) (kindOf event) (g .row)) (contextOf (readerMemory work text) st .learned)
+              ≡ learnt (contextOf (readerMemory work text) st .state) (not (r .learned) && teachesIn (st .mode) (r .kind)) (kindOf event)
+              (nameOf (content-outcome .read y .value .0)) (contextOf (readerMemory work text) st .learned)
+          unfolding learnt
+          taught-same =
+              rw (← teaches-same)
+              (split (teachesHere (g .state) r)
+              (λ t. rw (name-is t))
+              (λ f. rw f))
+
+          -- What the grammars then leave is what the event leaves.
+          next-grown : grownContext s (contextOf (readerMemory work₁ text₁) (g .state)) event (teachesHere (g .state) r)
+              (carriedName (readerMemory work₁ text₁) (kindOf event) (g .row))
+              ≡ leaves
+          unfolding grownContext after
+          next-grown = rw (strings-context, taught-same, strings-tables, event-code .taught-is)
+
+          growth : Growth s (readerMemory work₁ text₁) (readerMemory (withGrowth work₁ (g .state) (r .kind) (teachesHere (g .state) r) (g .row)) text₁) (g .state)
+              event (teachesHere (g .state) r) (carriedName (readerMemory work₁ text₁) (kindOf event) (g .row)) (grownBy work₁ (g .state) r (g .row))
           unfolding grownBy
-          growth = grow-means strings-grow refl refl (record { origin = refl; size = refl; store = refl })
+          growth = grow-means s strings-grow refl refl (record { origin = refl; size = refl; store = refl })
 
           cells : Cells work₁ (withGrowth work₁ (g .state) (r .kind) (teachesHere (g .state) r) (g .row)) (g .state) (grownBy work₁ (g .state) r (g .row))
           unfolding grownBy
@@ -318,9 +362,9 @@ module _ {s : Settings} {stream events text work : List ℕ} {st : State} {r : D
           unfolding grownBy
           above = grown-above (g .state) (r .kind) (g .row) _ (teachesHere (g .state) r) refl
 
-          grammars-within : withinGrammars (next s (contextOf (readerMemory work text) st) (eventText (content-outcome .read y .value)))
+          grammars-within : withinGrammars sizes leaves
               ≡ grownBy work₁ (g .state) r (g .row) .ok
-          grammars-within = sym (growth .within ∙ ap withinGrammars next-grown)
+          grammars-within = sym (growth .within ∙ ap (withinGrammars sizes) next-grown)
 
         pub settle-asks : SettleFits work₁ (g .state) r (g .row)
         settle-asks = record { newest = newest-asks strings-standing; grows = λ strict. grow-asks (strings-grow strict) }
@@ -337,7 +381,7 @@ module _ {s : Settings} {stream events text work : List ℕ} {st : State} {r : D
 
         module _ {work₂ text₂ : List ℕ} (w : work₂ ≡ undoneWork (withSettled work₁ (g .state) r (g .row)) (reached st (r .at) (st .events)))
             (t : text₂ ≡ undoneText text₁ (reached st (r .at) (st .events))) where
-          taken-back : withSettled work₁ (g .state) r (g .row) ≡ work₁ → {number : ℕ} → Declined (step s (contextOf (readerMemory work text) st)) stream (st .at) number
+          taken-back : withSettled work₁ (g .state) r (g .row) ≡ work₁ → {number : ℕ} → Declined (step sizes s (contextOf (readerMemory work text) st)) stream (st .at) number
               → Step s stream events text work st events text₂ work₂ (record { number = number; state = st })
           taken-back same d =
               let c = reached-clear (r .at) (st .events) (ready .clear) in
@@ -366,9 +410,9 @@ module _ {s : Settings} {stream events text work : List ℕ} {st : State} {r : D
           abbrev grownWork : List ℕ
           grownWork = withGrowth work₁ (g .state) (r .kind) (teachesHere (g .state) r) (g .row)
 
-          module _ {events′ : List ℕ} (stored : events′ ≡ take (7 * st .events) events ++ cellsOf (meaning (g .event)) ++ drop (7 * st .events + 7) events) where
-            event-done : Done s events text work st events′ text₁ grownWork (record { number = 0; state = reached grownState (grownState .at) (st .events + 1) })
-                (content-outcome .read y .value)
+          module _ {events′ : List ℕ} (stored : events′ ≡ take (9 * st .events) events ++ cellsOf (meaning (g .event)) ++ drop (9 * st .events + 9) events) where
+            event-done : Done events text work st events′ text₁ grownWork (record { number = 0; state = reached grownState (grownState .at) (st .events + 1) })
+                (content-outcome .read y .value .0, leaves)
             unfolding withEvent
             event-done =
                 record {
@@ -388,17 +432,17 @@ module _ {s : Settings} {stream events text work : List ℕ} {st : State} {r : D
             event-step =
                 record {
                   outcome = subst
-                      (λ q. Outcome (step s (contextOf (readerMemory work text) st)) stream (st .at) 0 q
-                      (Done s events text work st events′ text₁ grownWork (record { number = 0; state = reached grownState (grownState .at) (st .events + 1) })))
+                      (λ q. Outcome (step sizes s (contextOf (readerMemory work text) st)) stream (st .at) 0 q
+                      (Done events text work st events′ text₁ grownWork (record { number = 0; state = reached grownState (grownState .at) (st .events + 1) })))
                       (sym (growth strict .at))
                       (outcome-then _ (code .outcome .read z) (outcome-then _ (content-outcome .read y)
                       (need-passed _ loose (event-code strict .same) (need-passed _ limit (grammars-within strict ∙ ok)
-                      (return-outcome (content-outcome .read y .value) event-done (content-outcome .read y .inside))))));
+                      (return-outcome (content-outcome .read y .value .0, leaves) event-done (content-outcome .read y .inside))))));
                   unchanged = λ l. absurd (omega arith);
                 }
 
         pub done-step : settled work₁ (g .state) r (g .row) .number ≡ 0 → {events′ work₂ : List ℕ}
-            → events′ ≡ take (7 * st .events) events ++ cellsOf (meaning (g .event)) ++ drop (7 * st .events + 7) events
+            → events′ ≡ take (9 * st .events) events ++ cellsOf (meaning (g .event)) ++ drop (9 * st .events + 9) events
             → work₂ ≡ withSettled work₁ (g .state) r (g .row)
             → Step s stream events text work st events′ text₁ work₂
             (record { number = 0; state = reached (settled work₁ (g .state) r (g .row) .state) (settled work₁ (g .state) r (g .row) .state .at) (st .events + 1) })

@@ -6,11 +6,11 @@ use mathlib.Core.List.{List, _++_}
 use lib.ListN.{length, getD, take, drop}
 use lib.Dec.{ltb}
 use Rattle.spec_exi.specs.Event.{Event, mapEvent}
-use Rattle.spec_exi.specs.Sizes.{maxStream, maxStore, maxEvents, eventCells}
+use Rattle.spec_exi.specs.Sizes.{sizes, maxStream, maxStore, maxEvents, eventCells}
 use Rattle.spec_exi.specs.Settings.{Settings}
 use Rattle.spec_exi.specs.Tables.{Placed, spanOf}
-use Rattle.spec_exi.specs.Context.{next}
-use Rattle.spec_exi.specs.Reader.{step, eventText}
+use Rattle.spec_exi.specs.Context.{Context}
+use Rattle.spec_exi.specs.Reader.{step}
 use Rattle.event.specs.Cells.{cellsOf}
 use Rattle.rows.specs.declared.Found.the-variants.{At}
 use Rattle.rows.specs.Rows.{rows}
@@ -71,12 +71,13 @@ pub record StepReady (stream events text work : List ℕ) (st : State) : Type 0 
 
 -- The cells with the event behind those of the events before.
 unfoldable pub withEvent : List ℕ → State → Event Placed → List ℕ
-withEvent events st e = take (7 * st .events) events ++ cellsOf (mapEvent spanOf e) ++ drop (7 * st .events + 7) events
+withEvent events st e =
+    take (9 * st .events) events ++ cellsOf (mapEvent spanOf e) ++ drop (9 * st .events + 9) events
 
--- The event e was read: its cells, and memory and state mean what it leaves.
-pub record Done (s : Settings) (events text work : List ℕ) (st : State) (events′ text′ work′ : List ℕ) (r : Stepped) (e : Event Placed) : Type 0 where
-  pub cells : events′ ≡ withEvent events st e
-  pub context : contextOf (readerMemory work′ text′) (r .state) ≡ next s (contextOf (readerMemory work text) st) (eventText e)
+-- An event was read: its cells, and memory and state mean what it leaves.
+pub record Done (events text work : List ℕ) (st : State) (events′ text′ work′ : List ℕ) (r : Stepped) (v : Event Placed × Context) : Type 0 where
+  pub cells : events′ ≡ withEvent events st (v .0)
+  pub context : contextOf (readerMemory work′ text′) (r .state) ≡ v .1
   pub standing : Standing (readerMemory work′ text′) (r .state)
   pub clear : Clear work′ text′ (r .state)
   pub count : r .state .events ≡ st .events + 1
@@ -88,5 +89,5 @@ pub record Done (s : Settings) (events text work : List ℕ) (st : State) (event
 
 -- By the definitions' step at the state's position. A refused step leaves everything as it was.
 pub record Step (s : Settings) (stream events text work : List ℕ) (st : State) (events′ text′ work′ : List ℕ) (r : Stepped) : Type 0 where
-  pub outcome : Outcome (step s (contextOf (readerMemory work text) st)) stream (st .at) (r .number) (r .state .at) (Done s events text work st events′ text′ work′ r)
+  pub outcome : Outcome (step sizes s (contextOf (readerMemory work text) st)) stream (st .at) (r .number) (r .state .at) (Done events text work st events′ text′ work′ r)
   pub unchanged : 0 < r .number → (r .state ≡ st) × (events′ ≡ events) × (text′ ≡ text) × (work′ ≡ work)

@@ -4,11 +4,14 @@ ghost use mathlib.Core.Path.{_≡_};
 ghost use Rattle.fitting.specs.Fitting.{NewestFits};
 ghost use Rattle.settings.specs.Meant.{settingsFrom};
 ghost use Rattle.read_event.specs.Step.{looseIn, SettleFits, settled, withSettled, StepReady, Step};
+use event_code::CH;
+use event_code::SE;
 use read_code::Decoded;
 use refusal::LIMIT;
 use refusal::LOOSE;
 use rows::Found;
 use settings::Settings;
+use sizes::CELLS_PER_EVENT;
 use state::State;
 
 // The number of the event's refusal or 0, and the state behind the event.
@@ -26,7 +29,7 @@ fn is_loose(st: State, code: Decoded, row: u32, work: &[u32]) -> bool
         return false;
     }
     let kind = code.kind;
-    if (kind < 2) | (5 < kind) {
+    if (kind < SE) | (CH < kind) {
         return false;
     }
     let newer = fitting::newest(st, kind, Found::At { number: 0, row }, work);
@@ -94,7 +97,7 @@ pub fn step(
         };
     }
     let event = got.event;
-    event::store(event, events, 7 * st.events);
+    event::store(event, events, CELLS_PER_EVENT * st.events);
     let mut state = settled.state;
     state.events = st.events + 1;
     Stepped { number: 0, state }

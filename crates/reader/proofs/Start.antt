@@ -6,6 +6,7 @@ use Prim.Native.Nat.{ℕ, suc, _+_, _*_, _≤_, _<_}
 use native.Mathlib.Omega.{arith}
 use lib.ListN.{length, getD, replicate}
 use Rattle.spec_exi.specs.Sizes.{maxUris, maxNames, maxValues, maxLearned, maxGrammars, maxStore, readerWork}
+use Rattle.spec_exi.specs.Settings.{Settings}
 use Rattle.spec_exi.specs.Context.{start}
 use Rattle.rows.specs.declared.Row.{Row}
 use Rattle.rows.specs.Rows.{withRow}
@@ -108,9 +109,10 @@ module _ {stream events text work : List ℕ} (h : StreamReady stream events tex
           first = refl;
         })
 
-    pub context-starts : contextOf (readerMemory work′ text′) st ≡ start
+    pub context-starts : (s : Settings) → contextOf (readerMemory work′ text′) st ≡ start s
     unfolding start startCounts
-    context-starts = rw (rows, laid, begins, start-context (readerMemory (withTables work 0) (withText text 0)) at 99 3 6, start-tables _ begun)
+    context-starts s =
+        rw (rows, laid, begins, start-context (readerMemory (withTables work 0) (withText text 0)) at 99 3 6, start-tables _ begun s)
 
     pub position : st .at ≡ at
     unfolding started

@@ -12,9 +12,9 @@ use Rattle.spec_fields.specs.Refusal.{Refusal, numberOf, room, settings, long, 
 use Rattle.spec_fields.proofs.Tests.{split}
 use Rattle.spec_exi.specs.Settings.{meaningful, settingsOf, headerOf}
 use Rattle.spec_exi.specs.Settings as format
-use Rattle.spec_exi.specs.Sizes.{maxStream, maxEvents, maxStore, cellsPerEvent, eventCells, readerWork}
+use Rattle.spec_exi.specs.Sizes.{sizes, maxStream, maxEvents, maxStore, cellsPerEvent, eventCells, readerWork}
 use Rattle.spec_exi.specs.Context.{start}
-use Rattle.spec_exi.specs.Reader.{Reading, readReply, readEvents, readBody, readStream, enoughToRead}
+use Rattle.spec_exi.specs.Reader.{Reading, readReply, readEvents, readBody, readStream, enoughToRead, readSized}
 use Rattle.spec_exi.specs.Reader as format-reader
 use Rattle.state.specs.declared.State.{State}
 use Rattle.standing.specs.Standing.{contextOf}
@@ -51,7 +51,7 @@ answered-as r e a b c h = rw (← e, ← a, ← b, ← c) h
 
 module _ (s : format.Settings) {stream : List ℕ} {p : Passed} (passes : Passes (headerOf s) stream p) where
   pub header-refused : {events text work : List ℕ} → StreamReady stream events text work → (p .number ≡ 0 → ⊥) → {r : declared.ReadReply} → r ≡ refusalOf (p .number) 0
-      → Answered (readStream s stream) (length events) (length text) (length work) events text work r
+      → Answered (readStream sizes s stream) (length events) (length text) (length work) events text work r
   unfolding readStream readBody
   header-refused {events} {text} {work} h some is =
       let d = passes .outcome .refused (omega (arith, some)) in
@@ -61,12 +61,12 @@ module _ (s : format.Settings) {stream : List ℕ} {p : Passed} (passes : Passes
     pub header-inside : p .at ≤ 8 * length stream
     header-inside = passes .outcome .read none .inside
 
-    pub header-passed : (work text : List ℕ) (st : State) → st .at ≡ p .at → contextOf (readerMemory work text) st ≡ start
-        → answerFrom s stream text work st ≡ readStream s stream
+    pub header-passed : (work text : List ℕ) (st : State) → st .at ≡ p .at → contextOf (readerMemory work text) st ≡ start s
+        → answerFrom s stream text work st ≡ readStream sizes s stream
     unfolding readStream readBody
     header-passed work text st place begins =
-        let answer : answerFrom s stream text work st ≡ readEvents maxEvents s start (drop (p .at) (unpack stream)) =
-        ap₂ (λ c n. readEvents maxEvents s c (drop n (unpack stream))) begins place in
+        let answer : answerFrom s stream text work st ≡ readEvents maxEvents sizes s (start s) (drop (p .at) (unpack stream)) =
+        ap₂ (λ c n. readEvents maxEvents sizes s c (drop n (unpack stream))) begins place in
         answer ∙ rw (passes .outcome .read none .result)
 
 -- ---- what is lent
@@ -86,7 +86,7 @@ fits a b c k m n e =
     (λ g. (ltb-false a k f, ltb-false b m g, ltb-false c n (rw (f, g) at e))))
 
 abbrev short : List ℕ → List ℕ → List ℕ → Bool
-short events text work = ltb (length events) 28672 || ltb (length text) 16384 || ltb (length work) 4096
+short events text work = ltb (length events) 36864 || ltb (length text) 16384 || ltb (length work) 4096
 
 -- Everything that is lent is cleared, and tested then.
 module _ (s : SettingNumbers) (stream events text work : List ℕ) {events₁ text₁ work₁ : List ℕ}
@@ -100,31 +100,31 @@ module _ (s : SettingNumbers) (stream events text work : List ℕ) {events₁ te
   same-work : length work₁ ≡ length work
   same-work = ap length w ∙ length-replicate {A = ℕ} (length work) 0
 
-  lent : (leb 28672 (length events) && leb 16384 (length text) && leb 4096 (length work)) ≡ not (short events₁ text₁ work₁)
-  lent = rw (← same-events, ← same-text, ← same-work) (enough (length events₁) (length text₁) (length work₁) 28672 16384 4096)
+  lent : (leb 36864 (length events) && leb 16384 (length text) && leb 4096 (length work)) ≡ not (short events₁ text₁ work₁)
+  lent = rw (← same-events, ← same-text, ← same-work) (enough (length events₁) (length text₁) (length work₁) 36864 16384 4096)
 
   pub no-room : short events₁ text₁ work₁ ≡ true → {r : declared.ReadReply} → r ≡ refusalOf 1 0
       → Answered (answerOf s stream events text work) (length events) (length text) (length work) events₁ text₁ work₁ r
-  unfolding answerOf format-reader.read enoughToRead eventCells cellsPerEvent maxEvents maxStore readerWork numberOf
+  unfolding answerOf format-reader.read readSized enoughToRead eventCells cellsPerEvent maxEvents maxStore readerWork numberOf
   no-room f is = answered-refused _ _ (length work) room 1 (rw (lent, f)) refl is e t w
 
   module _ (few : short events₁ text₁ work₁ ≡ false) {asked : Bool} (meant : asked ≡ meaningful (numbersOf s)) where
     pub no-meaning : not asked ≡ true → {r : declared.ReadReply} → r ≡ refusalOf 2 0
         → Answered (answerOf s stream events text work) (length events) (length text) (length work) events₁ text₁ work₁ r
-    unfolding answerOf format-reader.read enoughToRead eventCells cellsPerEvent maxEvents maxStore readerWork numberOf
+    unfolding answerOf format-reader.read readSized enoughToRead eventCells cellsPerEvent maxEvents maxStore readerWork numberOf
     no-meaning f is = answered-refused _ _ (length work) settings 2 (rw (lent, few, ← meant, f)) refl is e t w
 
     module _ (fine : not asked ≡ false) where
       pub too-long : 16384 < length stream → {r : declared.ReadReply} → r ≡ refusalOf 3 0
           → Answered (answerOf s stream events text work) (length events) (length text) (length work) events₁ text₁ work₁ r
-      unfolding answerOf format-reader.read enoughToRead eventCells cellsPerEvent maxEvents maxStore readerWork maxStream numberOf
+      unfolding answerOf format-reader.read readSized enoughToRead eventCells cellsPerEvent maxEvents maxStore readerWork maxStream numberOf
       too-long l is = answered-refused _ _ (length work) long 3 (rw (lent, few, ← meant, fine, lt-leb (length stream) 16384 l)) refl is e t w
 
       module _ (small : length stream ≤ 16384) where
         pub stream-asks : StreamReady stream events₁ text₁ work₁
         unfolding eventCells cellsPerEvent maxEvents maxStore readerWork maxStream
         stream-asks =
-            let (a, b, c) = fits (length events₁) (length text₁) (length work₁) 28672 16384 4096 few in
+            let (a, b, c) = fits (length events₁) (length text₁) (length work₁) 36864 16384 4096 few in
             record {
               size = small;
               cells = a;
@@ -135,13 +135,13 @@ module _ (s : SettingNumbers) (stream events text work : List ℕ) {events₁ te
               noWork = rw same-work w;
             }
 
-        answer-stream : answerOf s stream events text work ≡ readStream (settingsOf (numbersOf s)) stream
-        unfolding answerOf format-reader.read enoughToRead eventCells cellsPerEvent maxEvents maxStore readerWork maxStream
+        answer-stream : answerOf s stream events text work ≡ readStream sizes (settingsOf (numbersOf s)) stream
+        unfolding answerOf format-reader.read readSized enoughToRead eventCells cellsPerEvent maxEvents maxStore readerWork maxStream
         answer-stream = rw (lent, few, ← meant, fine, le-leb (length stream) 16384 small)
 
         pub stream-answered : {o : Settings} {events′ text′ work′ : List ℕ} (r : declared.ReadReply) → o ≡ settingsMeant s
-            → Answered (readStream (settingsFrom o) stream) (length events₁) (length text₁) (length work₁) events′ text′ work′ r
+            → Answered (readStream sizes (settingsFrom o) stream) (length events₁) (length text₁) (length work₁) events′ text′ work′ r
             → Answered (answerOf s stream events text work) (length events) (length text) (length work) events′ text′ work′ r
         stream-answered r o-is a =
-            answered-as r (ap (λ o. readStream (settingsFrom o) stream) o-is ∙ ap (λ x. readStream x stream) (settings-from s) ∙ sym answer-stream)
+            answered-as r (ap (λ o. readStream sizes (settingsFrom o) stream) o-is ∙ ap (λ x. readStream sizes x stream) (settings-from s) ∙ sym answer-stream)
             same-events same-text same-work a

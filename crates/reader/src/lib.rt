@@ -2,6 +2,7 @@
 // specs/Read.antt and crates/read_body/specs/Reply.antt and, for the answer itself, in crates/spec_exi/specs/Reader.antt.
 ghost use mathlib.Core.Path.{_≡_};
 ghost use lib.ListN.{length, replicate};
+ghost use Rattle.spec_exi.specs.Sizes.{sizes};
 ghost use Rattle.spec_exi.specs.Reader.{readStream, readReply};
 ghost use Rattle.settings.specs.Meant.{settingsFrom};
 ghost use Rattle.read_body.specs.Reply.{replyOf, eventsFilled, textFilled};
@@ -12,6 +13,10 @@ use refusal::ROOM;
 use refusal::SETTINGS;
 use settings::SettingNumbers;
 use settings::Settings;
+use sizes::EVENT_CELLS;
+use sizes::MAX_STORE;
+use sizes::MAX_STREAM;
+use sizes::READER_WORK;
 
 // The header and the events, with the initial entries in tables and store. Where the header is refused, everything is left as it was: zero.
 fn read_stream(
@@ -22,9 +27,9 @@ fn read_stream(
     work: &mut [u32],
 ) -> ReadReply
     requires { ⌜ StreamReady (now stream) (now events) (now text) (now work) ⌝ }
-    ensures { λ r. ⌜ replyOf r ≡ readReply (readStream (settingsFrom o) (now (stream .entry))) ⌝ }
-    ensures { λ r. ⌜ now (events .exit) ≡ eventsFilled (length (now (events .entry))) (readStream (settingsFrom o) (now (stream .entry))) ⌝ }
-    ensures { λ r. ⌜ now (text .exit) ≡ textFilled (length (now (text .entry))) (readStream (settingsFrom o) (now (stream .entry))) ⌝ }
+    ensures { λ r. ⌜ replyOf r ≡ readReply (readStream sizes (settingsFrom o) (now (stream .entry))) ⌝ }
+    ensures { λ r. ⌜ now (events .exit) ≡ eventsFilled (length (now (events .entry))) (readStream sizes (settingsFrom o) (now (stream .entry))) ⌝ }
+    ensures { λ r. ⌜ now (text .exit) ≡ textFilled (length (now (text .entry))) (readStream sizes (settingsFrom o) (now (stream .entry))) ⌝ }
     ensures { λ r. ⌜ now (work .exit) ≡ replicate (length (now (work .entry))) 0 ⌝ }
 {
     let h = read_header::read_header(o, stream);
@@ -53,13 +58,13 @@ pub fn read(
     clear::cells(events);
     clear::cells(text);
     clear::cells(work);
-    if (events.len() < 28672) | (text.len() < 16384) | (work.len() < 4096) {
+    if (events.len() < EVENT_CELLS) | (text.len() < MAX_STORE) | (work.len() < READER_WORK) {
         return read_body::refused(ROOM, 0);
     }
     if !settings::are_meaningful(s) {
         return read_body::refused(SETTINGS, 0);
     }
-    if 16384 < stream.len() {
+    if MAX_STREAM < stream.len() {
         return read_body::refused(LONG, 0);
     }
     read_stream(settings::settings_of(s), stream, events, text, work)

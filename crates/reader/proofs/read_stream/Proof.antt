@@ -55,7 +55,7 @@ returns-2 c = let e = c .before .before .before .before .before .before in
     answered-as _
     (header-passed (settingsFrom (a .args .o)) (h .read-header .ensures) (r .before .before .if1 .left) _ _ _
     (position (a .pre) p (r .lay-rows .ensures) (t .lay-text .ensures) (b .start .ensures))
-    (context-starts (a .pre) p (r .lay-rows .ensures) (t .lay-text .ensures) (b .start .ensures)))
+    (context-starts (a .pre) p (r .lay-rows .ensures) (t .lay-text .ensures) (b .start .ensures) (settingsFrom (a .args .o))))
     refl (e .before .before .before .before .before .before .text .given) (t .before .before .before .work .given) (e .read-events .ensures)
 
 pub read-stream-spec : {M : Type 1} → statement M
