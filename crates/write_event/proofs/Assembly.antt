@@ -67,8 +67,10 @@ unfolding kindOf nameOf kindNumber carriedName
 name-entries {m} {c} t startDocument i h = refl
 name-entries {m} {c} t endDocument i h = refl
 name-entries {m} {c} t endElement i h = refl
-name-entries {m} {c} t (startElement q) i h = numbered-entries m c t (startElement q) i (h (omega arith) (omega arith))
-name-entries {m} {c} t (attribute q v) i h = numbered-entries m c t (attribute q v) i (h (omega arith) (omega arith))
+name-entries {m} {c} t (startElement q) i h =
+    numbered-entries m c t (startElement q) i (h (omega arith) (omega arith))
+name-entries {m} {c} t (attribute q v) i h =
+    numbered-entries m c t (attribute q v) i (h (omega arith) (omega arith))
 name-entries {m} {c} t (characters v) i h = refl
 name-entries {m} {c} t (comment x) i h = refl
 name-entries {m} {c} t (instruction x y) i h = refl

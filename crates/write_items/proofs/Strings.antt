@@ -5,7 +5,7 @@ use native.Mathlib.Decide.{decLe}
 use mathlib.Core.Path.{_≡_, refl, sym, subst}
 use mathlib.Core.Bool.{Bool, true, false, not, _||_}
 use mathlib.Core.List.{List, [], _∷_}
-use mathlib.Core.Option.{some, Option·some-ne-none}
+use mathlib.Core.Option.{Option·some-ne-none}
 use mathlib.Core.Logic.{inl, inr}
 use lib.ListN.{getD}
 use lib.Dec.{T, eqb}

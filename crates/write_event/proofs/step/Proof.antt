@@ -112,7 +112,7 @@ returns-4 c =
     let enc = code .put-event-code .ensures .encoded (not-false _ (coded .if1 .left)) in
     let grows = items-grow enc (sent .put-items .ensures) stand (whole .if3 .left) (grown .before .before .kind-of .ensures ∙ sym (ap kindNumber (same-kind _ _))) in
     rw (c .refused4 .ensures) (limit-step _ _ enc stand (sym (inside .before .all-inside .ensures) ∙ not-false _ (inside .if2 .left)) (sent .put-items .ensures) (whole .if3 .left)
-    (grow-writer _ grows (grown .grow .ensures .0) (grown .grow .ensures .1))
+    (grow-writer (settingsFrom (code .before .before .before .before .before .before .args .o)) grows (grown .grow .ensures .0) (grown .grow .ensures .1))
     (not-true _ (full .if4 .taken))
     (grown-refused _ _ _ _ _ (grown .grow .ensures .0) (grown .grow .ensures .1) (not-true _ (full .if4 .taken))))
 
@@ -134,7 +134,7 @@ returns-5 c =
     let stand = code .before .before .before .before .before .before .pre .standing in
     let enc = code .put-event-code .ensures .encoded (not-false _ (coded .if1 .left)) in
     done-step _ _ enc stand (sym (inside .before .all-inside .ensures) ∙ not-false _ (inside .if2 .left)) (sent .put-items .ensures) (whole .if3 .left)
-    (grow-writer _ (items-grow enc (sent .put-items .ensures) stand (whole .if3 .left) (grown .before .before .kind-of .ensures ∙ sym (ap kindNumber (same-kind _ _))))
+    (grow-writer (settingsFrom (code .before .before .before .before .before .before .args .o)) (items-grow enc (sent .put-items .ensures) stand (whole .if3 .left) (grown .before .before .kind-of .ensures ∙ sym (ap kindNumber (same-kind _ _))))
     (grown .grow .ensures .0) (grown .grow .ensures .1))
     (grown-above _ _ _ _ _ (grown .grow .ensures .0)) (not-false _ (c .before .if4 .left))
 
