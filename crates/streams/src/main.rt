@@ -95,14 +95,22 @@ fn named(line: &[u8], at: usize, name: &[u8]) -> Numeral {
     parse::number(line, from, 10)
 }
 
-// A bound behind a name, as one more; 0 where the name is not there. The largest stays as it is.
+// The largest number stays as it is.
+fn one_more(n: u32) -> u32 {
+    if n < u32::MAX {
+        return n + 1;
+    }
+    n
+}
+
+// A bound behind a name, as one more; 0 where the name is not there.
 fn bound(line: &[u8], at: usize, name: &[u8]) -> Numeral {
     let n = named(line, at, name);
-    if (n.next == at) | (n.value == u32::MAX) {
+    if n.next == at {
         return n;
     }
     Numeral {
-        value: n.value + 1,
+        value: one_more(n.value),
         next: n.next,
     }
 }
