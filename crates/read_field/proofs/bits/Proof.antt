@@ -1,51 +1,80 @@
--- `read_field::bits` meets its contract: n bits are the first of the 8 or 16 bits ahead.
+-- `read_field::bits` meets its contract: n bits are cut out of the window of three octets.
 use native.Mathlib.Omega.{arith}
-use Rattle.read_field.proofs.Numbers.{bits-past, one-peek, two-peeks}
+use lib.Pow.{pow-pos}
+use Rattle.read_field.proofs.Window.{power}
+use Rattle.read_field.proofs.Numbers.{bits-past, bits-cut}
+use borrow.Author.Needs.{needs}
 use Rattle.read_field.proofs.bits.Statement.{statement}
 use Rattle.read_field.proofs.bits.Tie as tie
 
 add-next : tie.Need-add-next
-add-next c = omega arith
+add-next c = search needs
 
 mul-if1 : tie.Need-mul-if1
-mul-if1 c = omega arith
+mul-if1 c = search needs
 
 returns : tie.Need-returns
 returns c = bits-past _ _ _ (c .before .before .pre .there) (c .if1 .taken)
 
-peek-requires : tie.Need-peek-requires
-peek-requires c κs = tt
+octet-before-requires : tie.Need-octet-before-requires
+octet-before-requires c κs = search needs
 
-shr-t12 : tie.Need-shr-t12
-shr-t12 c = omega arith
+sub-octet-before : tie.Need-sub-octet-before
+sub-octet-before c = search needs
 
-returns-2 : tie.Need-returns-2
-returns-2 c = one-peek _ _ _ (c .peek .ensures) (c .before .if2 .taken) (c .before .before .if1 .left)
+add-octet-before : tie.Need-add-octet-before
+add-octet-before c = search needs
 
-peek-requires-2 : tie.Need-peek-requires-2
-peek-requires-2 c κs = tt
+octet-before-requires-2 : tie.Need-octet-before-requires-2
+octet-before-requires-2 c κs = search needs
 
-add-peek : tie.Need-add-peek
-add-peek c = omega arith
+sub-octet-before-2 : tie.Need-sub-octet-before-2
+sub-octet-before-2 c = search needs
 
-peek-requires-3 : tie.Need-peek-requires-3
-peek-requires-3 c κs = tt
+add-octet-before-2 : tie.Need-add-octet-before-2
+add-octet-before-2 c = search needs
 
-mul-t13 : tie.Need-mul-t13
-mul-t13 c = omega arith
+octet-before-requires-3 : tie.Need-octet-before-requires-3
+octet-before-requires-3 c κs = search needs
 
-add-t14 : tie.Need-add-t14
-add-t14 c = omega arith
+mul-window : tie.Need-mul-window
+mul-window c = search needs
+
+mul-window-2 : tie.Need-mul-window-2
+mul-window-2 c = search needs
+
+add-window : tie.Need-add-window
+add-window c = search needs
+
+add-window-2 : tie.Need-add-window-2
+add-window-2 c = search needs
+
+cast-t13 : tie.Need-cast-t13
+cast-t13 c = search needs
 
 sub-t15 : tie.Need-sub-t15
-sub-t15 c = omega arith
+sub-t15 c = search needs
+
+sub-t14 : tie.Need-sub-t14
+sub-t14 c = search needs
 
 shr-t16 : tie.Need-shr-t16
-shr-t16 c = omega arith
+shr-t16 c = search needs
 
-returns-3 : tie.Need-returns-3
-returns-3 c = let b = c .before .before .before in
-    two-peeks _ _ _ (c .before .peek2 .ensures) (c .peek3 .ensures) (b .before .before .pre .small) (b .if1 .left)
+shl-t17 : tie.Need-shl-t17
+shl-t17 c = search needs
+
+sub-t18 : tie.Need-sub-t18
+sub-t18 c =
+    let n = c .before .before .before .before .before .args .n in
+    rw (power n (omega arith)) (pow-pos n)
+
+returns-2 : tie.Need-returns-2
+returns-2 c =
+    let b = c .before .before .before in
+    bits-cut _ _ _ (b .before .before .pre .small) (b .if1 .left)
+    (c .before .before .octet-before .ensures) (c .before .octet-before2 .ensures)
+    (c .octet-before3 .ensures)
 
 pub bits-spec : {M : Type 1} → statement M
 bits-spec =
@@ -54,14 +83,21 @@ bits-spec =
     add-next
     mul-if1
     returns
-    peek-requires
-    shr-t12
-    returns-2
-    peek-requires-2
-    add-peek
-    peek-requires-3
-    mul-t13
-    add-t14
+    octet-before-requires
+    sub-octet-before
+    add-octet-before
+    octet-before-requires-2
+    sub-octet-before-2
+    add-octet-before-2
+    octet-before-requires-3
+    mul-window
+    mul-window-2
+    add-window
+    add-window-2
+    cast-t13
     sub-t15
+    sub-t14
     shr-t16
-    returns-3)
+    shl-t17
+    sub-t18
+    returns-2)
