@@ -5,8 +5,10 @@ use Prim.Native.Nat.{ℕ, zero, suc, _+_, _*_, _-_, _/_, _%_, _^_, _≤_, _<_}
 use native.Mathlib.Nat.{lt-of-lt-of-le, mul-assoc, mul-mod-left}
 use native.Mathlib.Omega.{arith}
 use mathlib.Core.Bool.{false}
-use mathlib.Core.List.{List, _++_, append-nil}
-use lib.ListN.{length, replicate, length-replicate}
+use mathlib.Core.List.{List, [], _++_, append-nil}
+use lib.ListN.{length, getD, replicate, length-replicate}
+use mir.Syntax.{w8}
+use mir.Val.{Fits}
 use lib.Pow.{pow-mono, pow-pos, pow-add, shl-lt, shl-exact, shr-lt}
 use lib.Bits.{bitAnd, and-mask, mask-lt}
 use lib.Dec.{T}
@@ -16,7 +18,7 @@ use Rattle.spec_fields.specs.Field.{width, choiceBits}
 use Rattle.spec_fields.proofs.Number.{length-bits, bits-of-value, width-enough, width-least}
 use Rattle.write_field.specs.Written.{written, blankFrom, Put, farthest}
 use Rattle.write_field.specs.Written.{NumberFits, ChoiceFits, ShortFits}
-use Rattle.write_field.proofs.Written.{written-zeros, put-then, put-blank}
+use Rattle.write_field.proofs.Written.{written-zeros, put-then, put-blank, put-nothing}
 use Rattle.write_field.proofs.Octet.{value-zeros, bits-join}
 
 -- ---- a window of three octets: the bits of the first one that are used, n bits, and zeros
@@ -91,67 +93,89 @@ module _ (at n v : ℕ) (small : n ≤ 16) (fits : v < 2 ^ n) where
 
 -- ---- n bits
 
+-- Octets, as a slice holds them.
+abbrev Known : List ℕ → Type 0
+Known os = (i : ℕ) → Fits w8 (getD os i 0)
+
+-- Zeros change nothing.
+put-zeros : {buf : List ℕ} {at o : ℕ} (n : ℕ) → Known buf → T (blankFrom buf at) → o ≡ 0
+    → Put buf at (bitsOf n o) buf (at + n)
+put-zeros {buf} {at} {o} n known t e =
+    let w : written buf at (bitsOf n o) ≡ written buf at [] =
+    rw (e, bits-zero n) (written-zeros buf at [] n) in
+    record { octets = put-nothing known t .octets ∙ sym w; next = omega (arith, length-bits n o) }
+
 -- What `put_bits` asks.
 abbrev pub BitsFit : List ℕ → ℕ → ℕ → ℕ → Type 0
 BitsFit buf at n v = T (blankFrom buf at) × (at ≤ farthest + 40) × (n ≤ 16) × (v < 2 ^ n)
 
 module _ (buf : List ℕ) {at n v : ℕ} (h : BitsFit buf at n v) where
-  pub first-asks : ShortFits buf at (8 - at % 8) (first at n v) × (at + n ≤ at → first at n v ≡ 0)
-  first-asks = (
-    record {
-      blank = h .0;
-      near = omega arith;
-      narrow = omega arith;
-      fits = first-fits at n v (h .2) (h .3);
-    },
-    λ l. first-none at n v (h .2) (h .3) (omega arith),
-  )
+  pub first-asks : ShortFits buf at (8 - at % 8) (first at n v)
+  first-asks =
+      record {
+        blank = h .0;
+        near = omega arith;
+        narrow = omega arith;
+        fits = first-fits at n v (h .2) (h .3);
+      }
 
   module _ {mid : List ℕ} {p : ℕ} (a : Put buf at (bitsOf (8 - at % 8) (first at n v)) mid p) where
     second-at : p ≡ at - at % 8 + 8
     second-at = omega (arith, a .next, length-bits (8 - at % 8) (first at n v))
 
-    second-eight : 8 - p % 8 ≡ 8
-    second-eight = omega (arith, second-at)
+    second-whole : 8 - p % 8 ≡ 8
+    second-whole = omega (arith, second-at)
 
-    pub second-asks : ShortFits mid p (8 - p % 8) (second at n v) × (at + n ≤ p → second at n v ≡ 0)
-    second-asks = (
-      record {
-        blank = put-blank a;
-        near = omega (arith, second-at);
-        narrow = omega arith;
-        fits = rw second-eight (mask-lt (window at n v / 256) 8);
-      },
-      λ l. second-none at n v (h .2) (h .3) (omega (arith, second-at)),
-    )
+    pub second-asks : ShortFits mid p (8 - p % 8) (second at n v)
+    second-asks =
+        record {
+          blank = put-blank a;
+          near = omega (arith, second-at);
+          narrow = omega arith;
+          fits = rw second-whole (mask-lt (window at n v / 256) 8);
+        }
 
     module _ {far : List ℕ} {q : ℕ} (b : Put mid p (bitsOf (8 - p % 8) (second at n v)) far q) where
       third-at : q ≡ at - at % 8 + 16
       third-at = omega (arith, second-at, b .next, length-bits (8 - p % 8) (second at n v))
 
-      third-eight : 8 - q % 8 ≡ 8
-      third-eight = omega (arith, third-at)
+      third-whole : 8 - q % 8 ≡ 8
+      third-whole = omega (arith, third-at)
 
-      pub third-asks : ShortFits far q (8 - q % 8) (third at n v) × (at + n ≤ q → third at n v ≡ 0)
-      third-asks = (
-        record {
-          blank = put-blank b;
-          near = omega (arith, third-at);
-          narrow = omega arith;
-          fits = rw third-eight (mask-lt (window at n v) 8);
-        },
-        λ l. third-none at n v (h .2) (h .3) (omega (arith, third-at)),
-      )
+      pub third-asks : ShortFits far q (8 - q % 8) (third at n v)
+      third-asks =
+          record {
+            blank = put-blank b;
+            near = omega (arith, third-at);
+            narrow = omega arith;
+            fits = rw third-whole (mask-lt (window at n v) 8);
+          }
 
-      pub put-parts : {after : List ℕ} {r : ℕ}
+      pub put-three : {after : List ℕ} {r : ℕ}
           → Put far q (bitsOf (8 - q % 8) (third at n v)) after r → Put buf at (bitsOf n v) after (at + n)
-      put-parts c =
-          let all = put-then a (rw second-eight at (put-then b (rw third-eight at c))) in
+      put-three c =
+          let all = put-then a (rw second-whole at (put-then b (rw third-whole at c))) in
           let w = ap (written buf at) (parts at n v (h .2) (h .3)) in
           record {
             octets = all .octets ∙ w ∙ written-zeros buf at (bitsOf n v) (behind at n);
             next = rw (length-bits n v);
           }
+
+      -- Where the field ends before a part, this part is zeros, and so are those behind it.
+      pub put-two : Known far → at + n ≤ q → Put buf at (bitsOf n v) far (at + n)
+      put-two known l =
+          let z = third-none at n v (h .2) (h .3) (omega (arith, third-at)) in
+          put-three (put-zeros (8 - q % 8) known (put-blank b) z)
+
+    pub put-one : Known mid → at + n ≤ p → Put buf at (bitsOf n v) mid (at + n)
+    put-one known l =
+        let z = second-none at n v (h .2) (h .3) (omega (arith, second-at)) in
+        put-two (put-zeros (8 - p % 8) known (put-blank a) z) known (omega (arith, second-at))
+
+  pub put-none : Known buf → at + n ≤ at → Put buf at (bitsOf n v) buf (at + n)
+  put-none known l =
+      let z = first-none at n v (h .2) (h .3) (omega arith) in
+      put-one (put-zeros (8 - at % 8) known (h .0) z) known (omega arith)
 
 -- ---- the fewest octets that hold n bits
 

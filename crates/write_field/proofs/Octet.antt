@@ -6,7 +6,7 @@ use mathlib.Core.Bool.{false}
 use mathlib.Core.List.{List, [], _∷_, _++_, append-nil}
 use lib.ListN.{length, drop, replicate, set, getD}
 use lib.ListN.{length-append, length-replicate, drop-of-length-le, length-drop}
-use lib.Seq.{drop-append-le, take-all, set-out, set-getD, getD-set-same}
+use lib.Seq.{drop-append-le, take-all, set-out, getD-set-same}
 use mir.Syntax.{w8}
 use mir.Val.{Fits}
 use lib.Dec.{T}
@@ -91,12 +91,6 @@ module _ {buf : List ℕ} {at o : ℕ} (known : (i : ℕ) → Fits w8 (getD buf 
   put-as : (after : List ℕ) → written buf at (bitsOf (8 - at % 8) o) ≡ after
       → Put buf at (bitsOf (8 - at % 8) o) after (at - at % 8 + 8)
   put-as after e = record { octets = sym e; next = omega (arith, length-bits (8 - at % 8) o) }
-
-  -- The field does not reach the octet.
-  pub put-unreached : o ≡ 0 → Put buf at (bitsOf (8 - at % 8) o) buf (at - at % 8 + 8)
-  put-unreached e =
-      let z : getD buf (at / 8) 0 + o ≡ getD buf (at / 8) 0 = omega arith in
-      put-as buf (stored ∙ ap (set buf (at / 8)) z ∙ set-getD buf (at / 8) 0)
 
   pub put-outside : length buf ≤ at / 8 → Put buf at (bitsOf (8 - at % 8) o) buf (at - at % 8 + 8)
   put-outside l = put-as buf (stored ∙ set-out buf (at / 8) (getD buf (at / 8) 0 + o) l)

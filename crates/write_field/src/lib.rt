@@ -13,17 +13,13 @@ fn wide(x: u8) -> u32
     x as u32
 }
 
-// The bits of o, from bit `place` to the end of its octet: none where a field that ends at bit
-// `end` does not reach the octet. Gives the position behind the octet.
-fn put_part(buf: &mut [u8], place: usize, end: usize, o: u32) -> usize
-    requires { ⌜ ShortFits (now buf) place (8 - place % 8) o × (end ≤ place → o ≡ 0) ⌝ }
+// The bits of o, from bit `place` to the end of its octet. Gives the position behind the octet.
+fn put_part(buf: &mut [u8], place: usize, o: u32) -> usize
+    requires { ⌜ ShortFits (now buf) place (8 - place % 8) o ⌝ }
     ensures { λ r. ⌜ Put (now (buf .entry)) place (bitsOf (8 - place % 8) o) (now (buf .exit)) r ⌝ }
 {
     let i = place / 8;
     let after = place - place % 8 + 8;
-    if end <= place {
-        return after;
-    }
     if buf.len() <= i {
         return after;
     }
@@ -38,9 +34,18 @@ fn put_bits(buf: &mut [u8], at: usize, n: u32, v: u32) -> usize
 {
     let next = at + n as usize;
     let window = v << (24 - (at % 8) as u32 - n);
-    let second = put_part(buf, at, next, window >> 16);
-    let third = put_part(buf, second, next, (window >> 8) & 255);
-    put_part(buf, third, next, window & 255);
+    if next <= at {
+        return next;
+    }
+    let second = put_part(buf, at, window >> 16);
+    if next <= second {
+        return next;
+    }
+    let third = put_part(buf, second, (window >> 8) & 255);
+    if next <= third {
+        return next;
+    }
+    put_part(buf, third, window & 255);
     next
 }
 
