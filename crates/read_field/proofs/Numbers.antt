@@ -17,9 +17,9 @@ use Rattle.spec_fields.proofs.Tests.{split}
 use Rattle.spec_fields.proofs.Pack.{length-unpack}
 use Rattle.read_field.specs.declared.Field.the-variants.{Value, Refused}
 use Rattle.read_field.specs.View.{fieldAt, InStream}
-use Rattle.read_field.specs.Parts.{ahead, Peeked}
+use Rattle.read_field.specs.Parts.{ahead, Octet, Peeked}
 use Rattle.read_field.proofs.Ahead.{ahead-there, ahead-add, ahead-bound}
-use Rattle.read_field.proofs.Window.{masked, Reached, window}
+use Rattle.read_field.proofs.Window.{masked, spare, window}
 use Rattle.read_field.proofs.View.{field-got, field-bad}
 
 times-bits : (n : ℕ) (bs : Bits) → n ≤ length bs → times n bit bs ≡ got (take n bs) (drop n bs)
@@ -116,15 +116,21 @@ module _ (s : List ℕ) (at : ℕ) where
       let e = bits-ended n (drop at (unpack s)) (omega (arith, left, h .place)) in
       sym (field-bad (numberField bitPacked n) s at ended e)
 
+  -- No bits.
+  pub bits-none : {n : ℕ} → n ≡ 0 → at + n ≤ 8 * length s
+      → Value 0 (at + n) ≡ fieldAt (numberField bitPacked n) s at
+  unfolding ahead valueOf
+  bits-none {n} e l =
+      sym (bits-there n l ∙ ap (λ k. Value (ahead k (drop at (unpack s))) (at + n)) e)
+
   -- n bits, cut out of a window of three octets.
-  pub bits-cut : (n : ℕ) {x y z : ℕ} → n ≤ 16 → at + n ≤ 8 * length s → Reached s at (at + n) x
-      → Reached s (at - at % 8 + 8) (at + n) y → Reached s (at - at % 8 + 16) (at + n) z
-      → Value (bitAnd ((x * 65536 + y * 256 + z) / 2 ^ (24 - at % 8 - n)) ((1 * 2 ^ n) % 2 ^ 32 - 1))
-      (at + n)
+  pub bits-cut : (n : ℕ) {x y z : ℕ} → 0 < n → n ≤ 16 → at + n ≤ 8 * length s → Octet s (at / 8) x
+      → Octet s ((at / 8 + (at + n - 1) / 8) / 2) y → Octet s ((at + n - 1) / 8) z
+      → Value (bitAnd ((x * 65536 + y * 256 + z) / 2 ^ spare at n) ((1 * 2 ^ n) % 2 ^ 32 - 1)) (at + n)
       ≡ fieldAt (numberField bitPacked n) s at
-  bits-cut n {x} {y} {z} h l hx hy hz =
-      let w = (x * 65536 + y * 256 + z) / 2 ^ (24 - at % 8 - n) in
-      rw (masked w n h, window s at n h hx hy hz) (sym (bits-there n l))
+  bits-cut n {x} {y} {z} p h l hx hy hz =
+      let w = (x * 65536 + y * 256 + z) / 2 ^ spare at n in
+      rw (masked w n h, window s at n p h hx hy hz) (sym (bits-there n l))
 
   -- ---- the octets that hold n bits are k: from the number of their bits
 

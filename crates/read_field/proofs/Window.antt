@@ -1,21 +1,19 @@
--- A field cut out of a window of three octets by a shift and a mask. Where it does not touch
--- an octet, the window may hold anything.
+-- A field cut out of a window of three octets by a shift and a mask.
 use mathlib.Core.Path.{_≡_, sym, ap, _∙_}
-use mathlib.Core.Bool.{cond}
-use mathlib.Core.List.{List, []}
-use Prim.Native.Nat.{ℕ, zero, suc, _+_, _*_, _-_, _/_, _%_, _^_, _≤_, _<_}
-use native.Mathlib.Nat.{mod-one}
+use mathlib.Core.List.{List}
+use Prim.Native.Nat.{ℕ, _+_, _*_, _-_, _/_, _%_, _^_, _≤_, _<_}
+use native.Mathlib.Nat.{mul-assoc, mul-add-mod-self-right}
 use native.Mathlib.Omega.{arith}
 use lib.ListN.{drop}
 use lib.Seq.{drop-drop}
-use lib.Pow.{shl-exact, shr-shr}
+use lib.Pow.{pow-add, field, shl-exact}
 use lib.Bits.{bitAnd, and-mask}
-use lib.Dec.{leb, ltb}
-use borrow.Author.Tests.{leb-true, leb-false, lt-ltb}
-use Rattle.spec_fields.specs.Bits.{Bits, valueOf, unpack}
+use lib.Dec.{leb}
+use borrow.Author.Tests.{leb-true, leb-false}
+use Rattle.spec_fields.specs.Bits.{unpack}
 use Rattle.spec_fields.proofs.Tests.{split}
 use Rattle.read_field.specs.Parts.{ahead, Octet}
-use Rattle.read_field.proofs.Ahead.{ahead-add, ahead-bound, octet-ahead, cut}
+use Rattle.read_field.proofs.Ahead.{ahead-add, octet-ahead, cut}
 
 -- ---- masks
 
@@ -29,66 +27,70 @@ masked x n h = rw (power n h) (and-mask x n)
 
 -- ---- the window
 
--- Numbers that agree above bit j agree above every higher bit.
-shifted : (j b v w : ℕ) → j ≤ b → v / 2 ^ j ≡ w / 2 ^ j → v / 2 ^ b ≡ w / 2 ^ b
-shifted j b v w h e =
-    let i : j + (b - j) ≡ b = omega arith in
-    rw (← i, ← shr-shr v j (b - j), ← shr-shr w j (b - j), e)
+-- n bits in the middle of a number: what stands a bits above them makes no difference.
+above : (w a n b r : ℕ) → (w * 2 ^ (a + n + b) + r) / 2 ^ b % 2 ^ n ≡ r / 2 ^ b % 2 ^ n
+above w a n b r =
+    let e : a + n + b ≡ a + (n + b) = omega arith in
+    let m : w * 2 ^ (a + n + b) ≡ w * 2 ^ a * 2 ^ (n + b) =
+    rw (e, pow-add 2 a (n + b)) (sym (mul-assoc w (2 ^ a) (2 ^ (n + b)))) in
+    let x = w * 2 ^ (a + n + b) + r in
+    let low : x % 2 ^ (n + b) ≡ r % 2 ^ (n + b) =
+    rw m (mul-add-mod-self-right (w * 2 ^ a) (2 ^ (n + b)) r) in
+    sym (field x n b) ∙ ap (λ y. y / 2 ^ b) low ∙ field r n b
 
--- The bits from bit b on: of an octet below bit b they have nothing.
-module _ (b x : ℕ) {y z y′ z′ : ℕ} (hy : y < 256) (hz : z < 256) (hy′ : y′ < 256)
-    (hz′ : z′ < 256) where
-  alike : (b < 16 → y ≡ y′) → (b < 8 → z ≡ z′)
-      → (x * 65536 + y * 256 + z) / 2 ^ b ≡ (x * 65536 + y′ * 256 + z′) / 2 ^ b
-  alike ey ez =
-      let v = x * 65536 + y * 256 + z in
-      let w = x * 65536 + y′ * 256 + z′ in
-      split (leb 16 b) (λ e. shifted 16 b v w (leb-true 16 b e) (omega arith))
+-- An octet, q octets behind octet i.
+octet-behind : (s : List ℕ) (i q : ℕ) {j o : ℕ} → Octet s j o → j ≡ i + q
+    → o ≡ ahead 8 (drop (8 * q) (drop (8 * i) (unpack s)))
+octet-behind s i q {j} h e =
+    let d : 8 * i + 8 * q ≡ 8 * j = omega arith in
+    rw (drop-drop (8 * q) (8 * i) (unpack s), d) (sym (octet-ahead s j h))
+
+-- The bits behind the field in its last octet.
+abbrev pub spare : ℕ → ℕ → ℕ
+spare at n = 7 - (at + n - 1) % 8
+
+module _ (s : List ℕ) (at n : ℕ) where
+  -- The field lies in t octets, and other bits stand before them.
+  spanned : (w t : ℕ) → 8 * t ≡ at % 8 + n + spare at n
+      → (w * 2 ^ (8 * t) + ahead (8 * t) (drop (8 * (at / 8)) (unpack s))) / 2 ^ spare at n % 2 ^ n
+      ≡ ahead n (drop at (unpack s))
+  spanned w t e =
+      let bs = drop (8 * (at / 8)) (unpack s) in
+      let here : 8 * (at / 8) + at % 8 ≡ at = omega arith in
+      let there : drop (at % 8) bs ≡ drop at (unpack s) =
+      rw (drop-drop (at % 8) (8 * (at / 8)) (unpack s), here) in
+      let r = ahead (at % 8 + n + spare at n) bs in
+      rw e
+      (above w (at % 8) n (spare at n) r ∙ cut (at % 8) n (spare at n) bs ∙ ap (ahead n) there)
+
+  -- The first octet, the one before the last, or the first again, and the last.
+  pub window : {x y z : ℕ} → 0 < n → n ≤ 16 → Octet s (at / 8) x
+      → Octet s ((at / 8 + (at + n - 1) / 8) / 2) y → Octet s ((at + n - 1) / 8) z
+      → (x * 65536 + y * 256 + z) / 2 ^ spare at n % 2 ^ n ≡ ahead n (drop at (unpack s))
+  window {x} {y} {z} p h hx hy hz =
+      let i = at / 8 in
+      let j = (at + n - 1) / 8 in
+      let bs = drop (8 * i) (unpack s) in
+      let ex : x ≡ ahead 8 bs = octet-behind s i 0 hx (omega arith) in
+      split (leb j i)
       (λ e.
-      let iy = ey (leb-false 16 b e) in
-      split (leb 8 b) (λ f. shifted 8 b v w (leb-true 8 b f) (omega arith))
-      (λ f. rw (iy, ez (leb-false 8 b f))))
-
-three : (bs : Bits)
-    → ahead 24 bs ≡ ahead 8 bs * 65536 + ahead 8 (drop 8 bs) * 256 + ahead 8 (drop 16 bs)
-three bs = ahead-add 16 8 bs ∙ rw (ahead-add 8 8 bs) (omega arith)
-
--- What is read of the octet that holds bit `place`, for a field that ends at bit `end`.
-abbrev pub Reached : List ℕ → ℕ → ℕ → ℕ → Type 0
-Reached s place end o = Octet (cond (ltb place end) s []) (place / 8) o
-
--- The octet is touched: it lies j octets behind octet i.
-touched : (s : List ℕ) (place end i j : ℕ) {o : ℕ} → Reached s place end o → place / 8 ≡ i + j
-    → place < end → o ≡ ahead 8 (drop (8 * j) (drop (8 * i) (unpack s)))
-touched s place end i j h e l =
-    let d : 8 * i + 8 * j ≡ 8 * (place / 8) = omega arith in
-    let o = octet-ahead s (place / 8) (rw (lt-ltb place end l) at h) in
-    rw (drop-drop (8 * j) (8 * i) (unpack s), d) (sym o)
-
--- The n bits at a position.
-pub window : (s : List ℕ) (at n : ℕ) {x y z : ℕ} → n ≤ 16 → Reached s at (at + n) x
-    → Reached s (at - at % 8 + 8) (at + n) y → Reached s (at - at % 8 + 16) (at + n) z
-    → (x * 65536 + y * 256 + z) / 2 ^ (24 - at % 8 - n) % 2 ^ n ≡ ahead n (drop at (unpack s))
-unfolding ahead valueOf
-window s at zero {x} {y} {z} h hx hy hz =
-    mod-one ((x * 65536 + y * 256 + z) / 2 ^ (24 - at % 8 - 0))
-window s at (suc m) {x} {y} {z} h hx hy hz =
-    let n = suc m in
-    let k = at % 8 in
-    let i = at / 8 in
-    let b = 24 - k - n in
-    let bs = drop (8 * i) (unpack s) in
-    let y′ = ahead 8 (drop 8 bs) in
-    let z′ = ahead 8 (drop 16 bs) in
-    let ex : x ≡ ahead 8 bs = touched s at (at + n) i 0 hx (omega arith) (omega arith) in
-    let ey : b < 16 → y ≡ y′ = λ l. touched s (at - k + 8) _ i 1 hy (omega arith) (omega arith) in
-    let ez : b < 8 → z ≡ z′ = λ l. touched s (at - k + 16) _ i 2 hz (omega arith) (omega arith) in
-    let by = ahead-bound 8 (drop 8 bs) in
-    let bz = ahead-bound 8 (drop 16 bs) in
-    let same = alike b x (hy .small) (hz .small) by bz ey ez in
-    let e : 24 ≡ k + n + b = omega arith in
-    let all : x * 65536 + y′ * 256 + z′ ≡ ahead (k + n + b) bs =
-    rw ex (sym (three bs)) ∙ ap (λ w. ahead w bs) e in
-    let here : 8 * i + k ≡ at = omega arith in
-    let there : drop k bs ≡ drop at (unpack s) = rw (drop-drop k (8 * i) (unpack s), here) in
-    ap (λ w. w % 2 ^ n) (same ∙ ap (λ w. w / 2 ^ b) all) ∙ cut k n b bs ∙ ap (ahead n) there
+      let l = leb-true j i e in
+      let ez : z ≡ ahead 8 bs = octet-behind s i 0 hz (omega arith) in
+      let r : x * 65536 + y * 256 + z ≡ (x * 256 + y) * 256 + ahead 8 bs = omega arith in
+      rw r (spanned (x * 256 + y) 1 (omega arith)))
+      (λ e.
+      let l = leb-false j i e in
+      split (leb j (i + 1))
+      (λ f.
+      let m = leb-true j (i + 1) f in
+      let ey : y ≡ ahead 8 bs = octet-behind s i 0 hy (omega arith) in
+      let ez : z ≡ ahead 8 (drop 8 bs) = octet-behind s i 1 hz (omega arith) in
+      let r : x * 65536 + y * 256 + z ≡ x * 65536 + ahead 16 bs = omega (arith, ahead-add 8 8 bs) in
+      rw r (spanned x 2 (omega arith)))
+      (λ f.
+      let m = leb-false j (i + 1) f in
+      let ey : y ≡ ahead 8 (drop 8 bs) = octet-behind s i 1 hy (omega arith) in
+      let ez : z ≡ ahead 8 (drop 16 bs) = octet-behind s i 2 hz (omega arith) in
+      let r : x * 65536 + y * 256 + z ≡ 0 * 16777216 + ahead 24 bs =
+      omega (arith, ahead-add 16 8 bs, ahead-add 8 8 bs) in
+      rw r (spanned 0 3 (omega arith))))

@@ -1,10 +1,7 @@
 // The fields of a stream, read at a bit position.
 ghost use mathlib.Core.Path.{_≡_};
-ghost use mathlib.Core.Bool.{cond};
-ghost use mathlib.Core.List.{[]};
 ghost use Prim.Native.Nat.{_+_, _*_, _/_, _%_, _≤_, _<_};
 ghost use lib.ListN.{length};
-ghost use lib.Dec.{ltb};
 ghost use Rattle.spec_fields.specs.Field.{bitPacked, byteAligned, octet, numberField, width, unsigned};
 ghost use Rattle.read_field.specs.View.{fieldAt, alignmentOf, InStream, NumberIn};
 ghost use Rattle.read_field.specs.Parts.{Octet, Peeked, onward};
@@ -42,18 +39,15 @@ fn peek(s: &[u8], at: usize) -> u32
     ((high * 256 + low) >> (8 - at % 8)) % 256
 }
 
-// The octet that holds bit `place`, zero where a field that ends at bit `end` does not reach it.
-fn octet_before(s: &[u8], place: usize, end: usize) -> u32
-    requires { ⌜ end ≤ 8 * length (now s) ⌝ }
-    ensures { λ r. ⌜ Octet (cond (ltb place end) (now (s .entry)) []) (place / 8) r ⌝ }
+fn octet_at(s: &[u8], i: usize) -> u32
+    requires { ⌜ i < length (now s) ⌝ }
+    ensures { λ r. ⌜ Octet (now (s .entry)) i r ⌝ }
 {
-    if place < end {
-        return s[place / 8] as u32;
-    }
-    0
+    s[i] as u32
 }
 
-// n bits, most significant first, cut out of the octets that they touch: none to three.
+// n bits, most significant first, cut out of the octets that they touch: none to three. Where they
+// are fewer the first stands in the window more than once, and the mask takes that away.
 fn bits(s: &[u8], at: usize, n: u32) -> Field
     requires { ⌜ NumberIn (now s) at n 16 ⌝ }
     ensures { λ r. ⌜ r ≡ fieldAt (numberField bitPacked n) (now (s .entry)) at ⌝ }
@@ -62,13 +56,18 @@ fn bits(s: &[u8], at: usize, n: u32) -> Field
     if 8 * s.len() < next {
         return Field::Refused(ENDED);
     }
-    let used = at % 8;
-    let high = octet_before(s, at, next);
-    let middle = octet_before(s, at - used + 8, next);
-    let low = octet_before(s, at - used + 16, next);
+    if next <= at {
+        return Field::Value { value: 0, next };
+    }
+    let first = at / 8;
+    let last = (next - 1) / 8;
+    let high = octet_at(s, first);
+    let middle = octet_at(s, (first + last) / 2);
+    let low = octet_at(s, last);
     let window = high * 65536 + middle * 256 + low;
+    let power: u32 = 1 << n;
     Field::Value {
-        value: (window >> (24 - used as u32 - n)) & ((1 << n) - 1),
+        value: (window >> (7 - (next - 1) % 8)) & (power - 1),
         next,
     }
 }
