@@ -1,6 +1,8 @@
 -- `put_number` meets its contract.
+use Rattle.spec_fields.specs.Field.{numberBits}
 use Rattle.write_field.specs.Written.{alignmentOf}
 use Rattle.write_field.proofs.Written.{put-length}
+use Rattle.write_field.proofs.Field.{bits-ask}
 use Rattle.write_field.proofs.put_number.Statement.{statement}
 use Rattle.write_field.proofs.put_number.Tie as tie
 
@@ -15,13 +17,13 @@ unfolding alignmentOf
 returns c = rw (c .before .before .before .before .if1 .taken) (c .before .before .put-octets .ensures)
 
 put-bits-requires : tie.Need-put-bits-requires
-put-bits-requires c κs = c .before .before .before .pre
+put-bits-requires c κs = bits-ask (c .before .before .before .pre)
 
 same-length-2 : tie.Need-same-length-2
 same-length-2 c = put-length (c .before .before .put-bits .ensures)
 
 returns-2 : tie.Need-returns-2
-unfolding alignmentOf
+unfolding alignmentOf numberBits
 returns-2 c = rw (c .before .before .before .before .if1 .left) (c .before .before .put-bits .ensures)
 
 pub put-number-spec : {M : Type 1} → statement M
