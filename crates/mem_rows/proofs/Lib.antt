@@ -1,0 +1,5 @@
+pub mod Entries
+pub mod Partitions
+pub mod Joins
+pub mod Learned
+pub mod Kept
