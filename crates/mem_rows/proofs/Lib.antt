@@ -3,3 +3,5 @@ pub mod Partitions
 pub mod Joins
 pub mod Learned
 pub mod Kept
+pub mod Grammars
+pub mod States

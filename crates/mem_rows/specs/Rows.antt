@@ -2,7 +2,7 @@
 -- another by their numbers. The definitions' tables, learned productions, grammars and context are
 -- functions of these lists; which cells hold them is said in the other crates of lent memory.
 use Prim.Native.Nat.{ℕ, suc, _+_, _*_, _/_, _%_}
-use mathlib.Core.Bool.{Bool, true, false, cond}
+use mathlib.Core.Bool.{Bool, true, false, cond, _||_}
 use mathlib.Core.List.{List, [], _∷_, _++_, map}
 use mathlib.Core.Option.{Option, none, some}
 use lib.ListN.{length, getD, take}
@@ -129,6 +129,11 @@ learnedOf w = map (learntAs w) (backward (w .learned))
 
 unfoldable pub grammarsOf : Rows → List (QName Text)
 grammarsOf w = map (nameAt w) (w .grammars)
+
+-- A number is among these.
+unfoldable pub isAmong : ℕ → List ℕ → Bool
+isAmong n [] = false
+isAmong n (g ∷ gs) = eqb g n || isAmong n gs
 
 -- The grammar's state by its number and the open elements, the innermost first.
 unfoldable pub stateOf : ℕ → List (QName Text) → State

@@ -1,0 +1,2 @@
+-- The grammar's states, by their numbers.
+use Prim.Native.Nat.{ℕ}
