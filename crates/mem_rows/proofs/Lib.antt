@@ -5,3 +5,4 @@ pub mod Learned
 pub mod Kept
 pub mod Grammars
 pub mod States
+pub mod Grown

@@ -1,17 +1,18 @@
 -- What work memory holds, as lists: the rows of each table in order of insertion, which refer to one
 -- another by their numbers. The definitions' tables, learned productions, grammars and context are
 -- functions of these lists; which cells hold them is said in the other crates of lent memory.
-use Prim.Native.Nat.{ℕ, suc, _+_, _*_, _/_, _%_}
+use Prim.Native.Nat.{ℕ, suc, _+_, _*_, _/_, _%_, _≤_, _<_}
+use mathlib.Core.Path.{_≡_}
 use mathlib.Core.Bool.{Bool, true, false, cond, _||_}
 use mathlib.Core.List.{List, [], _∷_, _++_, map}
 use mathlib.Core.Option.{Option, none, some}
-use lib.ListN.{length, getD, take}
+use lib.ListN.{length, getD, take, drop}
 use lib.Dec.{eqb}
 use Rattle.text.specs.Text.{Text}
 use Rattle.spec_exi.specs.Event.{QName, Kind, SD, ED, SE, AT, EE, CH, CM, PI}
 use Rattle.spec_exi.specs.Tables.{Placed, Entry, Tables, partition}
 use Rattle.spec_exi.specs.Grammar.{Production, Site, tagOf, contentOf, Learned, State, document}
-use Rattle.spec_exi.specs.Grammar.{docContent, docEnd, finished, startTag, elementContent}
+use Rattle.spec_exi.specs.Grammar.{docContent, docEnd, finished, startTag, elementContent, kindNumber}
 use Rattle.spec_exi.specs.Context.{Context}
 
 -- ---- entries by the number of their key
@@ -135,10 +136,52 @@ unfoldable pub isAmong : ℕ → List ℕ → Bool
 isAmong n [] = false
 isAmong n (g ∷ gs) = eqb g n || isAmong n gs
 
--- The grammar's state by its number and the open elements, the innermost first.
+-- ---- the grammar's state, by its number and the open elements, the innermost first
+
+abbrev pub inDocument : ℕ
+inDocument = 0
+
+abbrev pub inDocContent : ℕ
+inDocContent = 1
+
+abbrev pub inDocEnd : ℕ
+inDocEnd = 2
+
+abbrev pub isOver : ℕ
+isOver = 3
+
+abbrev pub inTag : ℕ
+inTag = 4
+
+abbrev pub inElement : ℕ
+inElement = 5
+
 unfoldable pub stateOf : ℕ → List (QName Text) → State
 stateOf mode [] = getD (document ∷ docContent ∷ docEnd ∷ []) mode finished
-stateOf mode (q ∷ outer) = cond (eqb mode 4) (startTag q outer) (elementContent q outer)
+stateOf mode (q ∷ outer) = cond (eqb mode inTag) (startTag q outer) (elementContent q outer)
+
+-- The number after an event of this kind, where so many elements were open (`stateAfter`).
+unfoldable pub modeAfter : ℕ → ℕ → ℕ → ℕ
+modeAfter kind mode depth =
+    cond (eqb kind (kindNumber SD)) inDocContent
+    (cond (eqb kind (kindNumber ED)) isOver
+    (cond (eqb kind (kindNumber SE)) inTag
+    (cond (eqb kind (kindNumber AT)) mode
+    (cond (eqb kind (kindNumber EE)) (cond (eqb depth 1) inDocEnd inElement)
+    (cond (eqb mode inTag) inElement mode)))))
+
+-- The open elements after it, where its name has this row.
+unfoldable pub openedAfter : ℕ → ℕ → List ℕ → List ℕ
+openedAfter kind n opened =
+    cond (eqb kind (kindNumber SE)) (n ∷ opened) (cond (eqb kind (kindNumber EE)) (drop 1 opened) opened)
+
+-- The state is one of an element's grammar just where an element is open.
+pub record ModeFits (mode depth : ℕ) : Type 0 where
+  pub known : mode ≤ inElement
+  pub outer : mode < inTag → depth ≡ 0
+  pub inner : inTag ≤ mode → 0 < depth
+
+-- ---- the whole context
 
 unfoldable pub contextOf : Rows → Text → ℕ → List ℕ → Context
 contextOf w store mode opened =
