@@ -6,3 +6,4 @@ pub mod Kept
 pub mod Grammars
 pub mod States
 pub mod Grown
+pub mod Events

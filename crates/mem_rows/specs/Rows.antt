@@ -243,3 +243,13 @@ withGrammar w n =
       learned = w .learned;
       grammars = w .grammars ++ (n ∷ []);
     }
+
+-- ---- what an event leaves, where its strings have joined
+
+-- A start element's name has a grammar from then on.
+unfoldable pub afterGrammar : ℕ → ℕ → Rows → Rows
+afterGrammar kind n w =
+    cond (eqb kind (kindNumber SE)) (cond (isAmong n (w .grammars)) w (withGrammar w n)) w
+
+unfoldable pub afterLearned : Bool → Learnt → Rows → Rows
+afterLearned teaches l w = cond teaches (withLearned w l) w
