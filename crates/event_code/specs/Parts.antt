@@ -5,10 +5,13 @@
 use Prim.Native.Nat.{ℕ, _+_, _≤_, _<_}
 use mathlib.Core.Bool.{Bool, true, false, cond, _&&_, _||_}
 use mathlib.Core.List.{List, [], _∷_}
+use mathlib.Core.Option.{Option, none, some}
 use lib.Dec.{eqb, leb}
 use Rattle.spec_fields.specs.Bits.{Bits, each}
 use Rattle.spec_fields.specs.Field.{Alignment, choiceBits}
-use Rattle.spec_exi.specs.Grammar.{Production, Learned, learnedIn, State, document, docContent, docEnd, finished, startTag, elementContent}
+use Rattle.spec_exi.specs.Event.{QName, Kind}
+use Rattle.spec_exi.specs.Tables.{Placed}
+use Rattle.spec_exi.specs.Grammar.{Learned, learn, State, document, docContent, docEnd, finished, startTag, elementContent, siteOf}
 use Rattle.event_code.specs.declared.Code.{Code}
 use Rattle.event_code.specs.declared.Code.the-variants.{None, One, Two, Three}
 
@@ -91,14 +94,9 @@ modeOf finished = 3
 modeOf (startTag q outer) = 4
 modeOf (elementContent q outer) = 5
 
--- The productions that are learned in a state.
-unfoldable pub learnedOf : State → List Learned → List Production
-learnedOf document ls = []
-learnedOf docContent ls = []
-learnedOf docEnd ls = []
-learnedOf finished ls = []
-learnedOf (startTag q outer) ls = learnedIn q true ls
-learnedOf (elementContent q outer) ls = learnedIn q false ls
+-- What is learned after an event of kind k whose name lies at q, where it teaches (t) or not.
+unfoldable pub learnt : State → Bool → Kind → Option (QName Placed) → List Learned → List Learned
+learnt st t k q ls = learn (siteOf st) (cond t (some (record { kind = k; qname = q })) none) ls
 
 -- ---- parts that can be written
 

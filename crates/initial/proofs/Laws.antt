@@ -9,7 +9,8 @@ use lib.Seq.{length-take-le, drop-at, drop-append-le, take-append-le, take-at, g
 use Rattle.text.specs.Text.{Text, text, eqText}
 use Rattle.text.proofs.Parts.{part-inside}
 use Rattle.spec_exi.specs.Sizes.{maxUris, maxNames, maxValues, maxLearned, maxGrammars, maxStore}
-use Rattle.spec_exi.specs.Tables.{Placed, Entry, indexOf, startTables, addedAll, initialEntries, added, newUri, newName, newEntry, newValue, laid, xmlUri, xsiUri}
+use Rattle.spec_exi.specs.Settings.{Settings}
+use Rattle.spec_exi.specs.Tables.{Placed, Entry, hasText, indexOf, startTables, addedAll, initialEntries, added, newUri, newName, newEntry, newValue, laid, xmlUri, xsiUri}
 use Rattle.rows.specs.declared.Row.{Row}
 use Rattle.rows.specs.Rows.{rowAt, rows, textOf}
 use Rattle.rows.proofs.Laws.{rows-at, rows-same}
@@ -58,9 +59,8 @@ some-at work base origin first n e i h =
     )
 
 -- Of the nine strings no two are equal.
-number-of : (k : ℕ) → k < 9 → indexOf (map standing initialRows) (textAt (initialRow k)) ≡ some k
-unfolding indexOf eqText textAt standing initialRows row initialText startTables addedAll initialEntries
-    added newUri newName newEntry newValue laid xmlUri xsiUri text
+number-of : (k : ℕ) → k < 9 → indexOf (map (λ r. some (standing r)) initialRows) (textAt (initialRow k)) ≡ some k
+unfolding indexOf hasText eqText textAt standing initialRows row initialText xmlUri xsiUri text
 number-of zero h = refl
 number-of (suc zero) h = refl
 number-of (suc (suc zero)) h = refl
@@ -76,16 +76,16 @@ texts-differ : (k j : ℕ) → k < 9 → j < 9 → textAt (initialRow k) ≡ tex
 texts-differ k j h l e = cc (number-of k h, number-of j l)
 
 -- The initial tables, read off the rows.
-start-is : record {
+start-is : (s : Settings) → record {
   uris = map standing (take 3 initialRows);
   names = map entryOf (drop 3 initialRows);
   values = [];
   store = initialText;
 }
-    ≡ startTables
+    ≡ startTables s
 unfolding textAt standing entryOf initialRows row initialText startTables addedAll initialEntries
     added newUri newName newEntry newValue laid xmlUri xsiUri text
-start-is = refl
+start-is s = refl
 
 module _ (m : Memory) (b : Begun m) where
   -- The strings of the rows, as they lie in memory.
@@ -130,9 +130,9 @@ module _ (m : Memory) (b : Begun m) where
   unfolding initialNames someRows initialRows
   names-in = rw (b .names) (cc (entry 3, entry 4, entry 5, entry 6, entry 7, entry 8))
 
-  pub start-tables : tablesIn m startCounts ≡ startTables
+  pub start-tables : (s : Settings) → tablesIn m startCounts ≡ startTables s
   unfolding tablesIn startCounts rows
-  start-tables = rw (uris-in, names-in, b .text) start-is
+  start-tables s = rw (uris-in, names-in, b .text) (start-is s)
 
   lies : (k : ℕ) → Lies m startCounts (moved (m .origin) (initialRow k))
   unfolding moved row startCounts

@@ -8,14 +8,14 @@ use lib.Dec.{T, leb, ltb, leb→le, ltb→lt}
 use lib.ListN.{length, getD, List·getD-map}
 use Rattle.spec_fields.proofs.Tests.{left, right}
 use Rattle.text.specs.Text.{text}
-use Rattle.spec_exi.specs.Tables.{startTables, addedAll, initialEntries, added, newUri, newName, newEntry, newValue, laid, xmlUri, xsiUri}
+use Rattle.spec_exi.specs.Tables.{xmlUri, xsiUri}
 use Rattle.spec_exi.specs.Sizes.{maxUris, maxNames, maxValues, maxLearned, maxGrammars}
 use Rattle.rows.specs.declared.Row.{Row}
 use Rattle.layout.specs.Layout.{urisAt, namesAt, valuesAt, learnedAt, grammarsAt, tableCells}
 use Rattle.initial.specs.Initial.{initialText, row, initialRows, moved}
 
 pub text-length : length initialText ≡ 99
-unfolding initialText startTables addedAll initialEntries added newUri newName newEntry newValue laid xmlUri xsiUri text
+unfolding initialText xmlUri xsiUri text
 text-length = refl
 
 pub rows-length : length initialRows ≡ 9

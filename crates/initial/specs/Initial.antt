@@ -2,16 +2,16 @@
 use Prim.Native.Nat.{ℕ, suc, _+_}
 use mathlib.Core.List.{List, [], _∷_, _++_, map}
 use lib.ListN.{take, drop}
-use Rattle.text.specs.Text.{Text}
-use Rattle.spec_exi.specs.Tables.{startTables}
+use Rattle.text.specs.Text.{Text, text}
+use Rattle.spec_exi.specs.Tables.{xmlUri, xsiUri}
 use Rattle.rows.specs.declared.Row.{Row}
 use Rattle.rows.specs.Rows.{withRow}
 use Rattle.layout.specs.Layout.{urisAt, namesAt}
 use Rattle.layout.specs.Meaning.{Memory, Counts}
 
--- What the text store begins with: 99 code points.
+-- What the text store begins with, whatever the settings: 99 code points.
 unfoldable pub initialText : Text
-initialText = startTables .store
+initialText = xmlUri ++ xsiUri ++ text "baseidlangspaceniltype"
 
 -- The cells with that text written at the origin.
 unfoldable pub withText : List ℕ → ℕ → List ℕ

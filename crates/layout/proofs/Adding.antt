@@ -8,7 +8,7 @@ use mathlib.Core.Path.{_≡_, refl, sym, ap, subst, _∙_}
 use mathlib.Core.Logic.{_≢_, _⊎_, inl, inr}
 use mathlib.Core.Bool.{Bool, true, false}
 use mathlib.Core.List.{List, [], _∷_, _++_, map, append-nil, append-assoc}
-use mathlib.Core.Option.{none}
+use mathlib.Core.Option.{none, some}
 use lib.ListN.{length, getD, take, drop, length-append, length-drop}
 use lib.Seq.{length-take-le, take-length, take-add, take-at, drop-at, drop-append-seam, drop-set-lt}
 use borrow.Author.Tests.{eq-eqb}
@@ -21,7 +21,7 @@ use Rattle.rows.specs.declared.Row.{Row}
 use Rattle.rows.specs.Rows.{rowAt, rows, withRow, textOf, selected}
 use Rattle.rows.proofs.Laws.{withRow-length, withRow-other}
 use Rattle.layout.specs.Layout.{urisAt, namesAt, valuesAt, learnedAt, grammarsAt, tableCells}
-use Rattle.layout.specs.Meaning.{Memory, Counts, placedAt, uriText, nameEntry, nameAt, valueEntry, tablesIn, learnedFrom, grammarsFrom}
+use Rattle.layout.specs.Meaning.{Memory, Counts, placedAt, uriText, nameEntry, placedName, nameAt, valueEntry, tablesIn, learnedFrom, grammarsFrom}
 use Rattle.layout.specs.Tidy.{Lies, Sized, Tidy}
 use Rattle.layout.proofs.Kept.{length-store, text-in, map-more, map-rows, learned-kept, grammars-kept}
 use Rattle.layout.proofs.Strings.{absent, uris-listed, any-listed, names-listed}
@@ -181,6 +181,7 @@ pub record After (m m′ : Memory) (c c′ : Counts) (r : Role) (x : Text) : Typ
   pub size : length (m′ .work) ≡ length (m .work)
   pub uris : (u : ℕ) → u < c .uris → uriText m′ u ≡ uriText m u
   pub names : (n : ℕ) → n < c .names → nameAt m′ n ≡ nameAt m n
+  pub places : (n : ℕ) → n < c .names → placedName m′ n ≡ placedName m n
   pub learned : learnedFrom m′ (c .learned) ≡ learnedFrom m (c .learned)
   pub grammars : grammarsFrom m′ (c .grammars) ≡ grammarsFrom m (c .grammars)
 
@@ -266,6 +267,10 @@ module _ {m m′ : Memory} {c : Counts} {at : ℕ} {x : Text} (t : Tidy m c) (g 
 
     -- ---- what rows mean
 
+    placed-kept : (r : Row) → Lies m c r → placedAt m′ r ≡ placedAt m r
+    unfolding placedAt
+    placed-kept r l = cc (g .origin, text-kept r l)
+
     uri-kept : (u : ℕ) → u < c .uris → uriText m′ u ≡ uriText m u
     unfolding uriText
     uri-kept u h = rw (uri-row u h) (text-kept (rowAt (m .work) urisAt u) (t .strings .uris u h))
@@ -279,12 +284,19 @@ module _ {m m′ : Memory} {c : Counts} {at : ℕ} {x : Text} (t : Tidy m c) (g 
           uri-kept (rowAt (m .work) namesAt n .key) (t .strings .nameKeys n h),
         ))
 
+    place-kept : (n : ℕ) → n < c .names → placedName m′ n ≡ placedName m n
+    unfolding placedName
+    place-kept n h =
+        let u : ℕ = rowAt (m .work) namesAt n .key in
+        let b : u < c .uris = t .strings .nameKeys n h in
+        rw (name-row n h, uri-row u b)
+        (cc (
+          placed-kept (rowAt (m .work) urisAt u) (t .strings .uris u b),
+          placed-kept (rowAt (m .work) namesAt n) (t .strings .names n h),
+        ))
+
     value-kept : (i : ℕ) → i < c .values → textOf (m′ .cells) (rowAt (m′ .work) valuesAt i) ≡ textOf (m .cells) (rowAt (m .work) valuesAt i)
     value-kept i h = rw (value-row i h) (text-kept (rowAt (m .work) valuesAt i) (t .strings .values i h))
-
-    placed-kept : (r : Row) → Lies m c r → placedAt m′ r ≡ placedAt m r
-    unfolding placedAt
-    placed-kept r l = cc (g .origin, text-kept r l)
 
     -- ---- tables
 
@@ -368,8 +380,9 @@ module _ {m m′ : Memory} {c : Counts} {at : ℕ} {x : Text} (t : Tidy m c) (g 
             size = g .size;
             uris = uri-kept;
             names = name-kept;
-            learned = learned-kept m m′ c (t .grammars) name-kept learned-row;
-            grammars = grammars-kept m m′ c (t .grammars) name-kept grammar-row;
+            places = place-kept;
+            learned = learned-kept m m′ c (t .grammars) place-kept learned-row;
+            grammars = grammars-kept m m′ c (t .grammars) place-kept grammar-row;
           }
 
 -- ---- what the new row means
@@ -391,7 +404,7 @@ module _ {m m′ : Memory} {c : Counts} {x : Text} (t : Tidy m c) where
 
 module _ {m m′ : Memory} {c : Counts} {x : Text} (t : Tidy m c) (few : c .stored + length x ≤ maxStore) where
   pub after-uri : c .uris < maxUris → Grows m m′ c (urisAt + 3 * c .uris) x → rowAt (m′ .work) urisAt (c .uris) ≡ newRow m c 0 x
-      → indexOf (tablesIn m c .uris) x ≡ none → After m m′ c (countsAfter c (length x) (c .uris + 1) (c .names) (c .values)) uri x
+      → indexOf (map some (tablesIn m c .uris)) x ≡ none → After m m′ c (countsAfter c (length x) (c .uris + 1) (c .names) (c .values)) uri x
   unfolding newUri newName newValue uriText selected
   after-uri room g row lacks =
       let f : Free c (urisAt + 3 * c .uris) (c .uris) = free-uri (t .sized) room in
@@ -404,7 +417,7 @@ module _ {m m′ : Memory} {c : Counts} {x : Text} (t : Tidy m c) (few : c .stor
       (none-joins (values-kept t g f))
 
   pub after-local : (attr : Bool) (u : ℕ) → u < c .uris → c .names < maxNames → Grows m m′ c (namesAt + 3 * c .names) x
-      → rowAt (m′ .work) namesAt (c .names) ≡ newRow m c u x → indexOf (namesOf (tablesIn m c) (uriText m u)) x ≡ none
+      → rowAt (m′ .work) namesAt (c .names) ≡ newRow m c u x → indexOf (map some (namesOf (tablesIn m c) (uriText m u))) x ≡ none
       → After m m′ c (countsAfter c (length x) (c .uris) (c .names + 1) (c .values)) (local attr (uriText m u)) x
   unfolding newUri newName newValue nameEntry nameAt selected
   after-local attr u b room g row lacks =

@@ -8,12 +8,13 @@ use lib.ListN.{length, take, drop, length-drop}
 use lib.Seq.{length-take-le, drop-drop}
 use Rattle.text.specs.Text.{Text, part}
 use Rattle.text.proofs.Parts.{part-inside, part-take}
-use Rattle.spec_exi.specs.Event.{Kind, SD, ED, SE, AT, EE, CH, CM, PI}
+use Rattle.spec_exi.specs.Tables.{nameText}
+use Rattle.spec_exi.specs.Event.{mapName, Kind, SD, ED, SE, AT, EE, CH, CM, PI}
 use Rattle.rows.specs.declared.Row.{Row}
 use Rattle.rows.specs.Rows.{rowAt, rows, textOf}
 use Rattle.rows.proofs.Laws.{rows-more, rows-at}
 use Rattle.layout.specs.Layout.{learnedAt, grammarsAt}
-use Rattle.layout.specs.Meaning.{Memory, Counts, nameAt, kindAt, carriedName, learnedRow, newestFirst, learnedFrom, grammarsFrom}
+use Rattle.layout.specs.Meaning.{Memory, Counts, placedAt, uriText, placedName, nameAt, kindAt, carriedName, learnedRow, newestFirst, learnedFrom, grammarsFrom}
 use Rattle.layout.specs.Tidy.{Sized, Grammars}
 
 pub length-store : {m : Memory} {c : Counts} → Sized m c → length (take (c .stored) (drop (m .origin) (m .cells))) ≡ c .stored
@@ -62,15 +63,28 @@ unfolding newestFirst
 newest-same f g zero h = refl
 newest-same f g (suc n) h = cc (h n (omega arith), newest-same f g n (λ i l. h i (omega arith)))
 
+-- ---- names
+
+pub name-placed : (m : Memory) (n : ℕ) → nameText (placedName m n) ≡ nameAt m n
+unfolding nameText mapName placedName placedAt nameAt uriText
+name-placed m n = refl
+
+-- Names that lie alike are the same.
+pub names-placed : (m′ m : Memory) (n : ℕ) → placedName m′ n ≡ placedName m n → nameAt m′ n ≡ nameAt m n
+names-placed m′ m n e = sym (name-placed m′ n) ∙ ap nameText e ∙ name-placed m n
+
 -- ---- learned productions and element grammars, where the names stay
 
-module _ (m m′ : Memory) (c : Counts) (g : Grammars m c) (names : (i : ℕ) → i < c .names → nameAt m′ i ≡ nameAt m i) where
+module _ (m m′ : Memory) (c : Counts) (g : Grammars m c) (places : (i : ℕ) → i < c .names → placedName m′ i ≡ placedName m i) where
+  names : (i : ℕ) → i < c .names → nameAt m′ i ≡ nameAt m i
+  names i h = names-placed m′ m i (places i h)
+
   carried-kept : (k : Kind) (i : ℕ) → i < c .names → carriedName m′ k i ≡ carriedName m k i
   unfolding carriedName
   carried-kept SD i h = refl
   carried-kept ED i h = refl
-  carried-kept SE i h = ap some (names i h)
-  carried-kept AT i h = ap some (names i h)
+  carried-kept SE i h = ap some (places i h)
+  carried-kept AT i h = ap some (places i h)
   carried-kept EE i h = refl
   carried-kept CH i h = refl
   carried-kept CM i h = refl

@@ -1,4 +1,5 @@
 pub mod Adding
+pub mod Entries
 pub mod Grown
 pub mod Kept
 pub mod Productions

@@ -7,15 +7,17 @@ use native.Mathlib.Numerals.{add-one}
 use native.Mathlib.Decide.{decLe}
 use mathlib.Core.Path.{_≡_, refl, sym, ap, subst, _∙_}
 use mathlib.Core.Logic.{inl, inr}
-use mathlib.Core.Bool.{Bool, true, false, _&&_, Bool·beq}
+use mathlib.Core.Bool.{Bool, true, false, _&&_, Bool·beq, and-true, and-false}
 use mathlib.Core.List.{List, [], _∷_, _++_, append-nil, map-append}
-use mathlib.Core.Option.{some, Option·none-ne-some}
+use mathlib.Core.Option.{some, Option·map, Option·none-ne-some}
 use lib.ListN.{length, take, drop, getElem?, length-append}
 use lib.Dec.{eqb}
 use borrow.Author.Tests.{eqb-true, eqb-false, eq-eqb, ne-eqb}
 use Rattle.spec_fields.proofs.Tests.{split, T-is, is-T}
-use Rattle.spec_exi.specs.Event.{Kind, SD, ED, SE, AT, EE, CH, CM, PI, eqName}
-use Rattle.spec_exi.specs.Grammar.{learnedIn, kindNumber, fitsName, learn}
+use Rattle.spec_exi.specs.Event.{QName, Kind, SD, ED, SE, AT, EE, CH, CM, PI, eqName}
+use Rattle.text.specs.Text.{Text}
+use Rattle.spec_exi.specs.Tables.{nameText}
+use Rattle.spec_exi.specs.Grammar.{eqSite, learnedIn, kindNumber, fitsName, learn}
 use Rattle.spec_exi.specs.Sizes.{maxLearned, maxGrammars}
 use Rattle.spec_exi.proofs.Codes.{eqName-refl, eqName-eq}
 use Rattle.rows.specs.declared.Row.{Row}
@@ -24,10 +26,10 @@ use Rattle.rows.proofs.Laws.{rows-more, rows-with, rows-apart, withRow-row, wit
 use Rattle.rows.proofs.Selection.{numbered-append, nth-some}
 use Rattle.rows.specs.Hit.{Hit}
 use Rattle.rows.proofs.Answers.{nth-hit}
-use Rattle.layout.proofs.Kept.{same-row, text-in, map-rows, learned-row-kept, learned-kept, grammar-names}
+use Rattle.layout.proofs.Kept.{name-placed, names-placed, same-row, text-in, map-rows, learned-row-kept, learned-kept, grammar-names}
 use Rattle.layout.proofs.Adding.{drop-row}
 use Rattle.layout.specs.Layout.{urisAt, namesAt, valuesAt, learnedAt, grammarsAt, tableCells}
-use Rattle.layout.specs.Meaning.{Memory, Counts, placedAt, uriText, nameEntry, nameAt, valueEntry, tablesIn, kindAt, carries, carriedName, learnedKey, learnedRow, newestFirst, learnedFrom, grammarsFrom}
+use Rattle.layout.specs.Meaning.{Memory, Counts, placedAt, uriText, nameEntry, placedName, nameAt, valueEntry, tablesIn, kindAt, carries, carriedName, productionAt, learnedKey, siteFor, learnedRow, newestFirst, learnedFrom, grammarsFrom}
 use Rattle.layout.specs.Tidy.{Bare, Lies, Sized, Strings, Distinct, Teachable, Grammars, Tidy}
 
 -- The row of a production, by the number of the name that it carries.
@@ -59,6 +61,14 @@ key-test e k tag =
     other : (tag : Bool) → (e ≡ k / 2 → ⊥) → false ≡ eqb k (learnedKey e tag)
     other true a = sym (ne-eqb k (2 * e + 1) (λ z. omega arith))
     other false a = sym (ne-eqb k (2 * e) (λ z. omega arith))
+
+-- One site, by element and state.
+site-test : (p q : QName Text) (a b : Bool) → eqSite (siteFor p a) (siteFor q b) ≡ eqName p q && Bool·beq a b
+unfolding eqSite
+site-test p q true true = simp and-true
+site-test p q true false = simp and-false
+site-test p q false true = simp and-false
+site-test p q false false = simp and-true
 
 -- ---- lists, the last member first
 
@@ -102,22 +112,24 @@ module _ (m : Memory) (c : Counts) (d : Distinct m c) where
       (λ t. let z : i ≡ j = eqb-true i j t in rw z (T-is _ (eqName-refl (nameAt m j))))
 
   no-rows : (e : ℕ) (tag : Bool) → Mirror (λ (p : ℕ × Row). learnedRow m (p .1) .production)
-      (numbered false (learnedKey e tag) 0 (rows (m .work) learnedAt 0)) (learnedIn (nameAt m e) tag (learnedFrom m 0))
+      (numbered false (learnedKey e tag) 0 (rows (m .work) learnedAt 0)) (learnedIn (siteFor (nameAt m e) tag) (learnedFrom m 0))
   unfolding numbered rows learnedIn learnedFrom newestFirst
   no-rows e tag = record { same = refl; at = λ i v e s. absurd (Option·none-ne-some _ e) }
 
   module _ (e : ℕ) (tag : Bool) (h : e < c .names) where
     -- A learned row is of the element and state exactly if it has their key.
     row-test : (r : Row) → r .key / 2 < c .names
-        → eqName (nameAt m e) (learnedRow m r .element) && Bool·beq tag (learnedRow m r .inTag) ≡ selected false (learnedKey e tag) r
+        → eqSite (siteFor (nameAt m e) tag) (learnedRow m r .site) ≡ selected false (learnedKey e tag) r
     unfolding learnedRow selected
-    row-test r b = rw (name-test e (r .key / 2) h b) (key-test e (r .key) tag)
+    row-test r b =
+        rw (site-test (nameAt m e) (nameAt m (r .key / 2)) tag (eqb (r .key % 2) 1), name-test e (r .key / 2) h b)
+        (key-test e (r .key) tag)
 
     module _ (g : Grammars m c) where
       -- The newest row comes first, where it is of the element and state.
-      learned-more : (n : ℕ) → n < c .learned → learnedIn (nameAt m e) tag (learnedFrom m (suc n))
+      learned-more : (n : ℕ) → n < c .learned → learnedIn (siteFor (nameAt m e) tag) (learnedFrom m (suc n))
           ≡ keep (selected false (learnedKey e tag) (rowAt (m .work) learnedAt n)) (learnedRow m (rowAt (m .work) learnedAt n) .production)
-          (learnedIn (nameAt m e) tag (learnedFrom m n))
+          (learnedIn (siteFor (nameAt m e) tag) (learnedFrom m n))
       unfolding learnedIn learnedFrom newestFirst keep
       learned-more n b =
           rw (row-test (rowAt (m .work) learnedAt n) (g .elements n b))
@@ -125,7 +137,7 @@ module _ (m : Memory) (c : Counts) (d : Distinct m c) where
 
       mirrored : (n : ℕ) → n ≤ c .learned
           → Mirror (λ (p : ℕ × Row). learnedRow m (p .1) .production) (numbered false (learnedKey e tag) 0 (rows (m .work) learnedAt n))
-          (learnedIn (nameAt m e) tag (learnedFrom m n))
+          (learnedIn (siteFor (nameAt m e) tag) (learnedFrom m n))
       unfolding numbered
       mirrored zero b = no-rows e tag
       mirrored (suc n) b =
@@ -134,7 +146,7 @@ module _ (m : Memory) (c : Counts) (d : Distinct m c) where
           (0 + length (rows (m .work) learnedAt n), rowAt (m .work) learnedAt n))
 
       -- As many as rows have the key.
-      pub learned-count : length (learnedIn (nameAt m e) tag (learnedFrom m (c .learned)))
+      pub learned-count : length (learnedIn (siteFor (nameAt m e) tag) (learnedFrom m (c .learned)))
           ≡ countOf false (learnedKey e tag) (rows (m .work) learnedAt (c .learned))
       unfolding countOf
       learned-count = mirrored (c .learned) (omega arith) .same
@@ -142,7 +154,7 @@ module _ (m : Memory) (c : Counts) (d : Distinct m c) where
       -- Number v is the row that as many rows of the key follow.
       pub learned-at : (v : ℕ) {number row : ℕ} → Hit false (learnedKey e tag) (m .work) learnedAt (c .learned) number row
           → v + number + 1 ≡ countOf false (learnedKey e tag) (rows (m .work) learnedAt (c .learned))
-          → getElem? (learnedIn (nameAt m e) tag (learnedFrom m (c .learned))) v ≡ some (learnedRow m (rowAt (m .work) learnedAt row) .production)
+          → getElem? (learnedIn (siteFor (nameAt m e) tag) (learnedFrom m (c .learned))) v ≡ some (learnedRow m (rowAt (m .work) learnedAt row) .production)
       unfolding countOf
       learned-at v {number} i s = mirrored (c .learned) (omega arith) .at number v (i .entry) s
 
@@ -178,12 +190,12 @@ kind-test (suc (suc (suc (suc (suc (suc (suc n))))))) k h =
 
 -- Two names of a kind, by their numbers.
 pub carried-test : (m : Memory) (c : Counts) → Distinct m c → (k : Kind) (i j : ℕ) → i < c .names → j < c .names → (carries k ≡ false → i ≡ j)
-    → fitsName (carriedName m k i) (carriedName m k j) ≡ eqb i j
+    → fitsName (carriedName m k i) (Option·map nameText (carriedName m k j)) ≡ eqb i j
 unfolding fitsName carriedName
 carried-test m c d SD i j a b p = sym (eq-eqb i j (p refl))
 carried-test m c d ED i j a b p = sym (eq-eqb i j (p refl))
-carried-test m c d SE i j a b p = name-test m c d i j a b
-carried-test m c d AT i j a b p = name-test m c d i j a b
+carried-test m c d SE i j a b p = rw (name-placed m i, name-placed m j) (name-test m c d i j a b)
+carried-test m c d AT i j a b p = rw (name-placed m i, name-placed m j) (name-test m c d i j a b)
 carried-test m c d EE i j a b p = sym (eq-eqb i j (p refl))
 carried-test m c d CH i j a b p = sym (eq-eqb i j (p refl))
 carried-test m c d CM i j a b p = sym (eq-eqb i j (p refl))
@@ -196,18 +208,18 @@ key-parts e false = (omega arith, ne-eqb (2 * e % 2) 1 (λ z. omega arith))
 -- What it means.
 pub learned-as : (m : Memory) (e : ℕ) (tag : Bool) (k : Kind) (i : ℕ)
     → learnedRow m (productionRow e tag k i)
-    ≡ record { element = nameAt m e; inTag = tag; production = record { kind = k; qname = carriedName m k i } }
+    ≡ record { site = siteFor (nameAt m e) tag; production = productionAt m k i }
 unfolding learnedRow
 learned-as m e tag k i = rw (key-parts e tag .0, key-parts e tag .1, kind-at k)
 
 -- ---- a row is written, and the names stay
 
-module _ (m m′ : Memory) (c : Counts) (g : Grammars m c) (names : (i : ℕ) → i < c .names → nameAt m′ i ≡ nameAt m i) where
+module _ (m m′ : Memory) (c : Counts) (g : Grammars m c) (places : (i : ℕ) → i < c .names → placedName m′ i ≡ placedName m i) where
   -- A row behind the learned rows: its production is learned, and is the first.
   pub learned-added : (e : ℕ) (tag : Bool) (k : Kind) (i : ℕ) → e < c .names → i < c .names
       → m′ .work ≡ withRow (m .work) learnedAt (c .learned) (productionRow e tag k i)
       → learnedAt + 3 * (c .learned + 1) ≤ length (m .work)
-      → learnedFrom m′ (c .learned + 1) ≡ learn (nameAt m e) tag (some (record { kind = k; qname = carriedName m k i })) (learnedFrom m (c .learned))
+      → learnedFrom m′ (c .learned + 1) ≡ learn (some (siteFor (nameAt m e) tag)) (some (productionAt m k i)) (learnedFrom m (c .learned))
   unfolding learnedFrom newestFirst learn
   learned-added e tag k i a b w room =
       let r : Row = productionRow e tag k i in
@@ -217,9 +229,9 @@ module _ (m m′ : Memory) (c : Counts) (g : Grammars m c) (names : (i : ℕ) �
       rw (
         add-one,
         z,
-        learned-row-kept m m′ c g names r (rw (key-parts e tag .0) a) b,
+        learned-row-kept m m′ c g places r (rw (key-parts e tag .0) a) b,
         learned-as m e tag k i,
-        learned-kept m m′ c g names (same-row (m′ .work) (m .work) learnedAt (c .learned) same),
+        learned-kept m m′ c g places (same-row (m′ .work) (m .work) learnedAt (c .learned) same),
       )
 
   -- A row behind the element grammars.
@@ -230,7 +242,7 @@ module _ (m m′ : Memory) (c : Counts) (g : Grammars m c) (names : (i : ℕ) �
   grammar-added r a w room =
       let e : rows (m′ .work) grammarsAt (suc (c .grammars)) ≡ rows (m .work) grammarsAt (c .grammars) ++ (r ∷ []) =
       rw w (rows-with (m .work) grammarsAt (c .grammars) r room) in
-      rw (add-one, e, map-append, grammar-names m m′ c g names, names (r .key) a)
+      rw (add-one, e, map-append, grammar-names m m′ c g places, names-placed m′ m (r .key) (places (r .key) a))
 
 -- ---- a row behind the string tables leaves them
 
@@ -291,6 +303,18 @@ module _ {m m′ : Memory} {c : Counts} {base n : ℕ} {r : Row} (z : Sized m c)
         row-kept namesAt (c .names) i (bounds .1) h,
         uri-kept (rowAt (m .work) namesAt i .key) (s .nameKeys i h),
         text-kept (rowAt (m .work) namesAt i) (s .names i h),
+      )
+
+  pub places-kept : (i : ℕ) → i < c .names → placedName m′ i ≡ placedName m i
+  unfolding placedName
+  places-kept i h =
+      let u : ℕ = rowAt (m .work) namesAt i .key in
+      let b : u < c .uris = s .nameKeys i h in
+      rw (
+        row-kept namesAt (c .names) i (bounds .1) h,
+        row-kept urisAt (c .uris) u (bounds .0) b,
+        placed-kept (rowAt (m .work) urisAt u) (s .uris u b),
+        placed-kept (rowAt (m .work) namesAt i) (s .names i h),
       )
 
   pub tables-kept : tablesIn m′ c ≡ tablesIn m c

@@ -13,7 +13,7 @@ use Rattle.text.specs.Text.{Text, isEmpty}
 use Rattle.spec_exi.specs.Event.{QName}
 use Rattle.spec_exi.specs.Tables.{Tables, Role, uri, local, value, target, plain, newUri, newName, newEntry, newValue, laid, added}
 use Rattle.spec_exi.specs.Lists.{withinTables}
-use Rattle.spec_exi.specs.Sizes.{maxUris, maxNames, maxValues, maxLearned, maxGrammars, maxStore}
+use Rattle.spec_exi.specs.Sizes.{sizes, maxUris, maxNames, maxValues, maxLearned, maxGrammars, maxStore}
 use Rattle.rows.specs.Rows.{Room}
 use Rattle.rows.proofs.Laws.{rows-length}
 use Rattle.layout.specs.Layout.{urisAt, namesAt, valuesAt, learnedAt, grammarsAt, tableCells}
@@ -55,7 +55,7 @@ length-grammars m n = rw (length-map, rows-length)
 
 -- ---- inside the limits
 
-pub within-tables : {m : Memory} {c : Counts} → Sized m c → T (withinTables (tablesIn m c))
+pub within-tables : {m : Memory} {c : Counts} → Sized m c → T (withinTables sizes (tablesIn m c))
 unfolding withinTables
 within-tables {m} {c} z =
     rw (
@@ -74,7 +74,7 @@ record Within (t : Tables) : Type 0 where
   names : length (t .names) ≤ maxNames
   values : length (t .values) ≤ maxValues
 
-within-parts : (t : Tables) → T (withinTables t) → Within t
+within-parts : (t : Tables) → T (withinTables sizes t) → Within t
 unfolding withinTables
 within-parts t w =
     let u : Bool = leb (length (t .uris)) maxUris in
@@ -90,7 +90,7 @@ within-parts t w =
     }
 
 -- The tables with a literal, test by test.
-tests : (t : Tables) (r : Role) (x : Text) → withinTables (added t r x)
+tests : (t : Tables) (r : Role) (x : Text) → withinTables sizes (added t r x)
     ≡ leb (length (t .uris) + length (newUri r (laid t x))) maxUris
     && leb (length (t .names) + length (newName r (laid t x))) maxNames
     && leb (length (t .values) + length (newValue r (laid t x))) maxValues
@@ -99,7 +99,7 @@ unfolding withinTables added
 tests t r x = simp length-append
 
 -- A literal that the store has room for is within the sizes if its table has a row left.
-module _ (t : Tables) (x : Text) (w : T (withinTables t)) (few : length (t .store) + length x ≤ maxStore) where
+module _ (t : Tables) (x : Text) (w : T (withinTables sizes t)) (few : length (t .store) + length x ≤ maxStore) where
   same-uris : leb (length (t .uris) + 0) maxUris ≡ true
   same-uris = le-leb (length (t .uris) + 0) maxUris (omega (arith, within-parts t w))
 
@@ -112,31 +112,31 @@ module _ (t : Tables) (x : Text) (w : T (withinTables t)) (few : length (t .stor
   store-room : leb (length (t .store) + length x) maxStore ≡ true
   store-room = le-leb (length (t .store) + length x) maxStore few
 
-  pub within-uri : withinTables (added t uri x) ≡ ltb (length (t .uris)) maxUris
+  pub within-uri : withinTables sizes (added t uri x) ≡ ltb (length (t .uris)) maxUris
   unfolding newUri newName newValue
   within-uri = rw (tests t uri x, same-names, same-values, store-room, add-one) (simp and-true)
 
-  pub within-local : (attr : Bool) (u : Text) → withinTables (added t (local attr u) x) ≡ ltb (length (t .names)) maxNames
+  pub within-local : (attr : Bool) (u : Text) → withinTables sizes (added t (local attr u) x) ≡ ltb (length (t .names)) maxNames
   unfolding newUri newName newValue
   within-local attr u = rw (tests t (local attr u) x, same-uris, same-values, store-room, add-one) (simp and-true)
 
-  pub within-value : (q : QName Text) → isEmpty x ≡ false → withinTables (added t (value q) x) ≡ ltb (length (t .values)) maxValues
+  pub within-value : (q : QName Text) → isEmpty x ≡ false → withinTables sizes (added t (value q) x) ≡ ltb (length (t .values)) maxValues
   unfolding newUri newName newValue newEntry laid
   within-value q e = rw (tests t (value q) x, e, same-uris, same-names, store-room, add-one, and-true)
 
   within-none : (r : Role) → newUri r (laid t x) ≡ [] → newName r (laid t x) ≡ [] → newValue r (laid t x) ≡ []
-      → withinTables (added t r x) ≡ true
+      → withinTables sizes (added t r x) ≡ true
   within-none r p q s = rw (tests t r x, p, q, s, same-uris, same-names, same-values, store-room)
 
-  pub within-empty : (q : QName Text) → isEmpty x ≡ true → withinTables (added t (value q) x) ≡ true
+  pub within-empty : (q : QName Text) → isEmpty x ≡ true → withinTables sizes (added t (value q) x) ≡ true
   unfolding newUri newName newValue newEntry laid
   within-empty q e = within-none (value q) refl refl (rw e)
 
-  pub within-target : withinTables (added t target x) ≡ true
+  pub within-target : withinTables sizes (added t target x) ≡ true
   unfolding newUri newName newValue
   within-target = within-none target refl refl refl
 
-  pub within-plain : withinTables (added t plain x) ≡ true
+  pub within-plain : withinTables sizes (added t plain x) ≡ true
   unfolding newUri newName newValue
   within-plain = within-none plain refl refl refl
 

@@ -15,7 +15,8 @@ use Rattle.spec_fields.proofs.Number.{member-below}
 use Rattle.text.specs.Text.{Text, eqText}
 use Rattle.text.proofs.Equal.{eqText-refl, eqText-eq, eqText-no}
 use Rattle.spec_exi.specs.Event.{QName, eqName}
-use Rattle.spec_exi.specs.Tables.{Placed, Tables, partition, namesOf, valuesOf, allValues, indexOf, uri, local, value, partitionsOf, hit, literal, hitOr, firstHit, formOf}
+use Rattle.spec_exi.specs.Tables.{Slot, Tables, partition, namesOf, valuesOf, allValues, indexOf, uri, local, value, partitionsOf, hit, literal, hitOr, firstHit, formOf}
+use Rattle.spec_exi.specs.Tables as tables
 use Rattle.spec_exi.proofs.Codes.{eqName-refl, eqName-eq}
 use Rattle.rows.specs.declared.Row.{Row}
 use Rattle.rows.specs.declared.Found.{Found}
@@ -38,11 +39,11 @@ row-of work base n i e =
     (h, cc (rows-at work base n i h, e))
 
 -- The strings of selected rows.
-stringsIn : Memory → List (ℕ × Row) → List Placed
-stringsIn m ps = map (λ p. placedAt m (p .1)) ps
+stringsIn : Memory → List (ℕ × Row) → List Slot
+stringsIn m ps = map (λ p. some (placedAt m (p .1))) ps
 
 -- A selected row is hit at the number of selected rows before it.
-hit-row : (all : Bool) (key : ℕ) (work : List ℕ) (base n row : ℕ) → row < n → selected all key (rowAt work base row) ≡ true
+pub hit-row : (all : Bool) (key : ℕ) (work : List ℕ) (base n row : ℕ) → row < n → selected all key (rowAt work base row) ≡ true
     → Hit all key work base n (countOf all key (take row (rows work base n))) row
 hit-row all key work base n row h s =
     record {
@@ -54,7 +55,7 @@ hit-row all key work base n row h s =
     }
 
 -- A text that the list lacks is no selected row's.
-pub absent : {m : Memory} {base n : ℕ} {all : Bool} {key : ℕ} {es : List Placed} → Listed m base n all key es
+pub absent : {m : Memory} {base n : ℕ} {all : Bool} {key : ℕ} {es : List Slot} → Listed m base n all key es
     → (x : Text) → indexOf es x ≡ none → (row : ℕ) → row < n → selected all key (rowAt (m .work) base row) ≡ true → textOf (m .cells) (rowAt (m .work) base row) ≢ x
 absent {m} {base} {n} {all} {key} {es} l x lacks row h s e =
     Option·none-ne-some _ (sym lacks ∙ ap (indexOf es) (sym e) ∙ l .own _ row (hit-row all key (m .work) base n row h s))
@@ -66,14 +67,14 @@ Apart m base n all key =
     → textOf (m .cells) (rowAt (m .work) base i) ≡ textOf (m .cells) (rowAt (m .work) base j) → i ≡ j
 
 module _ (m : Memory) where
-  strings-at : (ps : List (ℕ × Row)) (i : ℕ) → getElem? (stringsIn m ps) i ≡ Option·map (λ p. placedAt m (p .1)) (getElem? ps i)
+  strings-at : (ps : List (ℕ × Row)) (i : ℕ) → getElem? (stringsIn m ps) i ≡ Option·map (λ p. some (placedAt m (p .1))) (getElem? ps i)
   unfolding stringsIn
   strings-at [] i = refl
   strings-at (p ∷ ps) zero = refl
   strings-at (p ∷ ps) (suc i) = strings-at ps i
 
   strings-find : (x : Text) (ps : List (ℕ × Row)) → indexOf (stringsIn m ps) x ≡ Option·map (λ p. p .0) (firstThat (hasText (m .cells) x) 0 ps)
-  unfolding stringsIn indexOf firstThat placedAt
+  unfolding stringsIn indexOf tables.hasText firstThat placedAt
   strings-find x [] = refl
   strings-find x (p ∷ ps) =
       split (eqText (textOf (m .cells) (p .1)) x)
@@ -110,13 +111,13 @@ module _ (m : Memory) where
           let number : p .0 ≡ i = sym (there .before) ∙ ap (λ (k : ℕ). countOf all key (take k rs)) same ∙ h .before in
           λ j. some (number j, same j)
 
-  listed : (base n : ℕ) (all : Bool) (key : ℕ) (es : List Placed) → Apart m base n all key
+  listed : (base n : ℕ) (all : Bool) (key : ℕ) (es : List Slot) → Apart m base n all key
       → es ≡ stringsIn m (numbered all key 0 (rows (m .work) base n)) → Listed m base n all key es
   unfolding stringsIn countOf nthOf nthIn findThat
   listed base n all key es apart e =
       record {
         count = rw (e, length-map);
-        nth = λ i. ap (λ (l : List Placed). getElem? l i) e ∙ strings-at ps i ∙ placed i (getElem? ps i) refl;
+        nth = λ i. ap (λ (l : List Slot). getElem? l i) e ∙ strings-at ps i ∙ placed i (getElem? ps i) refl;
         find = find;
         own = λ i row h. find (textOf (m .cells) (rowAt (m .work) base row)) ∙ rw (find-own base n all key apart i row h);
       }
@@ -125,16 +126,16 @@ module _ (m : Memory) where
       ps = numbered all key 0 (rows (m .work) base n)
 
       find : (x : Text) → indexOf es x ≡ Option·map (λ p. p .0) (findThat (hasText (m .cells) x) all key (rows (m .work) base n))
-      find x = ap (λ (l : List Placed). indexOf l x) e ∙ strings-find x ps
+      find x = ap (λ (l : List Slot). indexOf l x) e ∙ strings-find x ps
 
       placed : (i : ℕ) (o : Option (ℕ × Row)) → getElem? ps i ≡ o
-          → Option·map (λ p. placedAt m (p .1)) o ≡ Option·map (λ row. placedAt m (rowAt (m .work) base row)) (Option·map (λ p. p .0) o)
+          → Option·map (λ p. some (placedAt m (p .1))) o ≡ Option·map (λ row. some (placedAt m (rowAt (m .work) base row))) (Option·map (λ p. p .0) o)
       placed i none e = refl
       placed i (some p) e =
           let h : Nth all key i (rows (m .work) base n) (p .0) (p .1) = entry-nth all key i (rows (m .work) base n) e in
-          ap (λ (r : Row). some (placedAt m r)) (sym (row-of (m .work) base n (p .0) (h .at) .1))
+          ap (λ (r : Row). some (some (placedAt m r))) (sym (row-of (m .work) base n (p .0) (h .at) .1))
 
-  whole : (key j : ℕ) (rs : List Row) → map (placedAt m) rs ≡ stringsIn m (numbered true key j rs)
+  whole : (key j : ℕ) (rs : List Row) → map (λ r. some (placedAt m r)) rs ≡ stringsIn m (numbered true key j rs)
   unfolding stringsIn numbered selected keep
   whole key j [] = refl
   whole key j (r ∷ rs) = cc (whole key (suc j) rs)
@@ -149,15 +150,15 @@ abbrev pub rowOf : Found → Option ℕ
 rowOf (At number row) = some row
 rowOf Nothing = none
 
-module _ {m : Memory} {base n : ℕ} {all : Bool} {key : ℕ} {es : List Placed} (l : Listed m base n all key es) {answer : Found} where
+module _ {m : Memory} {base n : ℕ} {all : Bool} {key : ℕ} {es : List Slot} (l : Listed m base n all key es) {answer : Found} where
   pub nth-answer : (i : ℕ) → answer ≡ foundAt i (nthOf all key i (rows (m .work) base n))
-      → getElem? es i ≡ Option·map (λ row. placedAt m (rowAt (m .work) base row)) (rowOf answer)
+      → getElem? es i ≡ Option·map (λ row. some (placedAt m (rowAt (m .work) base row))) (rowOf answer)
   unfolding foundAt
   nth-answer i e = l .nth i ∙ rw e (go (nthOf all key i (rows (m .work) base n)))
     where
       go : (o : Option ℕ)
-          → Option·map (λ row. placedAt m (rowAt (m .work) base row)) o
-          ≡ Option·map (λ row. placedAt m (rowAt (m .work) base row)) (rowOf (foundAt i o))
+          → Option·map (λ row. some (placedAt m (rowAt (m .work) base row))) o
+          ≡ Option·map (λ row. some (placedAt m (rowAt (m .work) base row))) (rowOf (foundAt i o))
       go none = refl
       go (some row) = refl
 
@@ -182,7 +183,7 @@ module _ {K : Type 0} (same : K → K → Bool) (same-refl : (a : K) → T (same
       (λ t. rw (t, ne-eqb (r .key) key (λ e. true≢false (sym (T-is (same (f key) (f key)) (same-refl (f key))) ∙ rw e at t))))
 
   part-rows : (j : ℕ) (rs : List Row) → ((i : ℕ) (r : Row) → getElem? rs i ≡ some r → r .key < k)
-      → partition (same (f key)) (map (λ r. record { key = f (r .key); string = placedAt m r }) rs) ≡ stringsIn m (numbered false key j rs)
+      → map some (partition (same (f key)) (map (λ r. record { key = f (r .key); string = placedAt m r }) rs)) ≡ stringsIn m (numbered false key j rs)
   unfolding partition stringsIn numbered keep
   part-rows j [] h = refl
   part-rows j (r ∷ rs) h =
@@ -193,15 +194,17 @@ module _ {K : Type 0} (same : K → K → Bool) (same-refl : (a : K) → T (same
 
   part-listed : (base n : ℕ) → ((i : ℕ) → i < n → rowAt (m .work) base i .key < k) → Apart m base n false key
       → Listed m base n false key
-      (partition (same (f key)) (map (λ r. record { key = f (r .key); string = placedAt m r }) (rows (m .work) base n)))
+      (map some (partition (same (f key)) (map (λ r. record { key = f (r .key); string = placedAt m r }) (rows (m .work) base n))))
   part-listed base n h apart =
       listed m base n false key _ apart
       (part-rows 0 (rows (m .work) base n) (λ i r e. let (b, s) = row-of (m .work) base n i e in rw s at (h i b)))
 
 module _ (m : Memory) (c : Counts) (d : Distinct m c) where
-  pub uris-listed : (key : ℕ) → Listed m urisAt (c .uris) true key (tablesIn m c .uris)
+  pub uris-listed : (key : ℕ) → Listed m urisAt (c .uris) true key (map some (tablesIn m c .uris))
   unfolding tablesIn uriText
-  uris-listed key = listed m urisAt (c .uris) true key _ (λ i j h l a b. d .uris i j h l) (whole m key 0 (rows (m .work) urisAt (c .uris)))
+  uris-listed key =
+      listed m urisAt (c .uris) true key _ (λ i j h l a b. d .uris i j h l)
+      (map-map _ _ (rows (m .work) urisAt (c .uris)) ∙ whole m key 0 (rows (m .work) urisAt (c .uris)))
 
   pub any-listed : (key : ℕ) → Listed m valuesAt (c .values) true key (allValues (tablesIn m c))
   unfolding tablesIn allValues valueEntry
@@ -210,7 +213,7 @@ module _ (m : Memory) (c : Counts) (d : Distinct m c) where
       (map-map _ _ (rows (m .work) valuesAt (c .values)) ∙ whole m key 0 (rows (m .work) valuesAt (c .values)))
 
   module _ (s : Strings m c) where
-    pub names-listed : (u : ℕ) → u < c .uris → Listed m namesAt (c .names) false u (namesOf (tablesIn m c) (uriText m u))
+    pub names-listed : (u : ℕ) → u < c .uris → Listed m namesAt (c .names) false u (map some (namesOf (tablesIn m c) (uriText m u)))
     unfolding tablesIn namesOf nameEntry nameAt selected
     names-listed u h =
         part-listed eqText eqText-refl eqText-eq m (uriText m) (c .uris) (d .uris) u h namesAt (c .names) (s .nameKeys)
@@ -226,11 +229,11 @@ module _ (m : Memory) (c : Counts) (d : Distinct m c) where
 -- ---- the strict form, by the tables
 
 module _ (t : Tables) (x : Text) where
-  pub form-uri : formOf (partitionsOf t uri) x ≡ hitOr 0 (indexOf (t .uris) x) literal
+  pub form-uri : formOf (partitionsOf t uri) x ≡ hitOr 0 (indexOf (map some (t .uris)) x) literal
   unfolding formOf partitionsOf firstHit
   form-uri = refl
 
-  pub form-local : (attr : Bool) (u : Text) → formOf (partitionsOf t (local attr u)) x ≡ hitOr 0 (indexOf (namesOf t u) x) literal
+  pub form-local : (attr : Bool) (u : Text) → formOf (partitionsOf t (local attr u)) x ≡ hitOr 0 (indexOf (map some (namesOf t u)) x) literal
   unfolding formOf partitionsOf firstHit
   form-local attr u = refl
 

@@ -17,7 +17,7 @@ use lib.Dec.{eqb}
 use Rattle.text.specs.Text.{Text}
 use Rattle.spec_exi.specs.Event.{QName, Kind, SD, ED, SE, AT, EE, CH, CM, PI}
 use Rattle.spec_exi.specs.Tables.{Placed, Entry, Tables}
-use Rattle.spec_exi.specs.Grammar.{Learned, State, document, docContent, docEnd, finished, startTag, elementContent}
+use Rattle.spec_exi.specs.Grammar.{Production, Learned, Site, tagOf, contentOf, State, document, docContent, docEnd, finished, startTag, elementContent}
 use Rattle.spec_exi.specs.Context.{Context}
 use Rattle.rows.specs.declared.Row.{Row}
 use Rattle.rows.specs.Rows.{rowAt, rows, textOf}
@@ -49,7 +49,14 @@ uriText m u = textOf (m .cells) (rowAt (m .work) urisAt u)
 unfoldable pub nameEntry : Memory → Row → Entry Text
 nameEntry m r = record { key = uriText m (r .key); string = placedAt m r }
 
--- The name with this number.
+-- The name with this number, where its strings lie, and by its texts.
+unfoldable pub placedName : Memory → ℕ → QName Placed
+placedName m n =
+    record {
+      uri = placedAt m (rowAt (m .work) urisAt (rowAt (m .work) namesAt n .key));
+      local = placedAt m (rowAt (m .work) namesAt n);
+    }
+
 unfoldable pub nameAt : Memory → ℕ → QName Text
 nameAt m n = record { uri = uriText m (rowAt (m .work) namesAt n .key); local = textOf (m .cells) (rowAt (m .work) namesAt n) }
 
@@ -81,27 +88,35 @@ carries CH = false
 carries CM = false
 carries PI = false
 
-unfoldable pub carriedName : Memory → Kind → ℕ → Option (QName Text)
+unfoldable pub carriedName : Memory → Kind → ℕ → Option (QName Placed)
 carriedName m SD n = none
 carriedName m ED n = none
-carriedName m SE n = some (nameAt m n)
-carriedName m AT n = some (nameAt m n)
+carriedName m SE n = some (placedName m n)
+carriedName m AT n = some (placedName m n)
 carriedName m EE n = none
 carriedName m CH n = none
 carriedName m CM n = none
 carriedName m PI n = none
+
+-- The production of this kind, with the name of this number if it carries one.
+abbrev pub productionAt : Memory → Kind → ℕ → Production
+productionAt m k n = record { kind = k; qname = carriedName m k n }
 
 -- The key of an element's learned rows, by its name's number, in its start tag (true) or in its content.
 abbrev pub learnedKey : ℕ → Bool → ℕ
 learnedKey e true = 2 * e + 1
 learnedKey e false = 2 * e
 
+-- Where an element learns: in its start tag (true) or in its content.
+abbrev pub siteFor : QName Text → Bool → Site
+siteFor q true = tagOf q
+siteFor q false = contentOf q
+
 unfoldable pub learnedRow : Memory → Row → Learned
 learnedRow m r =
     record {
-      element = nameAt m (r .key / 2);
-      inTag = eqb (r .key % 2) 1;
-      production = record { kind = kindAt (r .place); qname = carriedName m (kindAt (r .place)) (r .size) };
+      site = siteFor (nameAt m (r .key / 2)) (eqb (r .key % 2) 1);
+      production = productionAt m (kindAt (r .place)) (r .size);
     }
 
 -- The newest row is first.

@@ -13,7 +13,7 @@ use Rattle.spec_fields.specs.Refusal.{Refusal, numberOf, character, name, limit
 use Rattle.spec_fields.proofs.Refusal.{refusal-number}
 use Rattle.spec_fields.proofs.Tests.{split, T-is, is-T, right}
 use Rattle.text.specs.Text.{Text, allChars}
-use Rattle.spec_exi.specs.Sizes.{maxUris, maxNames, maxValues, maxString, maxStore}
+use Rattle.spec_exi.specs.Sizes.{maxUris, maxNames, maxValues, maxString, maxStore, sizes}
 use Rattle.spec_exi.specs.Tables.{Tables, Role, added, nameAllowed}
 use Rattle.spec_exi.specs.Context.{Item, afterItem, afterItems}
 use Rattle.spec_exi.specs.Strict.{itemsBits}
@@ -51,7 +51,7 @@ failed-first k (x ∷ xs) ys e = split (x .0) (λ h. rw h (failed-first k xs ys 
 
 -- ---- one string
 
-store-room : (t : Tables) → T (withinTables t) → T (leb (length (t .store)) maxStore)
+store-room : (t : Tables) → T (withinTables sizes t) → T (leb (length (t .store)) maxStore)
 unfolding withinTables
 store-room t =
     right
@@ -59,10 +59,10 @@ store-room t =
     (leb (length (t .store)) maxStore)
 
 -- A hit, or a name that is not written.
-pub fault-kept : (t : Tables) (i : Item) → T (withinTables t) → afterItem t i ≡ t
-    → firstFailed (stringTests t i) ≡ stringFault (i .text) false (length (t .store)) (nameAllowed (i .role) (i .text)) true
+pub fault-kept : (t : Tables) (i : Item) → T (withinTables sizes t) → afterItem t i ≡ t
+    → firstFailed (stringTests sizes t i) ≡ stringFault (i .text) false (length (t .store)) (nameAllowed (i .role) (i .text)) true
 unfolding stringTests stringFault
-fault-kept t i w e = rw (e, T-is (withinTables t) w, T-is (leb (length (t .store)) maxStore) (store-room t w))
+fault-kept t i w e = rw (e, T-is (withinTables sizes t) w, T-is (leb (length (t .store)) maxStore) (store-room t w))
 
 added-length : (t : Tables) (r : Role) (x : Text) → length (added t r x .store) ≡ length (t .store) + length x
 unfolding added
@@ -70,8 +70,8 @@ added-length t r x = length-append (t .store) x
 
 -- A literal; whether its table has a row left counts only where it fits the store.
 pub fault-added : (t : Tables) (i : Item) (left : Bool) → afterItem t i ≡ added t (i .role) (i .text)
-    → (length (t .store) + length (i .text) ≤ maxStore → withinTables (added t (i .role) (i .text)) ≡ left)
-    → firstFailed (stringTests t i) ≡ stringFault (i .text) true (length (t .store)) (nameAllowed (i .role) (i .text)) left
+    → (length (t .store) + length (i .text) ≤ maxStore → withinTables sizes (added t (i .role) (i .text)) ≡ left)
+    → firstFailed (stringTests sizes t i) ≡ stringFault (i .text) true (length (t .store)) (nameAllowed (i .role) (i .text)) left
 unfolding stringTests stringFault firstFailed
 fault-added t i left e h =
     let l : length (added t (i .role) (i .text) .store) ≡ length (t .store) + length (i .text) = added-length t (i .role) (i .text) in
@@ -114,7 +114,7 @@ unfolding afterItems
 after-append t [] js = refl
 after-append t (i ∷ is) js = after-append (afterItem t i) is js
 
-pub content-append : (t : Tables) (is js : List Item) → contentTests t (is ++ js) ≡ contentTests t is ++ contentTests (afterItems t is) js
+pub content-append : (t : Tables) (is js : List Item) → contentTests sizes t (is ++ js) ≡ contentTests sizes t is ++ contentTests sizes (afterItems t is) js
 unfolding contentTests afterItems
 content-append t [] js = refl
 content-append t (i ∷ is) js = rw (content-append (afterItem t i) is js, append-assoc)

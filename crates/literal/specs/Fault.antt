@@ -7,7 +7,7 @@ use lib.ListN.{length}
 use lib.Dec.{leb}
 use Rattle.spec_fields.specs.Refusal.{Refusal, numberOf, character, name, limit}
 use Rattle.text.specs.Text.{Text, allChars}
-use Rattle.spec_exi.specs.Sizes.{maxStore}
+use Rattle.spec_exi.specs.Sizes.{sizes, maxStore}
 use Rattle.spec_exi.specs.Lists.{short}
 use Rattle.spec_exi.specs.Writer.{firstFailed}
 
@@ -21,7 +21,7 @@ faultNumber (some k) = numberOf k
 unfoldable pub stringFault : Text → Bool → ℕ → Bool → Bool → Option Refusal
 stringFault x literal stored allowed left =
     firstFailed (
-    (short x, limit)
+    (short sizes x, limit)
     ∷ (not literal || leb (stored + length x) maxStore, limit)
     ∷ (allChars x, character)
     ∷ (allowed, name)

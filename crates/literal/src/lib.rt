@@ -9,6 +9,8 @@ ghost use Rattle.literal.specs.Fault.{faultNumber, stringFault};
 use refusal::CHARACTER;
 use refusal::LIMIT;
 use refusal::NAME;
+use sizes::MAX_STORE;
+use sizes::MAX_STRING;
 
 // The number of the refusal for a string, or 0: the length limit, the store limit if it goes out as a literal behind `stored` code points,
 // characters, whether the name is allowed, and whether its table has a row left.
@@ -16,10 +18,10 @@ pub fn fault(x: &[u32], literal: bool, stored: usize, allowed: bool, left: bool)
     requires { ⌜ stored ≤ maxStore ⌝ }
     ensures { λ r. ⌜ r ≡ faultNumber (stringFault (now (x .entry)) literal stored allowed left) ⌝ }
 {
-    if 1024 < x.len() {
+    if MAX_STRING < x.len() {
         return LIMIT;
     }
-    if literal & (16384 < stored + x.len()) {
+    if literal & (MAX_STORE < stored + x.len()) {
         return LIMIT;
     }
     if !text::all_chars(x) {

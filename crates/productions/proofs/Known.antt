@@ -4,15 +4,16 @@ use native.Mathlib.Omega.{arith}
 use mathlib.Core.Path.{_≡_, refl, sym, ap, _∙_}
 use mathlib.Core.Bool.{Bool, true, false, true≢false}
 use mathlib.Core.List.{List, [], _∷_, _++_, map}
-use mathlib.Core.Option.{Option, none, some, Option·map, Option·none-ne-some}
+use mathlib.Core.Option.{Option, none, some, Option·map, Option·none-ne-some, map-eq-none-iff}
 use lib.ListN.{length, take, getElem?}
 use lib.Dec.{eqb}
 use borrow.Author.Tests.{eqb-true}
 use Rattle.spec_fields.proofs.Tests.{split}
 use Rattle.spec_fields.proofs.Number.{member-below}
 use Rattle.text.specs.Text.{Text}
-use Rattle.spec_exi.specs.Event.{Event, startElement, attribute, endElement, characters, Kind, kindOf, nameOf}
-use Rattle.spec_exi.specs.Grammar.{Production, kindNumber, fits, learnedIn, raised, firstFit, productionFor, hasName}
+use Rattle.spec_exi.specs.Event.{Event, startDocument, endDocument, startElement, attribute, endElement, characters, comment, instruction, Kind, SD, ED, SE, AT, EE, CH, CM, PI, kindOf, nameOf}
+use Rattle.spec_exi.specs.Grammar.{Production, kindNumber, fitsName, fits, Site, eqSite, learnedIn, raised, firstFit, hasKind, hasName}
+use Rattle.spec_exi.specs.Grammar as grammar
 use Rattle.rows.specs.declared.Row.{Row}
 use Rattle.rows.specs.declared.Found.{Found}
 use Rattle.rows.specs.declared.Found.the-variants.{At, Nothing}
@@ -20,8 +21,9 @@ use Rattle.rows.specs.Rows.{rowAt, rows, countOf, findThat, found}
 use Rattle.rows.proofs.Laws.{rows-length, rows-at}
 use Rattle.rows.specs.Hit.{Hit}
 use Rattle.layout.specs.Layout.{learnedAt, grammarsAt}
-use Rattle.layout.specs.Meaning.{Memory, Counts, nameAt, kindAt, carries, carriedName, learnedKey, learnedRow, learnedFrom, grammarsFrom}
+use Rattle.layout.specs.Meaning.{Memory, Counts, nameAt, kindAt, carries, carriedName, productionAt, learnedKey, siteFor, learnedRow, newestFirst, learnedFrom, grammarsFrom}
 use Rattle.layout.specs.Tidy.{Distinct, Grammars}
+use Rattle.layout.proofs.Kept.{name-placed}
 use Rattle.layout.proofs.Productions.{name-test, kind-test, carried-test, kind-at, learned-count, learned-as, learned-at, learned-hit}
 use Rattle.productions.specs.Locate.{hasCells, hasKey}
 pub use Rattle.productions.specs.Numbered.{Numbered}
@@ -98,6 +100,46 @@ module _ (ev : Event Text) where
 
 -- ---- learned productions
 
+-- A production fits an event without a name exactly if it has its kind: it carries no name either.
+kind-fits : (m : Memory) (ev : Event Text) → nameOf ev ≡ none → (i : ℕ) (k : Kind)
+    → fits (productionAt m k i) ev ≡ eqb (kindNumber (kindOf ev)) (kindNumber k)
+unfolding kindOf nameOf kindNumber fits fitsName carriedName
+kind-fits m startDocument n i = elim [ SD ↦ refl | ED ↦ refl | SE ↦ refl | AT ↦ refl | EE ↦ refl | CH ↦ refl | CM ↦ refl | PI ↦ refl ]
+kind-fits m endDocument n i = elim [ SD ↦ refl | ED ↦ refl | SE ↦ refl | AT ↦ refl | EE ↦ refl | CH ↦ refl | CM ↦ refl | PI ↦ refl ]
+kind-fits m endElement n i = elim [ SD ↦ refl | ED ↦ refl | SE ↦ refl | AT ↦ refl | EE ↦ refl | CH ↦ refl | CM ↦ refl | PI ↦ refl ]
+kind-fits m (startElement q) n i = absurd (Option·none-ne-some _ (sym n))
+kind-fits m (attribute q v) n i = absurd (Option·none-ne-some _ (sym n))
+kind-fits m (characters v) n i = elim [ SD ↦ refl | ED ↦ refl | SE ↦ refl | AT ↦ refl | EE ↦ refl | CH ↦ refl | CM ↦ refl | PI ↦ refl ]
+kind-fits m (comment x) n i = elim [ SD ↦ refl | ED ↦ refl | SE ↦ refl | AT ↦ refl | EE ↦ refl | CH ↦ refl | CM ↦ refl | PI ↦ refl ]
+kind-fits m (instruction x y) n i = elim [ SD ↦ refl | ED ↦ refl | SE ↦ refl | AT ↦ refl | EE ↦ refl | CH ↦ refl | CM ↦ refl | PI ↦ refl ]
+
+-- Where none fits such an event, none of its kind is learned.
+module _ (m : Memory) (ev : Event Text) (nameless : nameOf ev ≡ none) where
+  kind-new : (l : List Production) (r : Row) → firstFit (learnedRow m r .production ∷ l) ev ≡ none
+      → (eqb (kindNumber (kindOf ev)) (kindNumber (learnedRow m r .production .kind)) ≡ false) × (firstFit l ev ≡ none)
+  unfolding firstFit learnedRow
+  kind-new l r h =
+      let same = kind-fits m ev nameless (r .size) (kindAt (r .place)) in
+      split (fits (productionAt m (kindAt (r .place)) (r .size)) ev)
+      (λ t. absurd (Option·none-ne-some _ (sym (rw t at h))))
+      (λ t. (sym same ∙ t, map-eq-none-iff raised (firstFit l ev) .0 (rw t at h)))
+
+  unlearned-in : (k : Site) (n : ℕ) → firstFit (learnedIn k (learnedFrom m n)) ev ≡ none
+      → hasKind (kindOf ev) (learnedIn k (learnedFrom m n)) ≡ false
+  unfolding learnedIn learnedFrom newestFirst hasKind
+  unlearned-in k zero h = refl
+  unlearned-in k (suc n) h =
+      let r : Row = rowAt (m .work) learnedAt n in
+      split (eqSite k (learnedRow m r .site))
+      (λ t. let (a, b) = kind-new (learnedIn k (learnedFrom m n)) r (rw t at h) in rw (t, a) (unlearned-in k n b))
+      (λ t. rw t (unlearned-in k n (rw t at h)))
+
+  pub unlearned : (o : Option Site) (n : ℕ) → firstFit (grammar.learnedAt o (learnedFrom m n)) ev ≡ none
+      → hasKind (kindOf ev) (grammar.learnedAt o (learnedFrom m n)) ≡ false
+  unfolding grammar.learnedAt hasKind
+  unlearned none n h = refl
+  unlearned (some k) n h = unlearned-in k n h
+
 -- The event's production stands in a row of the element and state, and v rows of its key follow.
 pub record Taught (m : Memory) (c : Counts) (e : ℕ) (tag : Bool) (ev : Event Text) (i v : ℕ) : Type 0 where
   pub number : ℕ
@@ -109,11 +151,11 @@ pub record Taught (m : Memory) (c : Counts) (e : ℕ) (tag : Bool) (ev : Event T
 module _ (m : Memory) (c : Counts) where
   pub start-numbered : (i : ℕ) → i < c .names → Numbered m c (startElement (nameAt m i)) i
   unfolding kindOf nameOf kindNumber carriedName
-  start-numbered i h = record { kind = omega arith; name = refl; below = h; plain = λ z. absurd (true≢false z) }
+  start-numbered i h = record { kind = omega arith; name = ap some (sym (name-placed m i)); below = h; plain = λ z. absurd (true≢false z) }
 
   pub attribute-numbered : (i : ℕ) (v : Text) → i < c .names → Numbered m c (attribute (nameAt m i) v) i
   unfolding kindOf nameOf kindNumber carriedName
-  attribute-numbered i v h = record { kind = omega arith; name = refl; below = h; plain = λ z. absurd (true≢false z) }
+  attribute-numbered i v h = record { kind = omega arith; name = ap some (sym (name-placed m i)); below = h; plain = λ z. absurd (true≢false z) }
 
   pub end-numbered : 0 < c .names → Numbered m c endElement 0
   unfolding kindOf nameOf kindNumber carriedName
@@ -139,10 +181,10 @@ module _ (m : Memory) (c : Counts) where
         rw (t, z) (carried-test m c d k (r .size) i (g .carried row b) (n .below) (λ p. g .plain row b (rw z p) ∙ sym (n .plain p))))
         (λ t. rw t))
 
-    fitting-row : (v : ℕ) (p : Production) → getElem? (learnedIn (nameAt m e) tag (learnedFrom m (c .learned))) v ≡ some p → fits p ev ≡ true
+    fitting-row : (v : ℕ) (p : Production) → getElem? (learnedIn (siteFor (nameAt m e) tag) (learnedFrom m (c .learned))) v ≡ some p → fits p ev ≡ true
         → Taught m c e tag ev i v
     fitting-row v p a t =
-        let b = member-below (learnedIn (nameAt m e) tag (learnedFrom m (c .learned))) v a in
+        let b = member-below (learnedIn (siteFor (nameAt m e) tag) (learnedFrom m (c .learned))) v a in
         let (number, row, hit, z) = learned-hit m c d e tag h g v (rw (← learned-count m c d e tag h g) b) in
         let r : Row = rowAt (m .work) learnedAt row in
         let s : p ≡ learnedRow m r .production = cc (learned-at m c d e tag h g v hit z) in
@@ -150,11 +192,10 @@ module _ (m : Memory) (c : Counts) where
         record { number = number; row = row; hit = hit; follow = z; is = cells-row (learnedKey e tag) (kindNumber (kindOf ev)) i r (hit .is) k }
 
     -- Then it is number v of those learned.
-    pub taught-at : {v : ℕ} → Taught m c e tag ev i v → getElem? (learnedIn (nameAt m e) tag (learnedFrom m (c .learned))) v ≡ some (productionFor ev)
-    unfolding productionFor
+    pub taught-at : {v : ℕ} → Taught m c e tag ev i v → getElem? (learnedIn (siteFor (nameAt m e) tag) (learnedFrom m (c .learned))) v ≡ some (productionAt m (kindOf ev) i)
     taught-at {v} x =
         learned-at m c d e tag h g v (x .hit) (x .follow)
-        ∙ ap some (ap (λ r. learnedRow m r .production) (x .is) ∙ ap (λ y. y .production) (learned-as m e tag (kindOf ev) i) ∙ rw (n .name))
+        ∙ ap some (ap (λ r. learnedRow m r .production) (x .is) ∙ ap (λ y. y .production) (learned-as m e tag (kindOf ev) i))
 
     taught-once : {v w : ℕ} → Taught m c e tag ev i v → Taught m c e tag ev i w → v ≡ w
     taught-once x y =
@@ -165,14 +206,14 @@ module _ (m : Memory) (c : Counts) where
 
     -- And the first that fits.
     pub taught-first : {v : ℕ} → Taught m c e tag ev i v
-        → firstFit (learnedIn (nameAt m e) tag (learnedFrom m (c .learned))) ev ≡ some (v, productionFor ev)
+        → firstFit (learnedIn (siteFor (nameAt m e) tag) (learnedFrom m (c .learned))) ev ≡ some (v, productionAt m (kindOf ev) i)
     taught-first {v} x =
         let fit : fits (learnedRow m (rowAt (m .work) learnedAt (x .row)) .production) ev ≡ true =
         rw (row-fits (x .row) (x .hit .below))
         (row-cells (learnedKey e tag) (kindNumber (kindOf ev)) i (rowAt (m .work) learnedAt (x .row)) (x .is) .1) in
-        let same : learnedRow m (rowAt (m .work) learnedAt (x .row)) .production ≡ productionFor ev =
+        let same : learnedRow m (rowAt (m .work) learnedAt (x .row)) .production ≡ productionAt m (kindOf ev) i =
         cc (learned-at m c d e tag h g v (x .hit) (x .follow), taught-at x) in
-        fit-first ev (learnedIn (nameAt m e) tag (learnedFrom m (c .learned))) v (taught-at x) (rw same at fit)
+        fit-first ev (learnedIn (siteFor (nameAt m e) tag) (learnedFrom m (c .learned))) v (taught-at x) (rw same at fit)
         (λ w q b at. split (fits q ev) (λ t. absurd (let z = taught-once (fitting-row w q at t) x in omega arith)) (λ t. t))
 
     module _ {f : Found} (answer : f ≡ found (findThat (hasCells (kindNumber (kindOf ev)) i) false (learnedKey e tag) (rows (m .work) learnedAt (c .learned)))) where
@@ -183,9 +224,9 @@ module _ (m : Memory) (c : Counts) where
           let (hit, s) = locate-hit (learnedKey e tag) (kindNumber (kindOf ev)) i (m .work) learnedAt (c .learned) answer a in
           record { number = number; row = row; hit = hit; follow = z; is = s }
 
-      pub unknown : f ≡ Nothing → firstFit (learnedIn (nameAt m e) tag (learnedFrom m (c .learned))) ev ≡ none
+      pub unknown : f ≡ Nothing → firstFit (learnedIn (siteFor (nameAt m e) tag) (learnedFrom m (c .learned))) ev ≡ none
       unknown a =
-          fit-none ev (learnedIn (nameAt m e) tag (learnedFrom m (c .learned)))
+          fit-none ev (learnedIn (siteFor (nameAt m e) tag) (learnedFrom m (c .learned)))
           (λ v p at. split (fits p ev) (λ t. absurd (never (fitting-row v p at t))) (λ t. t))
         where
           never : {v : ℕ} → Taught m c e tag ev i v → ⊥

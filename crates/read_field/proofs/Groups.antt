@@ -1,6 +1,6 @@
 -- An Unsigned Integer octet by octet, from the least significant group on.
 use mathlib.Core.Path.{_≡_, refl, sym, ap, _∙_}
-use mathlib.Core.Bool.{true, false}
+use mathlib.Core.Bool.{Bool, true, false, _&&_, and-false}
 use mathlib.Core.List.{List}
 use Prim.Native.Nat.{ℕ, suc, _+_, _*_, _-_, _^_, _≤_, _<_}
 use native.Mathlib.Omega.{arith}
@@ -21,18 +21,20 @@ use Rattle.read_field.proofs.Numbers.{octet-at, octet-past}
 
 module _ (bs : Bits) {rest : Bits} {o : ℕ} (e : octet bs ≡ got o rest) where
   -- The last octet.
-  grouped-last : (k : ℕ) → o < 128 → grouped (suc k) bs ≡ got o rest
+  grouped-last : (k : ℕ) → o < 128 → grouped (suc k) bs ≡ got (o, true) rest
   unfolding grouped _>>=_ andThen return
   grouped-last k h = rw (e, lt-ltb o 128 h)
 
   -- An octet before others.
   grouped-more : (k : ℕ) → 128 ≤ o
-      → grouped (suc k) bs ≡ (grouped k >>= λ high. need (ltb 0 high) number >> return ((o - 128) + 128 * high)) rest
+      → grouped (suc k) bs
+      ≡ (grouped k >>= λ x. return ((o - 128) + 128 * (x .0), x .1 && ltb 0 (x .0))) rest
   unfolding grouped _>>=_ andThen
   grouped-more k h = rw (e, le-ltb o 128 h)
 
 -- One octet below 128 is the whole.
-unsigned-one : (bs : Bits) {rest : Bits} {o : ℕ} → octet bs ≡ got o rest → o < 128 → unsigned bs ≡ got o rest
+unsigned-one : (bs : Bits) {rest : Bits} {o : ℕ} → octet bs ≡ got o rest → o < 128
+    → unsigned bs ≡ got o rest
 unfolding unsigned maxOctets maxUnsigned need _>>=_ _>>_ andThen return
 unsigned-one bs {rest} {o} e h =
     let l : leb o 2147483647 ≡ true = le-leb o 2147483647 (omega arith) in
@@ -42,23 +44,30 @@ unsigned-ended : (bs : Bits) → octet bs ≡ bad ended → unsigned bs ≡ bad 
 unfolding unsigned maxOctets grouped _>>=_ andThen
 unsigned-ended bs e = rw e
 
--- A test of the higher groups, and then another, over one result.
-regrouped : (x : Result ℕ) (g : ℕ → ℕ) (f h : ℕ → Parser ℕ) → ((high : ℕ) (rest : Bits) → 0 < high → f (g high) rest ≡ h high rest)
-    → andThen (andThen x (λ high. need (ltb 0 high) number >> return (g high))) f ≡ andThen x (λ high. need (ltb 0 high) number >> h high)
-unfolding need fail _>>=_ _>>_ andThen return
+-- What is made of the higher groups' number, and whether they are in fewest octets, over one result.
+regrouped : (x : Result (ℕ × Bool)) (g : ℕ × Bool → ℕ × Bool) (f h : ℕ × Bool → Parser ℕ)
+    → ((y : ℕ × Bool) (rest : Bits) → f (g y) rest ≡ h y rest)
+    → andThen (andThen x (λ y. return (g y))) f ≡ andThen x h
+unfolding andThen return
 regrouped (bad k) g f h e = refl
-regrouped (got high rest) g f h e = split (ltb 0 high) (λ t. rw t (e high rest (ltb-true 0 high t))) (λ t. rw t)
+regrouped (got y rest) g f h e = e y rest
 
--- The test of the whole number.
-checked : ℕ → Parser ℕ
-checked v = need (leb v maxUnsigned) number >> return v
-
-unsigned-onward : (bs : Bits) {rest : Bits} {o : ℕ} → octet bs ≡ got o rest → 128 ≤ o → unsigned bs ≡ onward 4 128 (o - 128) rest
-unfolding unsigned maxOctets onward checked _>>=_
+unsigned-onward : (bs : Bits) {rest : Bits} {o : ℕ} → octet bs ≡ got o rest → 128 ≤ o
+    → unsigned bs ≡ onward 4 128 (o - 128) rest
+unfolding unsigned maxOctets onward _>>=_
 unsigned-onward bs {rest} {o} e h =
-    let total : ℕ → ℕ = λ high. (o - 128) + 128 * high in
     rw (grouped-more bs e 4 h)
-    (regrouped (grouped 4 rest) total checked (λ high. checked (total high)) (λ high r p. refl))
+    (regrouped (grouped 4 rest) _ _ _ (λ y r. refl))
+
+-- A group before a number that is not zero is not zero.
+more-fewest : (low high : ℕ) (fewest : Bool) (s : Bool)
+    → (s && ((fewest && ltb 0 high) && ltb 0 (low + 128 * high))) ≡ (s && (fewest && ltb 0 high))
+more-fewest low high fewest false = refl
+more-fewest low high false true = refl
+more-fewest low high true true =
+    split (ltb 0 high)
+    (λ t. rw (t, lt-ltb 0 (low + 128 * high) (omega (arith, ltb-true 0 high t))))
+    (λ t. rw t)
 
 module _ (k weight low : ℕ) (bs : Bits) where
   onward-ended : octet bs ≡ bad ended → onward (suc k) weight low bs ≡ bad ended
@@ -71,33 +80,38 @@ module _ (k weight low : ℕ) (bs : Bits) where
     unfolding onward need fail _>>=_ _>>_ andThen
     onward-zero h =
         let z : ltb 0 o ≡ false = le-ltb 0 o (omega arith) in
-        rw (grouped-last bs e k (omega arith), z)
+        rw (grouped-last bs e k (omega arith), z, and-false)
 
-    onward-large : 0 < o → o < 128 → maxUnsigned < low + weight * o → onward (suc k) weight low bs ≡ bad number
+    onward-large : 0 < o → o < 128 → maxUnsigned < low + weight * o
+        → onward (suc k) weight low bs ≡ bad number
     unfolding onward need fail _>>=_ _>>_ andThen return
-    onward-large p h l = rw (grouped-last bs e k h, lt-ltb 0 o p, lt-leb (low + weight * o) maxUnsigned l)
+    onward-large p h l =
+        rw (grouped-last bs e k h, lt-ltb 0 o p, lt-leb (low + weight * o) maxUnsigned l)
 
-    onward-last : 0 < o → o < 128 → low + weight * o ≤ maxUnsigned → onward (suc k) weight low bs ≡ got (low + weight * o) rest
+    onward-last : 0 < o → o < 128 → low + weight * o ≤ maxUnsigned
+        → onward (suc k) weight low bs ≡ got (low + weight * o) rest
     unfolding onward need _>>=_ _>>_ andThen return
-    onward-last p h l = rw (grouped-last bs e k h, lt-ltb 0 o p, le-leb (low + weight * o) maxUnsigned l)
+    onward-last p h l =
+        rw (grouped-last bs e k h, lt-ltb 0 o p, le-leb (low + weight * o) maxUnsigned l)
 
-    onward-more : 128 ≤ o → onward (suc k) weight low bs ≡ onward k (weight * 128) (low + weight * (o - 128)) rest
-    unfolding onward checked need _>>=_ _>>_ andThen return
+    onward-more : 128 ≤ o
+        → onward (suc k) weight low bs ≡ onward k (weight * 128) (low + weight * (o - 128)) rest
+    unfolding onward _>>=_
     onward-more h =
         rw (grouped-more bs e k h)
-        (regrouped (grouped k rest) total (λ high. need (ltb 0 high) number >> checked (low + weight * high))
-        (λ high. checked (low + weight * (o - 128) + weight * 128 * high))
-        whole)
+        (regrouped (grouped k rest) _ _ _ whole)
       where
-        total : ℕ → ℕ
-        total high = (o - 128) + 128 * high
-
-        whole : (high : ℕ) (r : Bits) → 0 < high → (need (ltb 0 (total high)) number >> checked (low + weight * total high)) r
-            ≡ checked (low + weight * (o - 128) + weight * 128 * high) r
-        whole high r p =
-            let t : ltb 0 (total high) ≡ true = lt-ltb 0 (total high) (omega arith) in
-            let v : low + weight * total high ≡ low + weight * (o - 128) + weight * 128 * high = omega arith in
-            rw (t, v)
+        whole : (y : ℕ × Bool) (r : Bits)
+            → (need (leb (low + weight * ((o - 128) + 128 * (y .0))) maxUnsigned
+            && ((y .1 && ltb 0 (y .0)) && ltb 0 ((o - 128) + 128 * (y .0)))) number
+            >> return (low + weight * ((o - 128) + 128 * (y .0)))) r
+            ≡ (need (leb (low + weight * (o - 128) + weight * 128 * (y .0)) maxUnsigned
+            && (y .1 && ltb 0 (y .0))) number
+            >> return (low + weight * (o - 128) + weight * 128 * (y .0))) r
+        whole (high, fewest) r =
+            let v : low + weight * ((o - 128) + 128 * high)
+            ≡ low + weight * (o - 128) + weight * 128 * high = omega arith in
+            rw (v, more-fewest (o - 128) high fewest _)
 
 -- ---- at a position
 

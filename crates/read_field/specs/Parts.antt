@@ -1,7 +1,7 @@
 -- What the readers are made of: an octet, the 8 bits at a position, the rest of an Unsigned Integer.
 use Prim.Native.Nat.{ℕ, _+_, _*_, _<_}
 use mathlib.Core.Path.{_≡_}
-use mathlib.Core.Bool.{false}
+use mathlib.Core.Bool.{false, _&&_}
 use mathlib.Core.List.{List, _++_}
 use lib.ListN.{take, drop, replicate, getD}
 use lib.Dec.{leb, ltb}
@@ -24,10 +24,10 @@ pub record Peeked (s : List ℕ) (at x : ℕ) : Type 0 where
   pub is : x ≡ ahead 8 (drop at (unpack s))
   pub small : x < 256
 
--- An Unsigned Integer after groups that come to `low`: at most k more octets, the next group of this weight.
+-- An Unsigned Integer after groups that come to `low`: at most k more octets, the next group of this
+-- weight.
 unfoldable pub onward : ℕ → ℕ → ℕ → Parser ℕ
 onward k weight low = do
-  high ← grouped k
-  need (ltb 0 high) number
-  need (leb (low + weight * high) maxUnsigned) number
+  (high, fewest) ← grouped k
+  need (leb (low + weight * high) maxUnsigned && (fewest && ltb 0 high)) number
   return (low + weight * high)

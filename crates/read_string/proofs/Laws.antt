@@ -11,8 +11,9 @@ use lib.Dec.{leb}
 use borrow.Author.Tests.{le-leb, lt-leb}
 use Rattle.spec_fields.specs.Refusal.{numberOf, character, limit}
 use Rattle.spec_fields.specs.Parser.{return, times}
-use Rattle.spec_fields.specs.Field.{unsigned}
+use Rattle.spec_fields.specs.Field.{bitPacked, unsigned}
 use Rattle.text.specs.Text.{Text, isChar}
+use Rattle.spec_exi.specs.Settings.{Settings}
 use Rattle.spec_exi.specs.Sizes.{maxStream, maxStore, maxString}
 use Rattle.spec_exi.specs.Tables.{literal, laid}
 use Rattle.spec_exi.specs.Reader.{readCharacter, readLiteral}
@@ -24,20 +25,24 @@ use Rattle.outcome.proofs.Memory.{laid-length, cleared-back, laid-before}
 use Rattle.read_string.specs.declared.Literal as declared
 use Rattle.read_string.specs.Literal.{CharactersFit, laidAt, CharactersRead, LiteralRead}
 
+-- Settings do not matter to a code point: these stand for any.
+abbrev base : Settings
+base = record { alignment = bitPacked; cookie = false; comments = false; instructions = false }
+
 -- ---- one code point
 
 module _ {stream : List ℕ} {at v q : ℕ} (l : at ≤ 8 * length stream) (e : fieldAt unsigned stream at ≡ Value v q) where
-  character-gotten : isChar v ≡ true → (g : Gotten readCharacter stream at q) × (g .value ≡ v)
+  character-gotten : isChar v ≡ true → (g : Gotten (readCharacter base) stream at q) × (g .value ≡ v)
   unfolding readCharacter
   character-gotten t =
       let g = unsigned-gotten stream at l e in
       (gotten-then _ g (need-gotten (isChar v) character t (return-gotten v (g .inside))), refl)
 
-  character-declined : isChar v ≡ false → Declined readCharacter stream at (numberOf character)
+  character-declined : isChar v ≡ false → Declined (readCharacter base) stream at (numberOf character)
   unfolding readCharacter
   character-declined t = gotten-declined _ (unsigned-gotten stream at l e) (need-declined (isChar v) character (return v) t)
 
-number-declined : (stream : List ℕ) (at : ℕ) {k : ℕ} → fieldAt unsigned stream at ≡ Refused k → Declined readCharacter stream at k
+number-declined : (stream : List ℕ) (at : ℕ) {k : ℕ} → fieldAt unsigned stream at ≡ Refused k → Declined (readCharacter base) stream at k
 unfolding readCharacter
 number-declined stream at e = declined-then _ (refused-declined unsigned stream at e)
 
@@ -68,13 +73,13 @@ module _ (text : List ℕ) (stored : ℕ) (x : Text) (v : ℕ) where
 -- i code points are read and lie behind the store.
 pub record Turn (stream : List ℕ) (at : ℕ) (text : List ℕ) (stored n : ℕ) (text′ : List ℕ) (next i : ℕ) : Type 0 where
   pub inside : i ≤ n
-  pub read : Gotten (times i readCharacter) stream at next
+  pub read : Gotten (times i (readCharacter base)) stream at next
   pub size : length (read .value) ≡ i
   pub text-is : text′ ≡ laidAt text stored (read .value)
 
 module _ {stream : List ℕ} {at : ℕ} {text : List ℕ} {stored n : ℕ} (fit : CharactersFit stream at text stored n) where
   pub turn-start : Turn stream at text stored n text at 0
-  turn-start = record { inside = omega arith; read = times-empty readCharacter (fit .literal .place); size = refl; text-is = laid-none text stored }
+  turn-start = record { inside = omega arith; read = times-empty (readCharacter base) (fit .literal .place); size = refl; text-is = laid-none text stored }
 
   module _ {text′ : List ℕ} {next i : ℕ} (t : Turn stream at text stored n text′ next i) where
     pub turn-place : InStream stream next
@@ -90,21 +95,22 @@ module _ {stream : List ℕ} {at : ℕ} {text : List ℕ} {stored n : ℕ} (fit 
 
     -- The end.
     pub turn-end : n ≤ i → CharactersRead stream at text stored n text′ (record { number = 0; next = next })
+    unfolding readCharacter
     turn-end h =
         let e : i ≡ n = omega (arith, t .inside) in
         record {
-          outcome = rw (← e) (gotten-outcome refl (t .read) (t .text-is, t .size));
+          outcome = λ _. rw (← e) (gotten-outcome refl (t .read) (t .text-is, t .size));
           unchanged = λ l. absurd (omega arith);
         }
 
     -- A code point that is refused: the store is as it was.
-    turn-refused : i < n → {k : ℕ} → Declined readCharacter stream next k → (text″ : List ℕ)
+    turn-refused : i < n → {k : ℕ} → Declined (readCharacter base) stream next k → (text″ : List ℕ)
         → text″ ≡ take stored text′ ++ replicate (length text′ - stored) 0
         → CharactersRead stream at text stored n text″ (record { number = k; next = at })
-    unfolding laidAt
+    unfolding laidAt readCharacter
     turn-refused h d text″ e =
         record {
-          outcome = refused-outcome (times-declined readCharacter i (t .read) n h d);
+          outcome = λ _. refused-outcome (times-declined (readCharacter base) i (t .read) n h d);
           unchanged = λ _. (
             e
                 ∙ cleared-back text text′ stored (fit .literal .zeros) turn-length
@@ -130,7 +136,7 @@ module _ {stream : List ℕ} {at : ℕ} {text : List ℕ} {stored n : ℕ} (fit 
             let (g, same) = character-gotten (t .read .inside) e f in
             record {
               inside = omega arith;
-              read = times-gotten readCharacter i (t .read) g;
+              read = times-gotten (readCharacter base) i (t .read) g;
               size = length-append (t .read .value) (g .value ∷ []) ∙ ap (λ m. m + 1) (t .size);
               text-is = laid-next text stored (t .read .value) v (t .text-is) same (t .size) (omega (arith, fit .ends, fit .literal .room));
             }
@@ -142,7 +148,7 @@ module _ {stream : List ℕ} {at : ℕ} {text : List ℕ} {stored n : ℕ} where
   unfolding readLiteral maxString numberOf
   literal-long h =
       record {
-        outcome = λ t e. need-failed (leb n 1024) limit _ (lt-leb n 1024 h);
+        outcome = λ s t e. need-failed (leb n 1024) limit _ (lt-leb n 1024 h);
         unchanged = λ _. (refl, refl);
       }
 
@@ -150,7 +156,7 @@ module _ {stream : List ℕ} {at : ℕ} {text : List ℕ} {stored n : ℕ} where
   unfolding readLiteral maxString maxStore numberOf
   literal-full l h =
       record {
-        outcome = λ t e.
+        outcome = λ s t e.
             need-passed (leb n 1024) limit (le-leb n 1024 l)
             (need-failed (leb (length (t .store) + n) 16384) limit _ (lt-leb (length (t .store) + n) 16384 (omega arith)));
         unchanged = λ _. (refl, refl);
@@ -161,10 +167,10 @@ module _ {stream : List ℕ} {at : ℕ} {text : List ℕ} {stored n : ℕ} where
   unfolding readLiteral maxString maxStore laid
   literal-read l h c =
       record {
-        outcome = λ t e.
+        outcome = λ s t e.
             need-passed (leb n 1024) limit (le-leb n 1024 l)
             (need-passed (leb (length (t .store) + n) 16384) limit (le-leb (length (t .store) + n) 16384 (omega arith))
-            (outcome-map (λ x. (literal, laid t x)) (c .outcome)
+            (outcome-map (λ x. (literal, laid t x)) (c .outcome s)
             (λ z x y. record { form = refl; place = e; size = y .1; text-is = y .0; ends = h; small = l })));
         unchanged = c .unchanged;
       }

@@ -5,7 +5,8 @@ use mathlib.Core.List.{List, _++_}
 use lib.ListN.{length, take, drop}
 use Rattle.spec_fields.specs.Parser.{times}
 use Rattle.text.specs.Text.{Text}
-use Rattle.spec_exi.specs.Sizes.{maxStream, maxStore, maxString}
+use Rattle.spec_exi.specs.Settings.{Settings}
+use Rattle.spec_exi.specs.Sizes.{sizes, maxStream, maxStore, maxString}
 use Rattle.spec_exi.specs.Tables.{Tables, Form, literal, Placed}
 use Rattle.spec_exi.specs.Reader.{readCharacter, readLiteral}
 use Rattle.outcome.specs.Outcome.{Outcome}
@@ -29,7 +30,9 @@ laidAt text stored x = take stored text ++ x ++ drop (stored + length x) text
 
 -- n code points, read to the store's end; store and position as they were after a refusal.
 pub record CharactersRead (stream : List ℕ) (at : ℕ) (text : List ℕ) (stored n : ℕ) (text′ : List ℕ) (r : declared.Literal) : Type 0 where
-  pub outcome : Outcome (times n readCharacter) stream at (r .number) (r .next) (λ x. (text′ ≡ laidAt text stored x) × (length x ≡ n))
+  pub outcome : (s : Settings)
+      → Outcome (times n (readCharacter s)) stream at (r .number) (r .next)
+      (λ x. (text′ ≡ laidAt text stored x) × (length x ≡ n))
   pub unchanged : 0 < r .number → (text′ ≡ text) × (r .next ≡ at)
 
 -- What is read of a literal: its place, its length, and the store with it.
@@ -41,8 +44,8 @@ pub record Laid (text : List ℕ) (stored n : ℕ) (text′ : List ℕ) (v : For
   pub ends : stored + n ≤ maxStore
   pub small : n ≤ maxString
 
--- By the definitions' literal over any tables whose store has so many code points.
+-- By the definitions' literal over any settings, and any tables whose store has so many code points.
 pub record LiteralRead (stream : List ℕ) (at : ℕ) (text : List ℕ) (stored n : ℕ) (text′ : List ℕ) (r : declared.Literal) : Type 0 where
-  pub outcome : (t : Tables) → length (t .store) ≡ stored
-      → Outcome (readLiteral t n) stream at (r .number) (r .next) (Laid text stored n text′)
+  pub outcome : (s : Settings) (t : Tables) → length (t .store) ≡ stored
+      → Outcome (readLiteral sizes s t n) stream at (r .number) (r .next) (Laid text stored n text′)
   pub unchanged : 0 < r .number → (text′ ≡ text) × (r .next ≡ at)

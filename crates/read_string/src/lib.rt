@@ -5,6 +5,8 @@ ghost use Rattle.read_string.specs.Literal.{CharactersFit, CharactersRea
 use read_field::Field;
 use refusal::CHARACTER;
 use refusal::LIMIT;
+use sizes::MAX_STORE;
+use sizes::MAX_STRING;
 
 // The number of a refusal or 0, and the position behind the string.
 pub struct Literal {
@@ -53,13 +55,13 @@ pub fn read_literal(stream: &[u8], at: usize, text: &mut [u32], stored: usize, n
     requires { ⌜ LiteralFit (now stream) at (now text) stored ⌝ }
     ensures { λ r. ⌜ LiteralRead (now (stream .entry)) at (now (text .entry)) stored n (now (text .exit)) r ⌝ }
 {
-    if 1024 < n {
+    if MAX_STRING < n as usize {
         return Literal {
             number: LIMIT,
             next: at,
         };
     }
-    if 16384 < stored + n as usize {
+    if MAX_STORE < stored + n as usize {
         return Literal {
             number: LIMIT,
             next: at,

@@ -11,8 +11,8 @@ use lib.Dec.{ltb}
 use borrow.Author.Tests.{ltb-true}
 use Rattle.spec_fields.specs.Field.{Alignment}
 use Rattle.text.specs.Text.{Text}
-use Rattle.spec_exi.specs.Sizes.{maxString, maxStore}
-use Rattle.spec_exi.specs.Tables.{Placed, Role, literals, partitionsOf, literal, formOf, stringBits, formBits, added, nameAllowed}
+use Rattle.spec_exi.specs.Sizes.{sizes, maxString, maxStore}
+use Rattle.spec_exi.specs.Tables.{Slot, Role, literals, partitionsOf, literal, formOf, stringBits, formBits, added, nameAllowed}
 use Rattle.spec_exi.specs.Context.{item}
 use Rattle.spec_exi.specs.Lists.{withinTables}
 use Rattle.layout.specs.Layout.{tableCells}
@@ -32,7 +32,7 @@ use Rattle.sending.proofs.Memory.{laid-grows}
 use Rattle.sending.proofs.Forms.{LiteralPut, literal-sending}
 
 -- By partitions that are optimized for literals.
-module _ {a : Alignment} {s w s′ w′ : List ℕ} {st : State} {ess : List (List Placed)} (r : Role) (x : Text) (h : Ready s w st)
+module _ {a : Alignment} {s w s′ w′ : List ℕ} {st : State} {ess : List (List Slot)} (r : Role) (x : Text) (h : Ready s w st)
     (literals-of : partitionsOf (tablesOf w st) r ≡ literals ess) (e : formOf (partitionsOf (tablesOf w st) r) x ≡ literal)
     (known : (i : ℕ) → Fits w8 (getD s i 0)) where
   literal-put : {st′ : State} {u n v : ℕ} → Put s (st .at) (stringBits (length ess) x) s′ (st′ .at) → length x ≤ maxString
@@ -51,7 +51,7 @@ module _ {a : Alignment} {s w s′ w′ : List ℕ} {st : State} {ess : List (Li
       }
 
   -- It joins no table.
-  pub text-sent : {sent : Sent} → (length (tablesOf w st .store) + length x ≤ maxStore → withinTables (added (tablesOf w st) r x) ≡ true)
+  pub text-sent : {sent : Sent} → (length (tablesOf w st .store) + length x ≤ maxStore → withinTables sizes (added (tablesOf w st) r x) ≡ true)
       → (st .stored + length x ≤ maxStore → Grows (writerMemory w) (writerMemory w′) (countsOf st) tableCells x
       → After (writerMemory w) (writerMemory w′) (countsOf st) (countsAfter (countsOf st) (length x) (st .uris) (st .names) (st .values)) r x)
       → TextSent (length ess) x (nameAllowed r x) s w st s′ w′ sent → Sending a (item r x ∷ []) s w st s′ w′ (sent .number) (sent .state)
@@ -64,7 +64,7 @@ module _ {a : Alignment} {s w s′ w′ : List ℕ} {st : State} {ess : List (Li
 
   -- It joins the table at base as row k, so that the counts are these, or it is refused.
   pub entry-sent : {sent : Sent} {st′ : State} {u n v : ℕ} (base k most key : ℕ)
-      → (length (tablesOf w st .store) + length x ≤ maxStore → withinTables (added (tablesOf w st) r x) ≡ ltb k most)
+      → (length (tablesOf w st .store) + length x ≤ maxStore → withinTables sizes (added (tablesOf w st) r x) ≡ ltb k most)
       → (st .stored + length x ≤ maxStore → k < most → w′ ≡ entered w st x base k key
       → After (writerMemory w) (writerMemory w′) (countsOf st) (countsAfter (countsOf st) (length x) u n v) r x)
       → (sent .number ≡ 0 → sent .state ≡ moved st (sent .state .at) (st .stored + length x)

@@ -12,8 +12,8 @@ use borrow.Author.Tests.{eqb-true, eqb-false}
 use Rattle.spec_fields.proofs.Tests.{split}
 use Rattle.spec_fields.specs.Field.{Alignment, unsignedBits, choiceBits}
 use Rattle.text.specs.Text.{Text}
-use Rattle.spec_exi.specs.Sizes.{maxStore}
-use Rattle.spec_exi.specs.Tables.{Placed, Tables, Role, literals, partitionsOf, hit, literal, formOf, formBits, added, tablesAfter, nameAllowed}
+use Rattle.spec_exi.specs.Sizes.{sizes, maxStore}
+use Rattle.spec_exi.specs.Tables.{Slot, Tables, Role, literals, partitionsOf, hit, literal, formOf, formBits, added, tablesAfter, nameAllowed}
 use Rattle.spec_exi.specs.Context.{item, afterItem}
 use Rattle.spec_exi.specs.Strict.{itemBits}
 use Rattle.spec_exi.specs.Lists.{withinTables}
@@ -76,7 +76,7 @@ module _ {a : Alignment} {s w s′ : List ℕ} {st st′ : State} {j i : ℕ} (r
       (λ z. hit-wrote (p z)) q
 
 -- A hit as write_form sends it, in partition j of those that are optimized for literals.
-pub hit-sent : {a : Alignment} {s w s′ : List ℕ} {st : State} {sent : Sent} {j i among row : ℕ} {ess : List (List Placed)} (r : Role) (x : Text)
+pub hit-sent : {a : Alignment} {s w s′ : List ℕ} {st : State} {sent : Sent} {j i among row : ℕ} {ess : List (List Slot)} (r : Role) (x : Text)
     → ((i : ℕ) → Fits w8 (getD s i 0)) → Ready s w st → formOf (partitionsOf (tablesOf w st) r) x ≡ hit j i → partitionsOf (tablesOf w st) r ≡ literals ess
     → length (getD ess j []) ≡ among → among ≤ 65536 → HitSent a x (nameAllowed r x) j among i row s st s′ sent
     → Sending a (item r x ∷ []) s w st s′ w (sent .number) (sent .state)
@@ -132,7 +132,7 @@ module _ {a : Alignment} {s w s′ w′ : List ℕ} {st st′ : State} (r : Role
       }
 
   pub literal-sending : {number : ℕ} {left : Bool} → number ≡ faultNumber (stringFault x true (st .stored) (nameAllowed r x) left)
-      → (length (tablesOf w st .store) + length x ≤ maxStore → withinTables (added (tablesOf w st) r x) ≡ left)
+      → (length (tablesOf w st .store) + length x ≤ maxStore → withinTables sizes (added (tablesOf w st) r x) ≡ left)
       → (number ≡ 0 → Passed x true (st .stored) (nameAllowed r x) left → LiteralPut a r x u n v s w st s′ w′ st′)
       → (0 < number → Wrote a [] s w st s′ w′ st′) → Sending a (item r x ∷ []) s w st s′ w′ number st′
   unfolding item

@@ -9,7 +9,7 @@ use Rattle.spec_fields.proofs.Tests.{is-T}
 use Rattle.spec_fields.proofs.Number.{member-below}
 use Rattle.text.specs.Text.{Text, eqText}
 use Rattle.text.proofs.Equal.{eqText-eq}
-use Rattle.spec_exi.specs.Tables.{Placed, indexOf, Form, hit, hitOr}
+use Rattle.spec_exi.specs.Tables.{Slot, indexOf, Form, hit, hitOr}
 use Rattle.rows.specs.declared.Found.{Found}
 use Rattle.rows.specs.declared.Found.the-variants.{At, Nothing}
 use Rattle.rows.specs.Rows.{rowAt, rows, textOf, numbered, countOf, hasText, findThat, found}
@@ -24,7 +24,7 @@ use Rattle.state.specs.declared.State.{State}
 use Rattle.write_form.specs.Form.{HitSends}
 use Rattle.sending.specs.Sending.{Ready}
 
-module _ {m : Memory} {base n : ℕ} {all : Bool} {key : ℕ} {es : List Placed} {f : Found} (l : Listed m base n all key es) (x : Text)
+module _ {m : Memory} {base n : ℕ} {all : Bool} {key : ℕ} {es : List Slot} {f : Found} (l : Listed m base n all key es) (x : Text)
     (answer : f ≡ found (findThat (hasText (m .cells) x) all key (rows (m .work) base n))) where
   pub index-none : f ≡ Nothing → indexOf es x ≡ none
   index-none e = find-answer l x answer ∙ ap numberOf e

@@ -10,6 +10,7 @@ use mir.Val.{Fits}
 use Rattle.spec_fields.specs.Field.{Alignment}
 use Rattle.spec_fields.specs.Refusal.{Refusal}
 use Rattle.spec_fields.proofs.Refusal.{refusal-number}
+use Rattle.spec_exi.specs.Sizes.{sizes}
 use Rattle.spec_exi.specs.Tables.{Tables}
 use Rattle.spec_exi.specs.Context.{Item, afterItem, afterItems}
 use Rattle.spec_exi.specs.Strict.{itemBits, itemsBits}
@@ -40,25 +41,25 @@ none-of xs ys e =
     (λ k f. absurd (Option·some-ne-none k (sym (failed-first k xs ys f) ∙ e)))
 
 -- All of a list that no test refuses, and of the list behind it those that pass.
-passed-then : (t : Tables) (is js : List Item) → firstFailed (contentTests t is) ≡ none → passed t (is ++ js) ≡ is ++ passed (afterItems t is) js
+passed-then : (t : Tables) (is js : List Item) → firstFailed (contentTests sizes t is) ≡ none → passed t (is ++ js) ≡ is ++ passed (afterItems t is) js
 unfolding passed unlessFailed contentTests afterItems
 passed-then t [] js e = refl
 passed-then t (i ∷ is) js e =
-    let (f, g) = none-of (stringTests t i) (contentTests (afterItem t i) is) e in
+    let (f, g) = none-of (stringTests sizes t i) (contentTests sizes (afterItem t i) is) e in
     rw f (ap (λ l. i ∷ l) (passed-then (afterItem t i) is js g))
 
-pub passed-all : (t : Tables) (is : List Item) → firstFailed (contentTests t is) ≡ none → passed t is ≡ is
+pub passed-all : (t : Tables) (is : List Item) → firstFailed (contentTests sizes t is) ≡ none → passed t is ≡ is
 unfolding passed
 passed-all t is e = simp append-nil at (passed-then t is [] e)
 
 -- Behind a refusal none.
-passed-refused : (t : Tables) (is js : List Item) (k : Refusal) → firstFailed (contentTests t is) ≡ some k → passed t (is ++ js) ≡ passed t is
+passed-refused : (t : Tables) (is js : List Item) (k : Refusal) → firstFailed (contentTests sizes t is) ≡ some k → passed t (is ++ js) ≡ passed t is
 unfolding passed unlessFailed contentTests firstFailed
 passed-refused t [] js k e = absurd (Option·some-ne-none k (sym e))
 passed-refused t (i ∷ is) js k e =
-    by-fault (firstFailed (stringTests t i))
+    by-fault (firstFailed (stringTests sizes t i))
     (λ f. rw f (ap (λ l. i ∷ l)
-    (passed-refused (afterItem t i) is js k (sym (failed-then (stringTests t i) (contentTests (afterItem t i) is) f) ∙ e))))
+    (passed-refused (afterItem t i) is js k (sym (failed-then (stringTests sizes t i) (contentTests sizes (afterItem t i) is) f) ∙ e))))
     (λ r f. rw f)
 
 -- ---- no item
@@ -72,7 +73,7 @@ wrote-nothing known h p q r =
 -- ---- a single item
 
 module _ (t : Tables) (i : Item) where
-  one-fault : firstFailed (contentTests t (i ∷ [])) ≡ firstFailed (stringTests t i)
+  one-fault : firstFailed (contentTests sizes t (i ∷ [])) ≡ firstFailed (stringTests sizes t i)
   unfolding contentTests
   one-fault = rw append-nil
 
@@ -86,14 +87,14 @@ module _ (t : Tables) (i : Item) where
 
 -- It is written, or it is refused and nothing is.
 pub one-sending : {a : Alignment} {i : Item} {s w s′ w′ : List ℕ} {st st′ : State} {n : ℕ}
-    → n ≡ faultNumber (firstFailed (stringTests (tablesOf w st) i)) → (n ≡ 0 → Wrote a (i ∷ []) s w st s′ w′ st′)
+    → n ≡ faultNumber (firstFailed (stringTests sizes (tablesOf w st) i)) → (n ≡ 0 → Wrote a (i ∷ []) s w st s′ w′ st′)
     → (0 < n → Wrote a [] s w st s′ w′ st′) → Sending a (i ∷ []) s w st s′ w′ n st′
 unfolding passed unlessFailed
 one-sending {i} {w} {st} f p q =
     let t : Tables = tablesOf w st in
     record {
       fault = rw (one-fault t i) f;
-      wrote = by-fault (firstFailed (stringTests t i))
+      wrote = by-fault (firstFailed (stringTests sizes t i))
           (λ e. rw e (p (f ∙ ap faultNumber e ∙ none-fault)))
           (λ k e. rw e (q (omega (arith, f ∙ ap faultNumber e ∙ some-fault k, refusal-number k))));
     }
@@ -117,8 +118,8 @@ module _ {a : Alignment} {is : List Item} {s w s′ w′ : List ℕ} {st st′ :
       }
 
   module _ {n : ℕ} (first : Sending a is s w st s′ w′ n st′) where
-    sent-none : n ≡ 0 → firstFailed (contentTests (tablesOf w st) is) ≡ none
-    sent-none e = fault-none (firstFailed (contentTests (tablesOf w st) is)) (sym (first .fault) ∙ e)
+    sent-none : n ≡ 0 → firstFailed (contentTests sizes (tablesOf w st) is) ≡ none
+    sent-none e = fault-none (firstFailed (contentTests sizes (tablesOf w st) is)) (sym (first .fault) ∙ e)
 
     pub sent-wrote : n ≡ 0 → Wrote a is s w st s′ w′ st′
     sent-wrote e = rw (passed-all (tablesOf w st) is (sent-none e)) at (first .wrote)
@@ -132,7 +133,7 @@ module _ {a : Alignment} {is : List Item} {s w s′ w′ : List ℕ} {st st′ :
           fault = next .fault ∙ rw (
             done .tables,
             content-append t is js,
-            failed-then (contentTests t is) (contentTests (afterItems t is) js) (sent-none e),
+            failed-then (contentTests sizes t is) (contentTests sizes (afterItems t is) js) (sent-none e),
           );
           wrote = rw (passed-then t is js (sent-none e), ← (done .tables)) (wrote-then done (next .wrote));
         }
@@ -141,8 +142,8 @@ module _ {a : Alignment} {is : List Item} {s w s′ w′ : List ℕ} {st st′ :
     pub sending-refused : (js : List Item) → 0 < n → Sending a (is ++ js) s w st s′ w′ n st′
     sending-refused js h =
         let t : Tables = tablesOf w st in
-        let (k, e) = some-refusal (firstFailed (contentTests t is)) (omega (arith, first .fault)) in
+        let (k, e) = some-refusal (firstFailed (contentTests sizes t is)) (omega (arith, first .fault)) in
         record {
-          fault = first .fault ∙ rw (content-append t is js, e, failed-first k (contentTests t is) (contentTests (afterItems t is) js) e);
+          fault = first .fault ∙ rw (content-append t is js, e, failed-first k (contentTests sizes t is) (contentTests sizes (afterItems t is) js) e);
           wrote = rw (passed-refused t is js k e) (first .wrote);
         }

@@ -8,7 +8,7 @@ use lib.ListN.{length}
 use lib.Dec.{T}
 use Rattle.spec_fields.specs.Field.{Alignment}
 use Rattle.spec_fields.specs.Refusal.{Refusal}
-use Rattle.spec_exi.specs.Sizes.{writerWork}
+use Rattle.spec_exi.specs.Sizes.{sizes, writerWork}
 use Rattle.spec_exi.specs.Tables.{Tables}
 use Rattle.spec_exi.specs.Context.{Item, afterItem, afterItems}
 use Rattle.spec_exi.specs.Strict.{itemsBits}
@@ -43,7 +43,7 @@ unlessFailed (some k) l = []
 -- The items before the first that is refused: these are written, and no others.
 unfoldable pub passed : Tables → List Item → List Item
 passed t [] = []
-passed t (i ∷ is) = let later = passed (afterItem t i) is in unlessFailed (firstFailed (stringTests t i)) (i ∷ later)
+passed t (i ∷ is) = let later = passed (afterItem t i) is in unlessFailed (firstFailed (stringTests sizes t i)) (i ∷ later)
 
 -- The items are written in the strict form, and the tables are what they leave.
 pub record Wrote (a : Alignment) (is : List Item) (stream w : List ℕ) (st : State) (stream′ w′ : List ℕ) (st′ : State) : Type 0 where
@@ -54,5 +54,5 @@ pub record Wrote (a : Alignment) (is : List Item) (stream w : List ℕ) (st : St
 
 -- The number is the refusal's that the first test to fail has, or 0. After a refusal octets, tables and state are those behind the items before it.
 pub record Sending (a : Alignment) (is : List Item) (stream w : List ℕ) (st : State) (stream′ w′ : List ℕ) (number : ℕ) (st′ : State) : Type 0 where
-  pub fault : number ≡ faultNumber (firstFailed (contentTests (tablesOf w st) is))
+  pub fault : number ≡ faultNumber (firstFailed (contentTests sizes (tablesOf w st) is))
   pub wrote : Wrote a (passed (tablesOf w st) is) stream w st stream′ w′ st′

@@ -7,7 +7,19 @@ use Rattle.settings.specs.declared.Settings.{Settings}
 
 -- The definitions' numbers.
 unfoldable pub numbersOf : SettingNumbers → format.SettingNumbers
-numbersOf s = record { alignment = s .alignment; cookie = s .cookie; comments = s .comments; instructions = s .instructions }
+numbersOf s =
+    record {
+      alignment = s .alignment;
+      cookie = s .cookie;
+      comments = s .comments;
+      instructions = s .instructions;
+      fragment = s .fragment;
+      valueLength = s .«value_length»;
+      valueCapacity = s .«value_capacity»;
+      loose = s .loose;
+      prefixes = s .prefixes;
+      grammarCap = s .«grammar_cap»;
+    }
 
 -- Numbers that have a meaning mean these settings (crates/spec_exi/specs/Settings.antt).
 unfoldable pub settingsMeant : SettingNumbers → Settings

@@ -3,13 +3,20 @@ ghost use mathlib.Core.Path.{_≡_};
 ghost use Rattle.spec_exi.specs.Settings.{meaningful};
 ghost use Rattle.settings.specs.Meant.{numbersOf, settingsMeant};
 
-// Alignment 0 is bit-packed and 1 byte-aligned; each of the others is 0 for no and 1 for yes.
+// All 0 is the base. Alignment 1 is byte-aligned; cookie, comments and instructions are 1 for yes.
+// The others are reserved: no number but 0 has a meaning yet.
 #[repr(C)]
 pub struct SettingNumbers {
     pub alignment: u32,
     pub cookie: u32,
     pub comments: u32,
     pub instructions: u32,
+    pub fragment: u32,
+    pub value_length: u32,
+    pub value_capacity: u32,
+    pub loose: u32,
+    pub prefixes: u32,
+    pub grammar_cap: u32,
 }
 
 pub struct Settings {
@@ -23,7 +30,16 @@ pub struct Settings {
 pub fn are_meaningful(s: SettingNumbers) -> bool
     ensures { λ r. ⌜ r ≡ meaningful (numbersOf s) ⌝ }
 {
-    (s.alignment <= 1) & (s.cookie <= 1) & (s.comments <= 1) & (s.instructions <= 1)
+    (s.alignment <= 1)
+        & (s.cookie <= 1)
+        & (s.comments <= 1)
+        & (s.instructions <= 1)
+        & (s.fragment == 0)
+        & (s.value_length == 0)
+        & (s.value_capacity == 0)
+        & (s.loose == 0)
+        & (s.prefixes == 0)
+        & (s.grammar_cap == 0)
 }
 
 pub fn settings_of(s: SettingNumbers) -> Settings

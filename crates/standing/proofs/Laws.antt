@@ -10,8 +10,9 @@ use lib.Dec.{T, leb, eqb}
 use borrow.Author.Tests.{le-leb, eq-eqb, ne-eqb, eqb-true, eqb-false}
 use Rattle.spec_fields.proofs.Tests.{split, is-T}
 use Rattle.text.specs.Text.{Text}
-use Rattle.spec_exi.specs.Sizes.{maxOpen, maxNames, maxLearned, maxGrammars}
+use Rattle.spec_exi.specs.Sizes.{sizes, maxOpen, maxNames, maxLearned, maxGrammars}
 use Rattle.spec_exi.specs.Event.{QName}
+use Rattle.spec_exi.specs.Settings.{Settings}
 use Rattle.spec_exi.specs.Grammar.{document, docContent, docEnd, finished, startTag, elementContent, openElements, inContent, closed}
 use Rattle.spec_exi.specs.Grammar as grammar
 use Rattle.spec_exi.specs.Lists.{withinTables, withinGrammars}
@@ -101,7 +102,7 @@ pub full-depth : {m : Memory} {st : State} → Standing m st → maxOpen ≤ st 
     → length (openElements (contextOf m st .state)) ≡ maxOpen
 full-depth {m} {st} h full = rw (open-depth m st) (omega (arith, h .deep))
 
-pub within-start : {m : Memory} {st : State} → Standing m st → T (withinGrammars (contextOf m st))
+pub within-start : {m : Memory} {st : State} → Standing m st → T (withinGrammars sizes (contextOf m st))
 unfolding withinGrammars contextOf contextIn
 within-start {m} {st} h =
     rw (
@@ -113,7 +114,7 @@ within-start {m} {st} h =
     )
     (is-T (leb (st .learned) maxLearned) (le-leb (st .learned) maxLearned (h .tidy .sized .learned)))
 
-pub tables-within : {m : Memory} {st : State} → Standing m st → T (withinTables (contextOf m st .tables))
+pub tables-within : {m : Memory} {st : State} → Standing m st → T (withinTables sizes (contextOf m st .tables))
 unfolding contextOf contextIn
 tables-within h = within-tables (h .tidy .sized)
 
@@ -152,11 +153,11 @@ in-content-outer (suc zero) = refl
 in-content-outer (suc (suc zero)) = refl
 in-content-outer (suc (suc (suc k))) = refl
 
-closed-state : (d : ℕ) (q : QName Text) (outer : List (QName Text)) → length (q ∷ outer) ≡ d
-    → stateIn (cond (eqb d 1) 2 5) outer ≡ closed (q ∷ outer)
+closed-state : (s : Settings) (d : ℕ) (q : QName Text) (outer : List (QName Text)) → length (q ∷ outer) ≡ d
+    → stateIn (cond (eqb d 1) 2 5) outer ≡ closed s (q ∷ outer)
 unfolding stateIn closed
-closed-state d q [] e = rw (eq-eqb d 1 (omega arith))
-closed-state d q (p ∷ outer) e = rw (ne-eqb d 1 (λ i. omega arith))
+closed-state s d q [] e = rw (eq-eqb d 1 (omega arith))
+closed-state s d q (p ∷ outer) e = rw (ne-eqb d 1 (λ i. omega arith))
 
 -- The number where the innermost of d elements has been left.
 closing : (d : ℕ) → 0 < d → Moded (cond (eqb d 1) 2 5) (d - 1)
@@ -225,20 +226,20 @@ module _ {m : Memory} {st : State} (h : Standing m st) where
         opened = λ i b. h .opened i (omega arith);
       }
 
-  closed-context : 4 ≤ st .mode → stateIn (cond (eqb (st .stack .depth) 1) 2 5) (map (nameAt m) (openNumbers (popped (st .stack))))
-      ≡ closed (openElements (contextOf m st .state))
-  closed-context l =
+  closed-context : (s : Settings) → 4 ≤ st .mode → stateIn (cond (eqb (st .stack .depth) 1) 2 5) (map (nameAt m) (openNumbers (popped (st .stack))))
+      ≡ closed s (openElements (contextOf m st .state))
+  closed-context s l =
       let q : QName Text = nameAt m (topOf (st .stack)) in
       let outer : List (QName Text) = map (nameAt m) (openNumbers (popped (st .stack))) in
       let parts : openElements (contextOf m st .state) ≡ q ∷ outer =
       open-elements m st ∙ ap (map (nameAt m)) (some-open (st .stack) (h .mode .inner l)) in
       let deep : length (q ∷ outer) ≡ st .stack .depth = ap length (sym parts) ∙ open-depth m st in
-      rw parts (closed-state (st .stack .depth) q outer deep)
+      rw parts (closed-state s (st .stack .depth) q outer deep)
 
   -- The innermost element is left.
-  pub left-moves : 4 ≤ st .mode
-      → Moved m st (restated st (cond (eqb (st .stack .depth) 1) 2 5) (popped (st .stack))) (closed (openElements (contextOf m st .state)))
-  left-moves l = moved (popped-standing l) (closed-context l)
+  pub left-moves : (s : Settings) → 4 ≤ st .mode
+      → Moved m st (restated st (cond (eqb (st .stack .depth) 1) 2 5) (popped (st .stack))) (closed s (openElements (contextOf m st .state)))
+  left-moves s l = moved (popped-standing l) (closed-context s l)
 
 -- ---- the start
 

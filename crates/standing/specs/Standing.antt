@@ -5,7 +5,7 @@ use mathlib.Core.Path.{_≡_}
 use lib.ListN.{length, getD}
 use Rattle.spec_exi.specs.Sizes.{maxOpen}
 use Rattle.spec_exi.specs.Context.{Context}
-use Rattle.layout.specs.Meaning.{Memory, Counts, uriText, nameAt, learnedFrom, grammarsFrom, contextIn}
+use Rattle.layout.specs.Meaning.{Memory, Counts, uriText, placedName, nameAt, learnedFrom, grammarsFrom, contextIn}
 use Rattle.layout.specs.Tidy.{Tidy}
 use Rattle.state.specs.declared.Stack.{Stack}
 use Rattle.state.specs.declared.State.{State}
@@ -42,6 +42,7 @@ pub record Kept (m : Memory) (st : State) (m′ : Memory) (st′ : State) : Type
   pub size : length (m′ .work) ≡ length (m .work)
   pub uris : (u : ℕ) → u < st .uris → uriText m′ u ≡ uriText m u
   pub names : (n : ℕ) → n < st .names → nameAt m′ n ≡ nameAt m n
+  pub places : (n : ℕ) → n < st .names → placedName m′ n ≡ placedName m n
   pub learned : learnedFrom m′ (st .learned) ≡ learnedFrom m (st .learned)
   pub grammars : grammarsFrom m′ (st .grammars) ≡ grammarsFrom m (st .grammars)
   pub moreUris : st .uris ≤ st′ .uris

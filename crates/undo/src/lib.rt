@@ -7,6 +7,9 @@ ghost use Rattle.undo.specs.Undone.{undoneWork, undoneText};
 use layout::NAMES;
 use layout::URIS;
 use layout::VALUES;
+use sizes::MAX_NAMES;
+use sizes::MAX_URIS;
+use sizes::MAX_VALUES;
 use state::State;
 
 // Takes back what the strings of an event added behind the state's counts.
@@ -16,7 +19,7 @@ pub fn strings(st: State, text: &mut [u32], work: &mut [u32])
     ensures { λ _. ⌜ now (text .exit) ≡ undoneText (now (text .entry)) st ⌝ }
 {
     clear::cells_from(text, st.stored);
-    add_row::add_within(work, URIS, st.uris, 16, 0, 0, 0);
-    add_row::add_within(work, NAMES, st.names, 128, 0, 0, 0);
-    add_row::add_within(work, VALUES, st.values, 512, 0, 0, 0);
+    add_row::add_within(work, URIS, st.uris, MAX_URIS, 0, 0, 0);
+    add_row::add_within(work, NAMES, st.names, MAX_NAMES, 0, 0, 0);
+    add_row::add_within(work, VALUES, st.values, MAX_VALUES, 0, 0, 0);
 }

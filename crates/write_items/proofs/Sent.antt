@@ -1,7 +1,7 @@
 -- The strings of an event: what those of each kind ask, and a string behind a name or a target.
 use Prim.Native.Nat.{ℕ, _+_, _*_, _≤_, _<_}
 use native.Mathlib.Omega.{arith}
-use mathlib.Core.Path.{_≡_, sym, _∙_}
+use mathlib.Core.Path.{_≡_, sym, ap, _∙_}
 use mathlib.Core.Bool.{Bool, true, not}
 use mathlib.Core.List.{List, [], _∷_}
 use mathlib.Core.Option.{some, Option·some-injective}
@@ -15,6 +15,7 @@ use Rattle.spec_exi.specs.Grammar.{kindNumber}
 use Rattle.spec_exi.specs.Context.{Item, item}
 use Rattle.layout.specs.Meaning.{nameAt, carriedName}
 use Rattle.layout.specs.Writer.{writerMemory}
+use Rattle.layout.proofs.Kept.{name-placed}
 use Rattle.state.specs.Stack.{topOf}
 use Rattle.state.specs.declared.State.{State}
 use Rattle.standing.proofs.Laws.{top-below}
@@ -45,11 +46,11 @@ module _ {s w : List ℕ} {st : State} {learned : Bool} {name : ℕ} where
 
   pub start-asks : {q : QName Text} → ItemsFit s w st learned name (startElement q) → ReadyName s w st learned name q
   unfolding kindOf nameOf carriedName
-  start-asks fit = carried fit (λ t. fit .row t .name) .named
+  start-asks fit = carried fit (λ t. fit .row t .name ∙ ap some (name-placed (writerMemory w) name)) .named
 
   pub attribute-asks : {q : QName Text} {v : Text} → ItemsFit s w st learned name (attribute q v) → AttributeFit s w st learned name q
   unfolding kindOf nameOf carriedName
-  attribute-asks fit = carried fit (λ t. fit .row t .name)
+  attribute-asks fit = carried fit (λ t. fit .row t .name ∙ ap some (name-placed (writerMemory w) name))
 
   module _ {v : Text} (fit : ItemsFit s w st learned name (characters v)) where
     pub in-element : 4 ≤ st .mode

@@ -19,10 +19,10 @@ use Rattle.text.specs.Text.{Text, Span}
 use Rattle.spec_exi.specs.Event.{QName, Event, endElement, startElement, attribute, characters, comment, instruction, kindOf, nameOf, startDocument, endDocument, mapEvent}
 use Rattle.spec_exi.specs.Sizes.{maxNames}
 use Rattle.spec_exi.specs.Tables.{value, plain}
-use Rattle.spec_exi.specs.Grammar.{kindNumber, isWildcard, productionFor, unnamed}
+use Rattle.spec_exi.specs.Grammar.{kindNumber, isWildcard, unnamed}
 use Rattle.spec_exi.specs.Context.{Item, item, nameItems, items, characterRole}
 use Rattle.spec_exi.specs.Writer.{firstFailed, contentTests}
-use Rattle.layout.specs.Meaning.{nameAt}
+use Rattle.layout.specs.Meaning.{Memory, nameAt, carriedName}
 use Rattle.layout.specs.Writer.{writerMemory}
 use Rattle.productions.proofs.Known.{Numbered, start-numbered, attribute-numbered, end-numbered, characters-numbered}
 use Rattle.state.specs.Stack.{topOf}
@@ -43,10 +43,11 @@ use Rattle.write_items.specs.Items.{productionOf, ItemsFit, ItemsSent, A
 -- ---- names
 
 -- A name is written just where no learned production carries it.
-name-items : (learned : Bool) (e : Event Text) (attr : Bool) (q : QName Text) → nameOf e ≡ some q
-    → nameItems (productionOf learned e) attr q ≡ nameAs (not learned) attr q
-unfolding nameItems nameAs productionOf productionFor unnamed isWildcard
-name-items learned e attr q n = split learned (λ t. rw (t, n)) (λ t. rw t)
+name-items : (m : Memory) (learned : Bool) (name : ℕ) (e : Event Text) (attr : Bool) (q : QName Text)
+    → isWildcard (carriedName m (kindOf e) name) ≡ false
+    → nameItems (productionOf m learned name e) attr q ≡ nameAs (not learned) attr q
+unfolding nameItems nameAs productionOf unnamed isWildcard
+name-items m learned name e attr q n = split learned (λ t. rw (t, n)) (λ t. rw t)
 
 -- Rows of names are few.
 row-small : {a : Alignment} {is : List Item} {stream w stream′ w′ : List ℕ} {st st′ : State} {row : ℕ} → Wrote a is stream w st stream′ w′ st′
@@ -54,13 +55,13 @@ row-small : {a : Alignment} {is : List Item} {stream w stream′ w′ : List ℕ
 unfolding maxNames
 row-small wr b = omega (arith, wr .kept .tidy .sized .names)
 
-module _ {a : Alignment} {learned : Bool} {q : QName Text} {stream w stream′ w′ : List ℕ} {st : State} {r : Sent} where
+module _ {a : Alignment} {learned : Bool} {name : ℕ} {q : QName Text} {stream w stream′ w′ : List ℕ} {st : State} {r : Sent} where
   pub start-items : Sending a (nameAs (not learned) false q) stream w st stream′ w′ (r .number) (r .state) → NameRow q w′ r
-      → ItemsSent a learned (startElement q) stream w st stream′ w′ r
-  unfolding items nameOf
+      → ItemsSent a learned name (startElement q) stream w st stream′ w′ r
+  unfolding items nameOf kindOf carriedName isWildcard
   start-items x n =
       record {
-        sent = rw (name-items learned (startElement q) false q refl) x;
+        sent = rw (name-items (writerMemory w) learned name (startElement q) false q refl) x;
         small = λ z. row-small (sent-wrote x z) (n .below z);
         row = λ z l u. subst (λ p. Numbered (writerMemory w′) (countsOf (r .state)) (startElement p) (r .row)) (n .is z)
             (start-numbered (writerMemory w′) (countsOf (r .state)) (r .row) (n .below z));
@@ -68,11 +69,11 @@ module _ {a : Alignment} {learned : Bool} {q : QName Text} {stream w stream′ w
         refused = n .refused;
       }
 
-  pub attribute-items : {v : Text} → AttributeSent a q v learned stream w st stream′ w′ r → ItemsSent a learned (attribute q v) stream w st stream′ w′ r
-  unfolding items nameOf
+  pub attribute-items : {v : Text} → AttributeSent a q v learned stream w st stream′ w′ r → ItemsSent a learned name (attribute q v) stream w st stream′ w′ r
+  unfolding items nameOf kindOf carriedName isWildcard
   attribute-items {v} x =
       record {
-        sent = rw (name-items learned (attribute q v) true q refl) (x .sent);
+        sent = rw (name-items (writerMemory w) learned name (attribute q v) true q refl) (x .sent);
         small = λ z. row-small (sent-wrote (x .sent) z) (x .row .below z);
         row = λ z l u. subst (λ p. Numbered (writerMemory w′) (countsOf (r .state)) (attribute p v) (r .row)) (x .row .is z)
             (attribute-numbered (writerMemory w′) (countsOf (r .state)) (r .row) v (x .row .below z));
@@ -92,10 +93,10 @@ characters-role {st} stand h =
       | no y ↦ rw (elementContent-state stand (omega (arith, stand .mode .known)))
     ]
 
-module _ {a : Alignment} {learned : Bool} {stream w stream′ w′ : List ℕ} {st : State} {r : Sent} where
+module _ {a : Alignment} {learned : Bool} {name : ℕ} {stream w stream′ w′ : List ℕ} {st : State} {r : Sent} where
   pub characters-items : {v : Text} → Standing (writerMemory w) st → 4 ≤ st .mode
       → Sending a (item (value (nameAt (writerMemory w) (topOf (st .stack)))) v ∷ []) stream w st stream′ w′ (r .number) (r .state) → r .row ≡ 0
-      → ItemsSent a learned (characters v) stream w st stream′ w′ r
+      → ItemsSent a learned name (characters v) stream w st stream′ w′ r
   unfolding items
   characters-items {v} stand h x rowless =
       record {
@@ -108,12 +109,12 @@ module _ {a : Alignment} {learned : Bool} {stream w stream′ w′ : List ℕ} {
       }
 
   pub comment-items : {x : Text} → Sending a (item plain x ∷ []) stream w st stream′ w′ (r .number) (r .state) → r .row ≡ 0
-      → ItemsSent a learned (comment x) stream w st stream′ w′ r
+      → ItemsSent a learned name (comment x) stream w st stream′ w′ r
   unfolding items kindNumber kindOf
   comment-items s rowless =
       record { sent = s; small = λ z. omega arith; row = λ z l u. absurd (omega arith); nameless = λ _. rowless; refused = λ _. rowless }
 
-  pub instruction-items : {x y : Text} → InstructionSent x y stream w st stream′ w′ r → ItemsSent a learned (instruction x y) stream w st stream′ w′ r
+  pub instruction-items : {x y : Text} → InstructionSent x y stream w st stream′ w′ r → ItemsSent a learned name (instruction x y) stream w st stream′ w′ r
   unfolding items kindNumber kindOf
   instruction-items s =
       record {
@@ -141,15 +142,15 @@ unfolding kindNumber kindOf
 end-row fit = end-numbered _ _ (omega (arith, top-below (fit .standing) (fit .inside (omega arith) (omega arith))))
 
 module _ {a : Alignment} {learned : Bool} {name : ℕ} {s w : List ℕ} {st : State} (known : (i : ℕ) → Fits w8 (getD s i 0)) where
-  no-items : (e : Event Text) → ItemsFit s w st learned name e → items (contextOf (writerMemory w) st .state) (productionOf learned e) e ≡ []
+  no-items : (e : Event Text) → ItemsFit s w st learned name e → items (contextOf (writerMemory w) st .state) (productionOf (writerMemory w) learned name e) e ≡ []
       → (2 ≤ kindNumber (kindOf e) → Numbered (writerMemory w) (countsOf st) e 0)
-      → ItemsSent a learned e s w st s w (record { number = 0; row = 0; state = st })
+      → ItemsSent a learned name e s w st s w (record { number = 0; row = 0; state = st })
   no-items e fit empty row = record { sent = rw empty (nothing-sent known (fit .ready)); small = λ z. omega arith; row = λ z l u. row l; nameless = λ _. refl; refused = λ _. refl }
 
   -- In the other arms of a `match` that has one for each kind with strings.
   pub other-items : (f : Span → Text) (e : declared.Event) → OneOf (0 ∷ 1 ∷ 4 ∷ []) (tagOf the-type e)
       → ItemsFit s w st learned name (mapEvent f (meaning e))
-      → ItemsSent a learned (mapEvent f (meaning e)) s w st s w (record { number = 0; row = 0; state = st })
+      → ItemsSent a learned name (mapEvent f (meaning e)) s w st s w (record { number = 0; row = 0; state = st })
   unfolding mapEvent meaning items kindOf kindNumber
   other-items f StartDocument o fit = no-items startDocument fit refl (λ l. absurd (omega arith))
   other-items f EndDocument o fit = no-items endDocument fit refl (λ l. absurd (omega arith))

@@ -8,8 +8,9 @@ use Rattle.spec_fields.specs.Field.{Alignment}
 use Rattle.text.specs.Text.{Text}
 use Rattle.spec_exi.specs.Event.{QName, Event, kindOf, nameOf}
 use Rattle.spec_exi.specs.Tables.{value, target, plain}
-use Rattle.spec_exi.specs.Grammar.{Production, kindNumber, productionFor, unnamed}
+use Rattle.spec_exi.specs.Grammar.{Production, kindNumber, unnamed}
 use Rattle.spec_exi.specs.Context.{item, items}
+use Rattle.layout.specs.Meaning.{Memory, productionAt}
 use Rattle.layout.specs.Writer.{writerMemory}
 use Rattle.productions.specs.Numbered.{Numbered}
 use Rattle.state.specs.declared.State.{State}
@@ -21,9 +22,10 @@ use Rattle.write_name.specs.Name.{ReadyName, NameRow, nameAs}
 
 -- ---- all of an event
 
--- The production that the event's code names: a learned one, or not.
-unfoldable pub productionOf : Bool → Event Text → Production
-productionOf learned e = cond learned (productionFor e) (unnamed (kindOf e))
+-- The production that the event's code names: a learned one, with the name of this number if it
+-- carries one, or not.
+unfoldable pub productionOf : Memory → Bool → ℕ → Event Text → Production
+productionOf m learned name e = cond learned (productionAt m (kindOf e) name) (unnamed (kindOf e))
 
 pub record ItemsFit (stream w : List ℕ) (st : State) (learned : Bool) (name : ℕ) (e : Event Text) : Type 0 where
   pub ready : Ready stream w st
@@ -33,8 +35,11 @@ pub record ItemsFit (stream w : List ℕ) (st : State) (learned : Bool) (name : 
   -- characters and end elements stand in an element
   pub inside : 4 ≤ kindNumber (kindOf e) → kindNumber (kindOf e) ≤ 5 → 4 ≤ st .mode
 
-pub record ItemsSent (a : Alignment) (learned : Bool) (e : Event Text) (stream w : List ℕ) (st : State) (stream′ w′ : List ℕ) (r : Sent) : Type 0 where
-  pub sent : Sending a (items (contextOf (writerMemory w) st .state) (productionOf learned e) e) stream w st stream′ w′ (r .number) (r .state)
+pub record ItemsSent (a : Alignment) (learned : Bool) (name : ℕ) (e : Event Text) (stream w : List ℕ)
+    (st : State) (stream′ w′ : List ℕ) (r : Sent) : Type 0 where
+  pub sent : Sending a
+      (items (contextOf (writerMemory w) st .state) (productionOf (writerMemory w) learned name e) e)
+      stream w st stream′ w′ (r .number) (r .state)
   -- the row of the event's name; 0 where it has none, and after a refusal
   pub small : r .number ≡ 0 → r .row < 65536
   pub row : r .number ≡ 0 → 2 ≤ kindNumber (kindOf e) → kindNumber (kindOf e) ≤ 5 → Numbered (writerMemory w′) (countsOf (r .state)) e (r .row)

@@ -73,7 +73,7 @@ pub fn put_items(
     work: &mut [u32],
 ) -> Sent
     requires { ⌜ ItemsFit (now stream) (now work) st learned name (mapEvent (part (now text)) (meaning e)) ⌝ }
-    ensures { λ r. ⌜ ItemsSent (alignmentOf aligned) learned (mapEvent (part (now (text .entry))) (meaning e)) (now (stream .entry)) (now (work .entry)) st (now (stream .exit)) (now (work .exit)) r ⌝ }
+    ensures { λ r. ⌜ ItemsSent (alignmentOf aligned) learned name (mapEvent (part (now (text .entry))) (meaning e)) (now (stream .entry)) (now (work .entry)) st (now (stream .exit)) (now (work .exit)) r ⌝ }
 {
     match e {
         Event::StartElement(uri, local) => {

@@ -3,8 +3,8 @@ use Prim.Native.Nat.{ℕ, _+_, _≤_, _<_, _*_}
 use native.Mathlib.Omega.{arith}
 use mathlib.Core.Path.{_≡_, refl, sym, ap, _∙_}
 use mathlib.Core.Bool.{Bool, false}
-use mathlib.Core.List.{List, [], _∷_}
-use mathlib.Core.Option.{none}
+use mathlib.Core.List.{List, [], _∷_, map}
+use mathlib.Core.Option.{none, some}
 use lib.ListN.{length, getD}
 use mir.Syntax.{w8}
 use mir.Val.{Fits}
@@ -42,11 +42,11 @@ use Rattle.write_name.specs.Name.{ReadyLocal, NameRow}
 
 module _ {s w : List ℕ} {st : State} {key : ℕ} {u : Text} {f : Found} (h : ReadyLocal s w st key u) (x : Text)
     (answer : f ≡ found (findThat (hasText w x) false key (rows w namesAt (st .names)))) where
-  names-list : Listed (writerMemory w) namesAt (st .names) false key (namesOf (tablesOf w st) u)
+  names-list : Listed (writerMemory w) namesAt (st .names) false key (map some (namesOf (tablesOf w st) u))
   names-list =
       rw (← (h .is)) (names-listed (writerMemory w) (countsOf st) (h .ready .tidy .distinct) (h .ready .tidy .strings) key (h .row))
 
-  pub local-missing : f ≡ Nothing → indexOf (namesOf (tablesOf w st) u) x ≡ none
+  pub local-missing : f ≡ Nothing → indexOf (map some (namesOf (tablesOf w st) u)) x ≡ none
   local-missing e = index-none names-list x answer e
 
   module _ {number row among : ℕ} (e : f ≡ At number row) (c : among ≡ countOf false key (rows w namesAt (st .names))) where
@@ -92,7 +92,7 @@ module _ {s w : List ℕ} {st : State} {key : ℕ} {u : Text} (h : ReadyLocal s 
   unfolding maxNames
   local-entry-asks = record { text = text-asks (h .ready) 1 (omega arith); row = omega (arith, namesAt-is, storeAt-is) }
 
-  module _ {s′ w′ : List ℕ} {sent : Sent} {allowed : Bool} (lacks : indexOf (namesOf (tablesOf w st) u) x ≡ none)
+  module _ {s′ w′ : List ℕ} {sent : Sent} {allowed : Bool} (lacks : indexOf (map some (namesOf (tablesOf w st) u)) x ≡ none)
       (f : EntrySent 1 x allowed namesAt (st .names) maxNames key s w st s′ w′ sent) where
     module _ (few : st .stored + length x ≤ maxStore) (left : st .names < maxNames) (e : w′ ≡ entered w st x namesAt (st .names) key) where
       name-before : namesAt + 3 * (st .names + 1) ≤ storeAt

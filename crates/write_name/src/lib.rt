@@ -12,6 +12,7 @@ ghost use Rattle.sending.specs.Sending.{Sending};
 ghost use Rattle.write_name.specs.Name.{ReadyLocal, ReadyName, NameRow, nameAs, nameFault, skipped};
 use layout::NAMES;
 use rows::Found;
+use sizes::MAX_NAMES;
 use state::State;
 use write_form::Sent;
 
@@ -38,7 +39,18 @@ fn put_local(
             write_form::send_hit(aligned, stream, st, x, allowed, 0, among, number, row)
         }
         Found::Nothing => {
-            let sent = write_form::send_entry(stream, st, 1, x, allowed, work, NAMES, n, 128, key);
+            let sent = write_form::send_entry(
+                stream,
+                st,
+                1,
+                x,
+                allowed,
+                work,
+                NAMES,
+                n,
+                MAX_NAMES,
+                key,
+            );
             if sent.number != 0 {
                 return sent;
             }

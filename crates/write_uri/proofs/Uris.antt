@@ -4,7 +4,8 @@ use native.Mathlib.Omega.{arith}
 use native.Mathlib.Numerals.{add-one}
 use mathlib.Core.Path.{_≡_, refl, ap, _∙_}
 use mathlib.Core.Bool.{true, false}
-use mathlib.Core.List.{List, [], _∷_}
+use mathlib.Core.List.{List, [], _∷_, map}
+use mathlib.Core.Option.{some}
 use borrow.Author.Tests.{ltb-true}
 use Rattle.spec_fields.specs.Field.{Alignment, choiceBits}
 use Rattle.text.specs.Text.{Text}
@@ -28,6 +29,7 @@ use Rattle.write_field.proofs.Lengths.{choice-length}
 use Rattle.write_form.specs.Form.{EntryFits, Entered}
 use Rattle.state.specs.Changed.{moved, recounted}
 use lib.Dec.{ltb}
+use lib.ListN.{length-map}
 use Rattle.layout.proofs.Adding.{Grows, newRow, after-uri, uri-new}
 use Rattle.layout.proofs.Writer.{storeAt-is, store-ends}
 use Rattle.literal.proofs.Laws.{Passed}
@@ -43,7 +45,7 @@ use Rattle.write_uri.specs.Uri.{NewUri}
 
 module _ {s w : List ℕ} {st : State} {f : Found} (h : Ready s w st) (x : Text)
     (answer : f ≡ found (findThat (hasText w x) true 0 (rows w urisAt (st .uris)))) where
-  uris-list : Listed (writerMemory w) urisAt (st .uris) true 0 (tablesOf w st .uris)
+  uris-list : Listed (writerMemory w) urisAt (st .uris) true 0 (map some (tablesOf w st .uris))
   uris-list = uris-listed (writerMemory w) (countsOf st) (h .tidy .distinct) 0
 
   pub uri-missing : f ≡ Nothing → NewUri s w st x
@@ -67,7 +69,7 @@ module _ {s w : List ℕ} {st : State} {f : Found} (h : Ready s w st) (x : Text)
     uri-hit {a} fault put state still =
         hit-sending uri x h (form-uri (tablesOf w st) x ∙ hit-form uris-list x answer e 0 literal) fault
         (λ z. record {
-          put = rw (length-uris (writerMemory w) (countsOf st), ← add-one (st .uris), ← add-one number) (put z);
+          put = rw (length-map, length-uris (writerMemory w) (countsOf st), ← add-one (st .uris), ← add-one number) (put z);
           near = omega (arith, put z .next, choice-length a (st .uris + 1) (number + 1) (uri-asks .few));
           state = state z;
         })
@@ -144,7 +146,7 @@ module _ {s w : List ℕ} {st : State} {x : Text} (h : NewUri s w st x) where
       unfolding partitionsOf formBits maxString
       new-uri-put =
           record {
-            put = rw (length-uris (writerMemory w) (countsOf st), ← add-one (st .uris)) (put-then first (done .put));
+            put = rw (length-map, length-uris (writerMemory w) (countsOf st), ← add-one (st .uris)) (put-then first (done .put));
             near = omega (arith, done .put .next, first-near, string-length 0 x, ok .small);
             state = ap (λ (q : State). withUris q (st .uris + 1)) (done .state);
             after = after-uri (h .ready .tidy) (ok .store refl) few-uris uri-grows uri-row-is (h .new);

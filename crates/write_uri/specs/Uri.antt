@@ -1,8 +1,8 @@
 -- What writing a URI asks and leaves.
 use Prim.Native.Nat.{ℕ, _<_}
 use mathlib.Core.Path.{_≡_}
-use mathlib.Core.List.{List}
-use mathlib.Core.Option.{none}
+use mathlib.Core.List.{List, map}
+use mathlib.Core.Option.{none, some}
 use Rattle.text.specs.Text.{Text}
 use Rattle.spec_exi.specs.Tables.{indexOf}
 use Rattle.layout.specs.Meaning.{uriText}
@@ -13,7 +13,7 @@ use Rattle.sending.specs.Sending.{tablesOf, Ready}
 
 pub record NewUri (stream w : List ℕ) (st : State) (x : Text) : Type 0 where
   pub ready : Ready stream w st
-  pub new : indexOf (tablesOf w st .uris) x ≡ none
+  pub new : indexOf (map some (tablesOf w st .uris)) x ≡ none
 
 -- The row that a URI then has; 0 after a refusal.
 pub record UriRow (x : Text) (w′ : List ℕ) (r : Sent) : Type 0 where

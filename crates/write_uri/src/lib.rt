@@ -8,6 +8,7 @@ ghost use Rattle.sending.specs.Sending.{Ready, Sending};
 ghost use Rattle.write_uri.specs.Uri.{NewUri, UriRow};
 use layout::URIS;
 use rows::Found;
+use sizes::MAX_URIS;
 use state::State;
 use write_form::Sent;
 
@@ -17,7 +18,7 @@ fn put_new_uri(aligned: bool, stream: &mut [u8], st: State, x: &[u32], work: &mu
     ensures { λ r. ⌜ Sending (alignmentOf aligned) (item uri (now (x .entry)) ∷ []) (now (stream .entry)) (now (work .entry)) st (now (stream .exit)) (now (work .exit)) (r .number) (r .state) ⌝ }
     ensures { λ r. ⌜ UriRow (now (x .entry)) (now (work .exit)) r ⌝ }
 {
-    let number = literal::fault(x, true, st.stored, true, st.uris < 16);
+    let number = literal::fault(x, true, st.stored, true, st.uris < MAX_URIS);
     if number != 0 {
         return Sent {
             number,

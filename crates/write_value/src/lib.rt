@@ -13,6 +13,7 @@ ghost use Rattle.sending.specs.Sending.{Ready, Sending};
 ghost use Rattle.write_value.specs.Value.{ReadyValue, OtherValue, NewValue};
 use layout::VALUES;
 use rows::Found;
+use sizes::MAX_VALUES;
 use state::State;
 use write_form::Sent;
 
@@ -25,7 +26,18 @@ fn put_new_value(stream: &mut [u8], st: State, key: u32, x: &[u32], work: &mut [
     if x.len() == 0 {
         return write_form::send_text(stream, st, 2, x, true, work);
     }
-    let sent = write_form::send_entry(stream, st, 2, x, true, work, VALUES, st.values, 512, key);
+    let sent = write_form::send_entry(
+        stream,
+        st,
+        2,
+        x,
+        true,
+        work,
+        VALUES,
+        st.values,
+        MAX_VALUES,
+        key,
+    );
     if sent.number != 0 {
         return sent;
     }

@@ -1,4 +1,4 @@
--- `put` meets its contract: seven stores, each inside, put a row.
+-- `put` meets its contract: nine stores, each inside, put a row.
 use native.Mathlib.Omega.{arith}
 use lib.ListN.{length-set}
 use borrow.Author.Needs.{needs}
@@ -67,15 +67,33 @@ mul-cells-7 c = omega arith
 slice-write-cells-7 : tie.Need-slice-write-cells-7
 slice-write-cells-7 c = simp length-set (omega arith)
 
+add-cells-7 : tie.Need-add-cells-7
+add-cells-7 c = omega arith
+
+mul-cells-8 : tie.Need-mul-cells-8
+mul-cells-8 c = omega arith
+
+slice-write-cells-8 : tie.Need-slice-write-cells-8
+slice-write-cells-8 c = simp length-set (omega arith)
+
+add-cells-8 : tie.Need-add-cells-8
+add-cells-8 c = omega arith
+
+mul-cells-9 : tie.Need-mul-cells-9
+mul-cells-9 c = omega arith
+
+slice-write-cells-9 : tie.Need-slice-write-cells-9
+slice-write-cells-9 c = simp length-set (omega arith)
+
 same-length : tie.Need-same-length
-same-length c = search needs
+same-length c = simp length-set
 
 returns : tie.Need-returns
 unfolding rowCells asSpan
 returns c =
-    let s = c .before .before .before in
+    let s = c .before .before .before .before in
     let r = s .args .row in
-    row-put (s .args .cells .now) (s .args .at) (r .0) (asSpan (r .1)) (asSpan (r .2)) (asSpan (r .3)) (s .pre)
+    row-put (s .args .cells .now) (s .args .at) (r .0) (asSpan (r .1)) (asSpan (r .2)) (asSpan (r .3)) (asSpan (r .4)) (s .pre)
 
 pub put-spec : {M : Type 1} → statement M
 put-spec =
@@ -101,5 +119,11 @@ put-spec =
     add-cells-6
     mul-cells-7
     slice-write-cells-7
+    add-cells-7
+    mul-cells-8
+    slice-write-cells-8
+    add-cells-8
+    mul-cells-9
+    slice-write-cells-9
     same-length
     returns)

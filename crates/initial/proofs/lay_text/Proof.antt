@@ -3,7 +3,7 @@ use Prim.Native.Nat.{_-_}
 use native.Mathlib.Omega.{arith}
 use borrow.Author.Needs.{needs}
 use Rattle.text.specs.Text.{text}
-use Rattle.spec_exi.specs.Tables.{startTables, addedAll, initialEntries, added, newUri, newName, newEntry, newValue, laid, xmlUri, xsiUri}
+use Rattle.spec_exi.specs.Tables.{xmlUri, xsiUri}
 use Rattle.initial.specs.Initial.{initialText}
 use Rattle.initial.proofs.Turn.{Copied, none-copied, one-copied, all-copied}
 use Rattle.initial.proofs.lay_text.Statement.{statement}
@@ -40,7 +40,7 @@ loop-less : tie.Need-loop-less Inv-loop μ-loop
 loop-less c = search needs
 
 loop-again : tie.Need-loop-again Inv-loop μ-loop
-unfolding initialText startTables addedAll initialEntries added newUri newName newEntry newValue laid xmlUri xsiUri text
+unfolding initialText xmlUri xsiUri text
 loop-again c = one-copied _ _ (c .before .before .loop .inv) (omega arith) (c .wide .ensures)
 
 same-length : tie.Need-same-length Inv-loop μ-loop
