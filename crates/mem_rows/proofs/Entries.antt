@@ -10,7 +10,8 @@ use lib.Dec.{eqb}
 use borrow.Author.Tests.{eqb-true, eqb-false}
 use Rattle.spec_fields.proofs.Tests.{split}
 use Rattle.spec_exi.specs.Tables.{Entry, partition}
-use Rattle.mem_rows.specs.Rows.{noEntry, entryAt, given, earlier}
+use Rattle.mem_entries.specs.Entries.{entryAt, given, noEntry}
+use Rattle.mem_entries.proofs.Entries.{entry-old, entry-new}
 use Rattle.mem_rows.specs.Valid.{KeysBelow}
 
 -- A number below the length of a list with one more is below the old length, or is that length.
@@ -22,20 +23,12 @@ last-or {P = P} l x old new i h =
     (λ e. old i (omega (arith, eqb-false i (length l) e, length-append l (x ∷ []), h)))
 
 module _ (es : List (Entry ℕ)) (e : Entry ℕ) where
-  pub entry-old : (i : ℕ) → i < length es → entryAt (es ++ (e ∷ [])) i ≡ entryAt es i
-  unfolding entryAt
-  entry-old i h = List·getD-append es (e ∷ []) noEntry i h
-
-  pub entry-new : entryAt (es ++ (e ∷ [])) (length es) ≡ e
-  unfolding entryAt
-  entry-new = getD-append-seam es e [] noEntry
-
   pub keys-more : {most : ℕ} → KeysBelow most es → e .key < most → KeysBelow most (es ++ (e ∷ []))
   keys-more {most} k h =
       record {
         below = last-or {P = λ i. entryAt (es ++ (e ∷ [])) i .key < most} es e
-            (λ i l. let z = ap (λ (x : Entry ℕ). x .key) (entry-old i l) in omega (arith, z, k .below i l))
-            (let z = ap (λ (x : Entry ℕ). x .key) entry-new in omega (arith, z, h));
+            (λ i l. let z = ap (λ (x : Entry ℕ). x .key) (entry-old es e i l) in omega (arith, z, k .below i l))
+            (let z = ap (λ (x : Entry ℕ). x .key) (entry-new es e) in omega (arith, z, h));
       }
 
 pub keys-head : {most : ℕ} {e : Entry ℕ} {es : List (Entry ℕ)} → KeysBelow most (e ∷ es) → e .key < most

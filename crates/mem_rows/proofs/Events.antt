@@ -18,9 +18,10 @@ use Rattle.spec_exi.specs.Grammar.{Production, Learned, Code, kindNumber, siteO
 use Rattle.spec_exi.specs.Grammar.{Site, learn, hasName, grammarsAfter, stateAfter}
 use Rattle.spec_exi.specs.Grammar as grammar
 use Rattle.spec_exi.specs.Context.{Context, after}
+use Rattle.mem_entries.specs.Entries.{named}
 use Rattle.mem_rows.specs.Rows.{Learnt, Rows, placedAt, nameAt, siteAt, kindAt, carries, carriedAt}
 use Rattle.mem_rows.specs.Rows.{productionOf, learntAs, learnedOf, grammarsOf, isAmong, stateOf}
-use Rattle.mem_rows.specs.Rows.{modeAfter, openedAfter, ModeFits, keyed, tablesOf, contextOf}
+use Rattle.mem_rows.specs.Rows.{modeAfter, openedAfter, ModeFits, tablesOf, contextOf}
 use Rattle.mem_rows.specs.Rows.{withGrammar, withLearned, afterGrammar, afterLearned}
 use Rattle.mem_rows.specs.Valid.{LearntFits, Refers, Valid}
 use Rattle.mem_rows.proofs.Kept.{Kept, All, name-kept, learnt-kept, names-kept, learned-kept, grammars-kept}
@@ -91,7 +92,7 @@ module _ (kind n : ℕ) (b : Bool) (l : Learnt) (v : Rows) where
       go false c false = refl
 
   pub leaves-tables : (store : Text) → tablesOf (leaves kind n b l v) store ≡ tablesOf v store
-  unfolding leaves afterLearned afterGrammar withLearned withGrammar tablesOf keyed nameAt placedAt
+  unfolding leaves afterLearned afterGrammar withLearned withGrammar tablesOf named nameAt placedAt
   leaves-tables store = go (eqb kind (kindNumber SE)) (isAmong n (v .grammars)) b
     where
       go : (a c d : Bool) → tablesOf (afterLearned d l (cond a (cond c v (withGrammar v n)) v)) store ≡ tablesOf v store

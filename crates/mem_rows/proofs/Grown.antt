@@ -12,10 +12,11 @@ use Rattle.spec_fields.proofs.Tests.{split}
 use Rattle.text.specs.Text.{Text}
 use Rattle.spec_exi.specs.Event.{QName}
 use Rattle.spec_exi.specs.Tables.{Placed, Entry}
-use Rattle.mem_rows.specs.Rows.{nothing, entryAt, Learnt, Rows, uriAt, uriText, placedAt, nameAt}
+use Rattle.mem_entries.specs.Entries.{entryAt}
+use Rattle.mem_rows.specs.Rows.{nothing, Learnt, Rows, uriAt, uriText, placedAt, nameAt}
 use Rattle.mem_rows.specs.Rows.{isAmong, withUri, withName, withValue, withLearned, withGrammar}
 use Rattle.mem_rows.specs.Valid.{noLearnt, learntAt, KeysBelow, LearntFits, Refers, Distinct, Valid}
-use Rattle.mem_rows.proofs.Entries.{last-or, entry-new, keys-more, keys-up}
+use Rattle.mem_rows.proofs.Entries.{last-or, keys-more, keys-up}
 use Rattle.mem_rows.proofs.Joins.{uri-old, uri-new, uri-names, name-old, name-new, name-text}
 use Rattle.mem_rows.proofs.Kept.{Kept}
 

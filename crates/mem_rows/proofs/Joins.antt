@@ -10,17 +10,19 @@ use Rattle.text.specs.Text.{Text, isEmpty}
 use Rattle.spec_exi.specs.Event.{QName}
 use Rattle.spec_exi.specs.Tables.{Placed, Entry, Tables, Role, uri, local, value, target, plain, newUri}
 use Rattle.spec_exi.specs.Tables.{newName, newValue, newEntry, laid, added}
-use Rattle.mem_rows.specs.Rows.{nothing, entryAt, Rows, uriAt, uriText, placedAt, nameAt, keyed}
+use Rattle.mem_entries.specs.Entries.{entryAt, named}
+use Rattle.mem_rows.specs.Rows.{nothing, Rows, uriAt, uriText, placedAt, nameAt}
 use Rattle.mem_rows.specs.Rows.{tablesOf, withUri, withName, withValue}
 use Rattle.mem_rows.specs.Valid.{KeysBelow, Refers}
-use Rattle.mem_rows.proofs.Entries.{entry-old, entry-new, keys-head, keys-tail}
+use Rattle.mem_rows.proofs.Entries.{keys-head, keys-tail}
+use Rattle.mem_entries.proofs.Entries.{entry-old, entry-new}
 
 -- ---- keys that mean the same
 
 module _ {K : Type 0} (f g : ℕ → K) where
   pub keyed-same : (most : ℕ) → ((i : ℕ) → i < most → f i ≡ g i) → (es : List (Entry ℕ)) → KeysBelow most es
-      → map (keyed f) es ≡ map (keyed g) es
-  unfolding keyed
+      → map (named f) es ≡ map (named g) es
+  unfolding named
   keyed-same most e [] b = refl
   keyed-same most e (x ∷ xs) b =
       let z : f (x .key) ≡ g (x .key) = e (x .key) (keys-head b) in
@@ -87,10 +89,10 @@ module _ (w : Rows) (r : Refers w) (store x : Text) where
   pub name-joins : (attr : Bool) (u : ℕ)
       → added (tablesOf w store) (local attr (uriText (w .uris) u)) x
       ≡ tablesOf (withName w u (record { place = length store; text = x })) (store ++ x)
-  unfolding added newUri newName newValue laid tablesOf withName keyed
+  unfolding added newUri newName newValue laid tablesOf withName named
   name-joins attr u =
       let y : Placed = record { place = length store; text = x } in
-      let names = sym (map-snoc (keyed (uriText (w .uris))) (w .names) (record { key = u; string = y })) in
+      let names = sym (map-snoc (named (uriText (w .uris))) (w .names) (record { key = u; string = y })) in
       let values = keyed-same (nameAt w) (nameAt (withName w u y)) (length (w .names))
       (λ n h. name-text w (withName w u y) n n (sym (name-old w u y n h))) (w .values) (r .values) in
       λ i. record { uris = append-nil (w .uris) i; names = names i; values = (append-nil _ ∙ values) i; store = store ++ x }
@@ -98,11 +100,11 @@ module _ (w : Rows) (r : Refers w) (store x : Text) where
   pub value-joins : (n : ℕ) → isEmpty x ≡ false
       → added (tablesOf w store) (value (nameAt w n)) x
       ≡ tablesOf (withValue w n (record { place = length store; text = x })) (store ++ x)
-  unfolding added newUri newName newValue newEntry laid tablesOf withValue keyed nameAt placedAt
+  unfolding added newUri newName newValue newEntry laid tablesOf withValue named nameAt placedAt
   value-joins n e =
       let y : Placed = record { place = length store; text = x } in
-      let values = sym (map-snoc (keyed (nameAt w)) (w .values) (record { key = n; string = y })) in
-      rw e (λ i. record { uris = append-nil (w .uris) i; names = append-nil (map (keyed (uriText (w .uris))) (w .names)) i; values = values i; store = store ++ x })
+      let values = sym (map-snoc (named (nameAt w)) (w .values) (record { key = n; string = y })) in
+      rw e (λ i. record { uris = append-nil (w .uris) i; names = append-nil (map (named (uriText (w .uris))) (w .names)) i; values = values i; store = store ++ x })
 
 -- A value that is empty, a target, a comment or an instruction's text is laid, and joins no table.
 pub nothing-joins : (w : Rows) (store x : Text) (role : Role)
@@ -112,9 +114,9 @@ unfolding added tablesOf
 nothing-joins w store x role a b c =
     λ i. record {
       uris = (ap (λ l. w .uris ++ l) a ∙ append-nil (w .uris)) i;
-      names = (ap (λ l. map (keyed (uriText (w .uris))) (w .names) ++ l) b
-          ∙ append-nil (map (keyed (uriText (w .uris))) (w .names))) i;
-      values = (ap (λ l. map (keyed (nameAt w)) (w .values) ++ l) c
-          ∙ append-nil (map (keyed (nameAt w)) (w .values))) i;
+      names = (ap (λ l. map (named (uriText (w .uris))) (w .names) ++ l) b
+          ∙ append-nil (map (named (uriText (w .uris))) (w .names))) i;
+      values = (ap (λ l. map (named (nameAt w)) (w .values) ++ l) c
+          ∙ append-nil (map (named (nameAt w)) (w .values))) i;
       store = store ++ x;
     }

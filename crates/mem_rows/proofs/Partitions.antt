@@ -15,7 +15,8 @@ use Rattle.text.proofs.Equal.{eqText-refl, eqText-eq}
 use Rattle.spec_exi.specs.Event.{QName, eqName}
 use Rattle.spec_exi.specs.Tables.{Placed, Entry, Tables, Slot, partition, namesOf, valuesOf, allValues}
 use Rattle.spec_exi.proofs.Codes.{eqName-refl, eqName-eq}
-use Rattle.mem_rows.specs.Rows.{entryAt, given, Rows, uriText, nameAt, keyed, tablesOf}
+use Rattle.mem_entries.specs.Entries.{entryAt, given, named}
+use Rattle.mem_rows.specs.Rows.{Rows, uriText, nameAt, tablesOf}
 use Rattle.mem_rows.specs.Valid.{KeysBelow, Refers, Distinct, Valid}
 use Rattle.mem_rows.proofs.Entries.{keys-head, keys-tail}
 
@@ -30,8 +31,8 @@ module _ {K : Type 0} (same : K → K → Bool) (same-refl : (a : K) → T (same
       (λ t. rw (t, ne-eqb k j (λ e. true≢false (sym (T-is (same (f k) (f k)) (same-refl (f k))) ∙ rw (sym e) at t))))
 
   pub keyed-part : (k : ℕ) → k < most → (es : List (Entry ℕ)) → KeysBelow most es
-      → partition (same (f k)) (map (keyed f) es) ≡ given es k
-  unfolding partition keyed given
+      → partition (same (f k)) (map (named f) es) ≡ given es k
+  unfolding partition named given
   keyed-part k h [] b = refl
   keyed-part k h (e ∷ es) b =
       let t : same (f k) (f (e .key)) ≡ eqb k (e .key) = key-test k (e .key) h (keys-head b) in
@@ -58,5 +59,5 @@ module _ {w : Rows} (v : Valid w) (store : Text) where
 -- All values, in order.
 pub all-part : (w : Rows) (store : Text)
     → allValues (tablesOf w store) ≡ map (λ (e : Entry ℕ). some (e .string)) (w .values)
-unfolding allValues tablesOf keyed
-all-part w store = map-map (λ (x : Entry (QName Text)). some (x .string)) (keyed (nameAt w)) (w .values)
+unfolding allValues tablesOf named
+all-part w store = map-map (λ (x : Entry (QName Text)). some (x .string)) (named (nameAt w)) (w .values)

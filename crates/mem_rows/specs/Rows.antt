@@ -14,25 +14,10 @@ use Rattle.spec_exi.specs.Tables.{Placed, Entry, Tables, partition}
 use Rattle.spec_exi.specs.Grammar.{Production, Site, tagOf, contentOf, Learned, State, document}
 use Rattle.spec_exi.specs.Grammar.{docContent, docEnd, finished, startTag, elementContent, kindNumber}
 use Rattle.spec_exi.specs.Context.{Context}
-
--- ---- entries by the number of their key
+use Rattle.mem_entries.specs.Entries.{Entries, entryAt, named}
 
 abbrev pub nothing : Placed
 nothing = record { place = 0; text = [] }
-
-abbrev pub noEntry : Entry ℕ
-noEntry = record { key = 0; string = nothing }
-
-unfoldable pub entryAt : List (Entry ℕ) → ℕ → Entry ℕ
-entryAt es i = getD es i noEntry
-
--- The entries with this key: the names of a URI, or the values of a name.
-unfoldable pub given : List (Entry ℕ) → ℕ → List Placed
-given es k = partition (eqb k) es
-
--- How many of them are among the first i: the compact identifier of the next.
-unfoldable pub earlier : List (Entry ℕ) → ℕ → ℕ → ℕ
-earlier es k i = length (given (take i es) k)
 
 -- ---- the rows
 
@@ -48,9 +33,9 @@ pub record Learnt : Type 0 where
 pub record Rows : Type 0 where
   pub uris : List Placed
   -- local names, by the row of their URI
-  pub names : List (Entry ℕ)
+  pub names : Entries
   -- values, by the row of their name
-  pub values : List (Entry ℕ)
+  pub values : Entries
   -- the oldest first
   pub learned : List Learnt
   -- the elements that have a grammar, by the row of their name
@@ -73,16 +58,12 @@ unfoldable pub nameAt : Rows → ℕ → QName Text
 nameAt w n =
     record { uri = placedAt w n .uri .text; local = placedAt w n .local .text }
 
--- An entry whose key is what the number means.
-unfoldable pub keyed : {K : Type 0} → (ℕ → K) → Entry ℕ → Entry K
-keyed f e = record { key = f (e .key); string = e .string }
-
 unfoldable pub tablesOf : Rows → Text → Tables
 tablesOf w store =
     record {
       uris = w .uris;
-      names = map (keyed (uriText (w .uris))) (w .names);
-      values = map (keyed (nameAt w)) (w .values);
+      names = map (named (uriText (w .uris))) (w .names);
+      values = map (named (nameAt w)) (w .values);
       store = store;
     }
 
