@@ -7,3 +7,4 @@ pub mod Grammars
 pub mod States
 pub mod Grown
 pub mod Events
+pub mod Alike
