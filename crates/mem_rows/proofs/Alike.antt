@@ -16,8 +16,9 @@ use Rattle.spec_exi.specs.Context.{levelsIn, items, afterItems, afterCode, next
 use Rattle.spec_exi.specs.Alike.{unplaced, unplacedEntry, unplacedTables, unplacedName, unplacedProduction}
 use Rattle.spec_exi.specs.Alike.{unplacedLearned, unplacedContext, SameBy, AlikeTables, Alike}
 use Rattle.spec_exi.proofs.Alike.{alike-same, after-alike, entries-alike}
-use Rattle.mem_rows.specs.Rows.{nothing, noEntry, entryAt, Learnt, Rows, uriAt, uriText, placedAt}
-use Rattle.mem_rows.specs.Rows.{nameAt, keyed, tablesOf, kindAt, carries, siteAt, carriedAt}
+use Rattle.mem_entries.specs.Entries.{entryAt, named, noEntry}
+use Rattle.mem_rows.specs.Rows.{nothing, Learnt, Rows, uriAt, uriText, placedAt}
+use Rattle.mem_rows.specs.Rows.{nameAt, tablesOf, kindAt, carries, siteAt, carriedAt}
 use Rattle.mem_rows.specs.Rows.{productionOf, learntAs, backward, learnedOf, grammarsOf, stateOf}
 use Rattle.mem_rows.specs.Rows.{contextOf, withUri, withName, withValue, modeAfter, openedAfter}
 use Rattle.mem_rows.specs.Valid.{Refers, Valid}
@@ -49,8 +50,8 @@ unfolding entryAt unplacedEntry unplaced
 entry-unplaced es i = List·getD-map unplacedEntry es i noEntry
 
 keyed-unplaced : {K : Type 0} {f g : ℕ → K} → f ≡ g → (es : List (Entry ℕ))
-    → map (keyed f) (map unplacedEntry es) ≡ map unplacedEntry (map (keyed g) es)
-unfolding keyed unplacedEntry
+    → map (named f) (map unplacedEntry es) ≡ map unplacedEntry (map (named g) es)
+unfolding named unplacedEntry
 keyed-unplaced h [] = refl
 keyed-unplaced {f = f} {g = g} h (e ∷ es) =
     let k : f (e .key) ≡ g (e .key) = ap (λ m. m (e .key)) h in cc (keyed-unplaced h es)
