@@ -84,8 +84,7 @@ module _ (s : Settings) {t : Tables} {r : Role} {j : ℕ} {es : List Slot} {stre
   hit-gotten h w =
       let i = h .chosen .value .0 in
       let f : eqForm (hit j i) (formOf (partitionsOf t r) (h .x .text)) ≡ true = rw (h .strict) (same-form j i) in
-      let m = judge-got t r (hit j i, h .x) f (h .allowed) w (drop next (unpack stream)) in
-      (
+      let m = judge-got t r (hit j i, h .x) f (h .allowed) w (drop next (unpack stream)) in (
         record { value = (h .x, t); result = rw (h .chosen .result, h .slot) m; after = h .chosen .after; inside = h .chosen .inside },
         h .x,
         refl,
@@ -153,7 +152,7 @@ literal-is {stream = stream} {l = l} r z s t e =
     let o = r .outcome s t e in
     let v = o .is z in
     let same : o .read z .value ≡ (literal, laid t (o .read z .value .1 .text)) =
-        λ i. (v .form i, record { place = (v .place ∙ sym e) i; text = o .read z .value .1 .text }) in
+    λ i. (v .form i, record { place = (v .place ∙ sym e) i; text = o .read z .value .1 .text }) in
     record {
       x = o .read z .value .1 .text;
       size = v .size;
