@@ -1,0 +1,5 @@
+pub mod Hashing
+pub mod Texts
+pub mod Entries
+pub mod Slots
+pub mod Alike
