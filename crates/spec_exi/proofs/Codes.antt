@@ -11,8 +11,8 @@ use Rattle.spec_fields.specs.Bits.{Bits}
 use Rattle.spec_fields.specs.Refusal.{code}
 use Rattle.spec_fields.specs.Field.{Alignment, choiceBits}
 use Rattle.spec_fields.proofs.Tests.{is-T, both, left, right, split}
-use Rattle.spec_fields.proofs.Exact.{Reads, Returned, Then, Every, reads-as, reads-return, reads-fail}
-use Rattle.spec_fields.proofs.Exact.{reads-then, reads-map}
+use Rattle.spec_fields.proofs.Exact.{Reads, Returned, Then, Every, reads-as, reads-return}
+use Rattle.spec_fields.proofs.Exact.{reads-fail, reads-then, reads-map}
 use Rattle.spec_fields.proofs.Number.{Chosen, choice-reads}
 use Rattle.text.specs.Text.{Text, eqText}
 use Rattle.text.proofs.Equal.{eqText-refl, eqText-eq}

@@ -7,8 +7,8 @@ use mathlib.Core.Option.{Option, none, some, Option·map}
 use lib.Dec.{T, eqb}
 use Rattle.spec_fields.specs.Bits.{Bits}
 use Rattle.spec_fields.proofs.Tests.{split, is-T, left, right}
-use Rattle.spec_fields.proofs.Exact.{Reads, Returned, Then, Mapped, reads-as, reads-return, reads-then}
-use Rattle.spec_fields.proofs.Exact.{reads-map}
+use Rattle.spec_fields.proofs.Exact.{Reads, Returned, Then, Mapped, reads-as, reads-return}
+use Rattle.spec_fields.proofs.Exact.{reads-then, reads-map}
 use Rattle.text.specs.Text.{Text, eqText, allChars}
 use Rattle.text.proofs.Equal.{eqText-eq}
 use Rattle.spec_exi.specs.Settings.{Settings}
@@ -17,8 +17,8 @@ use Rattle.spec_exi.specs.Event.{QName, Event, startDocument, endDocumen
 use Rattle.spec_exi.specs.Event.{startElement, attribute, characters, comment, instruction}
 use Rattle.spec_exi.specs.Event.{Kind, SD, ED, SE, AT, EE, CH, CM, PI, mapName, mapEvent}
 use Rattle.spec_exi.specs.Event.{kindOf, nameOf}
-use Rattle.spec_exi.specs.Tables.{Placed, nameText, eventText, Tables, Role, uri, local, value}
-use Rattle.spec_exi.specs.Tables.{target, plain, namesOf, nameAllowed}
+use Rattle.spec_exi.specs.Tables.{Placed, nameText, eventText, Tables, Role, uri, local}
+use Rattle.spec_exi.specs.Tables.{value, target, plain, namesOf, nameAllowed}
 use Rattle.spec_exi.specs.Grammar.{Production, State, kindNumber, isWildcard, fitsName, fits}
 use Rattle.spec_exi.specs.Context.{Item, item, characterRole, nameItems, items, afterItem}
 use Rattle.spec_exi.specs.Context.{afterItems, entryOf, entriesOf}

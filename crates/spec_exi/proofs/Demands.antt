@@ -9,14 +9,14 @@ use lib.ListN.{length, length-append}
 use lib.Dec.{T, leb, ltb, leb→le, le→leb, ltb→lt, lt→ltb}
 use Rattle.spec_fields.specs.Bits.{Bits, unpack, pack, isPadding, allZero}
 use Rattle.spec_fields.specs.Parser.{Result, bad, got}
-use Rattle.spec_fields.specs.Refusal.{Refusal, numberOf, room, settings, long, header, ended, code}
-use Rattle.spec_fields.specs.Refusal.{number, character, reference, loose, name, limit, tail, shape}
-use Rattle.spec_fields.specs.Refusal.{place, Answer, refused, accepted}
+use Rattle.spec_fields.specs.Refusal.{Answer, refused, accepted}
+use Rattle.spec_fields.proofs.Refusal.{refusal-number}
 use Rattle.spec_fields.proofs.Tests.{T-is, is-T, both, left, right, split}
 use Rattle.spec_fields.proofs.Pack.{Octets, unpack-append, length-unpack, unpack-pack}
 use Rattle.text.specs.Text.{Text}
 use Rattle.spec_exi.specs.Event.{Event}
-use Rattle.spec_exi.specs.Settings.{Settings, SettingNumbers, meaningful, settingsOf, headerOf}
+use Rattle.spec_exi.specs.Settings.{Settings, SettingNumbers, meaningful, settingsOf}
+use Rattle.spec_exi.specs.Settings.{headerOf}
 use Rattle.spec_exi.specs.Sizes.{sizes, maxStream, maxEvents}
 use Rattle.spec_exi.specs.Tables.{eventText}
 use Rattle.spec_exi.specs.Context.{start, contextAfter}
@@ -129,29 +129,9 @@ module _ (r : ReaderRoom) (o : SettingNumbers) (stream : List ℕ) (x : Reading)
 listed : (r : ReaderRoom) (o : SettingNumbers) (stream : List ℕ) (l : List (Event Text)) (q : Accepts r o stream l) → map eventText (q .0 .events) ≡ l
 listed r o stream l q = Option·some-injective (map eventText (q .0 .events)) l (sym (texts r o stream (q .0) (q .1)) ∙ q .2)
 
-number-positive : (k : Refusal) → numberOf k ≡ 0 → ⊥
-unfolding numberOf
-number-positive = elim [
-  | room ↦ λ e. omega arith
-  | settings ↦ λ e. omega arith
-  | long ↦ λ e. omega arith
-  | header ↦ λ e. omega arith
-  | ended ↦ λ e. omega arith
-  | code ↦ λ e. omega arith
-  | number ↦ λ e. omega arith
-  | character ↦ λ e. omega arith
-  | reference ↦ λ e. omega arith
-  | loose ↦ λ e. omega arith
-  | name ↦ λ e. omega arith
-  | limit ↦ λ e. omega arith
-  | tail ↦ λ e. omega arith
-  | shape ↦ λ e. omega arith
-  | place ↦ λ e. omega arith
-]
-
 zero-accepted : (a : Answer Reading) → (readReply a .number ≡ 0) ↔ ((x : Reading) × (a ≡ accepted x))
 unfolding readReply
-zero-accepted (refused k i) = (λ e. absurd (number-positive k e), λ h. not-accepted (h .1))
+zero-accepted (refused k i) = (λ e. absurd (omega (arith, refusal-number k)), λ h. not-accepted (h .1))
 zero-accepted (accepted x) = (λ e. (x, refl), λ h. refl)
 
 accepts-good : (r : ReaderRoom) (o : SettingNumbers) (stream : List ℕ) (l : List (Event Text)) → AreOctets stream → Accepts r o stream l
@@ -307,7 +287,7 @@ written-back r p o stream x e h q =
 
 zero-written : (a : Answer (List ℕ)) → (writeReply a .number ≡ 0) ↔ ((stream : List ℕ) × (a ≡ accepted stream))
 unfolding writeReply
-zero-written (refused k i) = (λ e. absurd (number-positive k e), λ h. not-accepted (h .1))
+zero-written (refused k i) = (λ e. absurd (omega (arith, refusal-number k)), λ h. not-accepted (h .1))
 zero-written (accepted os) = (λ e. (os, refl), λ h. refl)
 
 -- A list is written where the number is 0.

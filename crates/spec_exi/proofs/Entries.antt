@@ -13,13 +13,12 @@ use Rattle.spec_fields.proofs.Tests.{split, right}
 use Rattle.spec_fields.proofs.Exact.{Every}
 use Rattle.text.specs.Text.{Text, eqText, isEmpty, allChars}
 use Rattle.spec_exi.specs.Settings.{Settings}
-use Rattle.spec_exi.specs.Sizes.{sizes, maxUris, maxNames, maxValues, maxStore}
-use Rattle.spec_exi.specs.Sizes.{maxString}
+use Rattle.spec_exi.specs.Sizes.{sizes, maxUris, maxNames, maxValues, maxStore, maxString}
 use Rattle.spec_exi.specs.Tables.{Placed, Entry, Tables, partition, namesOf, valuesOf}
-use Rattle.spec_exi.specs.Tables.{allValues, Role, uri, local, value, target}
-use Rattle.spec_exi.specs.Tables.{plain, Partitions, compact, literals, partitionsOf, Form, hit}
-use Rattle.spec_exi.specs.Tables.{literal, formOf, formBits, newUri, newName}
-use Rattle.spec_exi.specs.Tables.{newEntry, newValue, laid, added, tablesAfter}
+use Rattle.spec_exi.specs.Tables.{allValues, Role, uri, local, value, target, plain}
+use Rattle.spec_exi.specs.Tables.{Partitions, compact, literals, partitionsOf, Form, hit}
+use Rattle.spec_exi.specs.Tables.{literal, formOf, formBits, newUri, newName, newEntry}
+use Rattle.spec_exi.specs.Tables.{newValue, laid, added, tablesAfter}
 use Rattle.spec_exi.specs.Event.{eqName}
 use Rattle.spec_exi.specs.Context.{Item, item, afterItem, afterItems}
 use Rattle.spec_exi.specs.Strict.{itemBits}

@@ -14,11 +14,10 @@ use Rattle.text.proofs.Equal.{eqText-refl}
 use Rattle.spec_exi.specs.Event.{QName}
 use Rattle.spec_exi.specs.Settings.{Settings}
 use Rattle.spec_exi.specs.Sizes.{Sizes}
-use Rattle.spec_exi.specs.Tables.{Role}
-use Rattle.spec_exi.specs.Tables.{Placed, Slot, Entry, Tables, partition}
-use Rattle.spec_exi.specs.Tables.{namesOf, hasText, indexOf, uri, local, value, compact}
-use Rattle.spec_exi.specs.Tables.{literals, partitionsOf, Form, hit, literal, hitOr, firstHit}
-use Rattle.spec_exi.specs.Tables.{formOf, newUri, newName, laid, added, tablesAfter}
+use Rattle.spec_exi.specs.Tables.{Role, Placed, Slot, Entry, Tables, partition, namesOf}
+use Rattle.spec_exi.specs.Tables.{hasText, indexOf, uri, local, value, compact, literals}
+use Rattle.spec_exi.specs.Tables.{partitionsOf, Form, hit, literal, hitOr, firstHit, formOf}
+use Rattle.spec_exi.specs.Tables.{newUri, newName, laid, added, tablesAfter}
 use Rattle.spec_exi.specs.Context.{entryOf, entriesOf}
 use Rattle.spec_exi.proofs.Derivation.{Spelled, compactHit, compactMiss, literalHit}
 use Rattle.spec_exi.proofs.Derivation.{literalMiss}

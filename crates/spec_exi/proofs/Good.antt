@@ -15,16 +15,15 @@ use Rattle.spec_exi.specs.Sizes.{sizes}
 use Rattle.spec_exi.specs.Event.{Event, startDocument, endDocument, endElement, startElement}
 use Rattle.spec_exi.specs.Event.{attribute, characters, comment, instruction, stringsOf}
 use Rattle.spec_exi.specs.Settings.{Settings}
-use Rattle.spec_exi.specs.Tables.{Tables, Form, hit, literal, partitionsOf, formOf}
-use Rattle.spec_exi.specs.Tables.{added, tablesAfter}
-use Rattle.spec_exi.specs.Tables.{nameAllowed}
+use Rattle.spec_exi.specs.Tables.{Tables, Form, hit, literal, partitionsOf, formOf, added}
+use Rattle.spec_exi.specs.Tables.{tablesAfter, nameAllowed}
 use Rattle.spec_exi.specs.Grammar.{Production, State, document, docContent, docEnd, finished}
 use Rattle.spec_exi.specs.Grammar.{startTag, elementContent, Code, codeOf, stateAfter}
 use Rattle.spec_exi.specs.Context.{Context, start, levelsIn, Item, item, characterRole}
 use Rattle.spec_exi.specs.Context.{nameItems, items, afterItem, afterItems, after, afterCode}
 use Rattle.spec_exi.specs.Context.{next}
-use Rattle.spec_exi.specs.Lists.{every, Document, namesAllowed, charsOnly, withinTables, within}
-use Rattle.spec_exi.specs.Lists.{staysWithin, short, shortStrings}
+use Rattle.spec_exi.specs.Lists.{every, Document, namesAllowed, charsOnly, withinTables}
+use Rattle.spec_exi.specs.Lists.{within, staysWithin, short, shortStrings}
 use Rattle.spec_exi.proofs.Step.{sane-start}
 use Rattle.spec_exi.proofs.Fit.{ItemsFit, EventFit, ListFit, done, also}
 use Rattle.spec_exi.proofs.Shape.{allowed, Run, stop, go, run-of-document, document-of-run}

@@ -1,6 +1,6 @@
 -- A stream in pieces: a refusal stays whatever follows, and what goes on begins with what was
 -- complete before.
-use Prim.Native.Nat.{ℕ, zero, suc, _+_, _≤_, _<_}
+use Prim.Native.Nat.{ℕ, zero, suc, _≤_, _<_}
 use native.Mathlib.Omega.{arith}
 use mathlib.Core.Path.{_≡_, refl, sym, _∙_, ap, subst}
 use mathlib.Core.Logic.{_↔_}
@@ -19,21 +19,23 @@ use Rattle.spec_fields.proofs.Tests.{split, T-is, is-T}
 use Rattle.spec_fields.proofs.Pack.{unpack-append}
 use Rattle.text.specs.Text.{Text}
 use Rattle.spec_exi.specs.Event.{Event, stringsOf}
-use Rattle.spec_exi.specs.Settings.{Settings, SettingNumbers, meaningful, settingsOf, headerOf}
+use Rattle.spec_exi.specs.Settings.{Settings, SettingNumbers, meaningful, settingsOf}
+use Rattle.spec_exi.specs.Settings.{headerOf}
 use Rattle.spec_exi.specs.Sizes.{Sizes, sizes, maxStream, maxEvents}
 use Rattle.spec_exi.specs.Tables.{Placed, eventText, added}
 use Rattle.spec_exi.specs.Grammar.{levelsWith, levels, isFinished}
 use Rattle.spec_exi.specs.Context.{Context, start, levelsIn, after, contextAfter}
-use Rattle.spec_exi.specs.Reader.{Reading, readCode, step, following, ending, onward, readEvents}
-use Rattle.spec_exi.specs.Reader.{readHeader, readBody, readStream, ReaderRoom, enoughToRead}
-use Rattle.spec_exi.specs.Reader.{readSized, read, readReply}
+use Rattle.spec_exi.specs.Reader.{Reading, readCode, step, following, ending, onward}
+use Rattle.spec_exi.specs.Reader.{readEvents, readHeader, readBody, readStream, ReaderRoom}
+use Rattle.spec_exi.specs.Reader.{enoughToRead, readSized, read, readReply}
 use Rattle.spec_exi.specs.Packets.{nothingYet, withFirst, firstThen, firstEvents, afterHeader}
 use Rattle.spec_exi.specs.Packets.{complete, soFar, receive, Begins}
 use Rattle.spec_exi.specs.Meaning.{storedOf, meant}
-use Rattle.spec_exi.proofs.Step.{StepRead, step-reads, Sane, sane-next, sane-start, step-next, step-fit}
+use Rattle.spec_exi.proofs.Step.{StepRead, step-reads, Sane, sane-next, sane-start}
+use Rattle.spec_exi.proofs.Step.{step-next, step-fit}
 use Rattle.spec_exi.proofs.Body.{not-accepted, accepted-same}
-use Rattle.spec_exi.proofs.Places.{Stable, content-stays, every-map, Settled}
-use Rattle.spec_exi.proofs.Places.{settled-start, step-settles, Keeps, meant-all}
+use Rattle.spec_exi.proofs.Places.{Stable, content-stays, every-map, Settled, settled-start}
+use Rattle.spec_exi.proofs.Places.{step-settles, Keeps, meant-all}
 use Rattle.spec_exi.proofs.Steady.{steady-step, steady-header}
 use Rattle.spec_exi.proofs.Writes.{is-finished}
 use Rattle.spec_exi.proofs.Demands.{texts, store}

@@ -20,9 +20,9 @@ use Rattle.spec_exi.specs.Event.{QName, Event, startDocument, endDocumen
 use Rattle.spec_exi.specs.Event.{startElement, attribute, characters, comment, instruction}
 use Rattle.spec_exi.specs.Event.{Kind, mapName, mapEvent, kindOf, nameOf, stringsOf}
 use Rattle.spec_exi.specs.Settings.{Settings}
-use Rattle.spec_exi.specs.Tables.{Placed, eventText, spanOf, Tables, Role}
-use Rattle.spec_exi.specs.Tables.{Partitions, Form, hit, literal, laid, added, tablesAfter}
-use Rattle.spec_exi.specs.Tables.{addedAll, startTables, initialEntries}
+use Rattle.spec_exi.specs.Tables.{Placed, eventText, spanOf, Tables, Role, Partitions, Form}
+use Rattle.spec_exi.specs.Tables.{hit, literal, laid, added, tablesAfter, addedAll}
+use Rattle.spec_exi.specs.Tables.{startTables, initialEntries}
 use Rattle.spec_exi.specs.Grammar.{Production, unnamed, State, siteOf, learnedAt, teaches}
 use Rattle.spec_exi.specs.Grammar.{taught}
 use Rattle.spec_exi.specs.Context.{contextAfter, Context, start, levelsIn, after}

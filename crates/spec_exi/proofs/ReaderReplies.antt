@@ -1,28 +1,27 @@
 -- Demand 1, of the reader: what holds of every reply.
-use Prim.Native.Nat.{ℕ, zero, suc, _+_, _-_, _≤_, _<_, zero-le, suc-le-suc}
+use Prim.Native.Nat.{ℕ, zero, suc, _≤_, _<_, zero-le, suc-le-suc}
 use native.Mathlib.Omega.{arith}
 use mathlib.Core.Path.{_≡_, refl, sym, ap, subst}
 use mathlib.Core.Logic.{_↔_}
 use mathlib.Core.Bool.{Bool, true, false, cond, _&&_, not}
-use mathlib.Core.List.{List, [], _∷_, _++_}
+use mathlib.Core.List.{List, [], _∷_}
 use mathlib.Core.Option.{Option, none, some}
 use lib.ListN.{length}
 use lib.Dec.{T, leb, leb→le}
 use borrow.Author.Tests.{leb-false}
-use Rattle.spec_fields.specs.Bits.{Bits, unpack, pack, isPadding}
+use Rattle.spec_fields.specs.Bits.{Bits, unpack, isPadding}
 use Rattle.spec_fields.specs.Refusal.{Refusal, numberOf, room, settings, long, header, ended, code}
-use Rattle.spec_fields.specs.Refusal.{number, character, reference, loose, name, limit, tail, Answer}
-use Rattle.spec_fields.specs.Refusal.{refused, accepted}
+use Rattle.spec_fields.specs.Refusal.{number, character, reference, loose, name, limit, tail}
+use Rattle.spec_fields.specs.Refusal.{Answer, refused, accepted}
 use Rattle.spec_fields.specs.Parser.{Result, bad, got, Parser}
 use Rattle.spec_fields.specs.Field.{Alignment}
 use Rattle.spec_fields.proofs.Tests.{split, is-T, left, right}
-use Rattle.spec_fields.proofs.Says.{Says, says-return, says-fail, says-present, says-then, says-guard}
-use Rattle.spec_fields.proofs.Says.{says-times, says-octet, says-choice, says-unsigned}
-use Rattle.text.specs.Text.{Text, part}
-use Rattle.spec_exi.specs.Event.{QName, Event, Kind, SD, ED, SE, AT, EE, CH, CM, PI, mapEvent}
-use Rattle.spec_exi.specs.Settings.{Settings, SettingNumbers, meaningful, settingsOf, headerOf}
-use Rattle.spec_exi.specs.Sizes.{Sizes, sizes, maxStream, maxEvents}
-use Rattle.spec_exi.specs.Sizes.{maxStore}
+use Rattle.spec_fields.proofs.Says.{Says, says-return, says-fail, says-present, says-then}
+use Rattle.spec_fields.proofs.Says.{says-guard, says-times, says-octet, says-choice, says-unsigned}
+use Rattle.spec_exi.specs.Event.{QName, Event, Kind, SD, ED, SE, AT, EE, CH, CM, PI}
+use Rattle.spec_exi.specs.Settings.{Settings, SettingNumbers, meaningful, settingsOf}
+use Rattle.spec_exi.specs.Settings.{headerOf}
+use Rattle.spec_exi.specs.Sizes.{Sizes, sizes, maxStream, maxEvents, maxStore}
 use Rattle.spec_exi.specs.Tables.{Placed, Slot, Tables, Role, Partitions, compact, literals}
 use Rattle.spec_exi.specs.Tables.{partitionsOf}
 use Rattle.spec_exi.specs.Grammar.{Production, Code, State, choices, isFinished}
@@ -30,9 +29,9 @@ use Rattle.spec_exi.specs.Context.{Context, start, after, next}
 use Rattle.spec_exi.specs.Lists.{withinTables}
 use Rattle.spec_exi.specs.Reader.{readCharacter, readLiteral, readHit, readIn, readByLiterals}
 use Rattle.spec_exi.specs.Reader.{readEntry, readForm, readString, readName, readContent}
-use Rattle.spec_exi.specs.Reader.{readPart, readCode, step, Reading, following, ending, onward}
-use Rattle.spec_exi.specs.Reader.{readEvents, readHeader, readBody, readStream, ReaderRoom}
-use Rattle.spec_exi.specs.Reader.{enoughToRead, readSized, read, readReply}
+use Rattle.spec_exi.specs.Reader.{readPart, readCode, step, Reading, following, ending}
+use Rattle.spec_exi.specs.Reader.{onward, readEvents, readHeader, readBody, readStream}
+use Rattle.spec_exi.specs.Reader.{ReaderRoom, enoughToRead, readSized, read, readReply}
 use Rattle.spec_exi.proofs.Content.{NameRead, carriedName, writtenName, ContentRead, anSD}
 use Rattle.spec_exi.proofs.Content.{anED, anEE, anSE, anAT, aCH, aCM, aPI}
 use Rattle.spec_exi.proofs.Step.{StepRead, sane-start}

@@ -5,11 +5,12 @@ use mathlib.Core.List.{List, [], _∷_, _++_, append-assoc}
 use lib.Dec.{T}
 use Rattle.text.specs.Text.{Text}
 use Rattle.spec_exi.specs.Event.{QName, Event, startDocument, endDocument, endElement}
-use Rattle.spec_exi.specs.Event.{startElement, attribute, characters, comment, instruction, SD}
-use Rattle.spec_exi.specs.Event.{ED, SE, AT, EE, CH, CM, PI, kindOf}
+use Rattle.spec_exi.specs.Event.{startElement, attribute, characters, comment, instruction}
+use Rattle.spec_exi.specs.Event.{SD, ED, SE, AT, EE, CH, CM, PI, kindOf}
 use Rattle.spec_exi.specs.Settings.{Settings}
 use Rattle.spec_exi.specs.Grammar.{State, document, docContent, docEnd, finished, startTag}
-use Rattle.spec_exi.specs.Grammar.{elementContent, openElements, closed, inContent, stateAfter}
+use Rattle.spec_exi.specs.Grammar.{elementContent, openElements, closed, inContent}
+use Rattle.spec_exi.specs.Grammar.{stateAfter}
 use Rattle.spec_exi.specs.Lists.{Misc, Inner, anAttribute, noMore, Content, someCharacters}
 use Rattle.spec_exi.specs.Lists.{anElement, Document, aDocument}
 

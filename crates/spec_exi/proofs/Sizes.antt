@@ -9,12 +9,14 @@ use lib.ListN.{length, getElem?}
 use lib.Dec.{T, leb, leb→le, le→leb}
 use Rattle.spec_fields.specs.Bits.{Bits, unpack}
 use Rattle.spec_fields.specs.Refusal.{Refusal, loose, name, limit, Answer, refused, accepted}
-use Rattle.spec_fields.specs.Parser.{Result, bad, got, Parser, return, fail, need, andThen, _>>=_, _>>_}
+use Rattle.spec_fields.specs.Parser.{Result, bad, got, Parser, return, fail, need, andThen, _>>=_}
+use Rattle.spec_fields.specs.Parser.{_>>_}
 use Rattle.spec_fields.proofs.Tests.{T-is, is-T, both, left, right, split}
 use Rattle.spec_fields.proofs.Exact.{not-got}
 use Rattle.spec_exi.specs.Event.{QName, Event, Kind, SD, ED, SE, AT, EE, CH, CM, PI}
 use Rattle.spec_exi.specs.Sizes.{Sizes, NoLarger}
-use Rattle.spec_exi.specs.Settings.{Settings, SettingNumbers, meaningful, settingsOf, headerOf}
+use Rattle.spec_exi.specs.Settings.{Settings, SettingNumbers, meaningful, settingsOf}
+use Rattle.spec_exi.specs.Settings.{headerOf}
 use Rattle.spec_exi.specs.Tables.{Placed, nameText, Slot, Tables, Role, uri, local, value}
 use Rattle.spec_exi.specs.Tables.{target, plain, Partitions, compact, literals, partitionsOf}
 use Rattle.spec_exi.specs.Tables.{tablesAfter}

@@ -6,9 +6,9 @@ use mathlib.Core.Option.{Option, none, some}
 use Prim.Native.Nat.{ℕ}
 use Rattle.spec_fields.specs.Parser.{Parser, _>>=_, _>>_}
 use Rattle.spec_fields.specs.Field.{Alignment}
-use Rattle.spec_fields.proofs.Steady.{Steady, steady-return, steady-fail, steady-then, steady-present}
-use Rattle.spec_fields.proofs.Steady.{steady-guard, steady-times, steady-octet, steady-choice}
-use Rattle.spec_fields.proofs.Steady.{steady-unsigned}
+use Rattle.spec_fields.proofs.Steady.{Steady, steady-return, steady-fail, steady-then}
+use Rattle.spec_fields.proofs.Steady.{steady-present, steady-guard, steady-times, steady-octet}
+use Rattle.spec_fields.proofs.Steady.{steady-choice, steady-unsigned}
 use Rattle.spec_exi.specs.Event.{QName, Kind, SD, ED, SE, AT, EE, CH, CM, PI}
 use Rattle.spec_exi.specs.Settings.{Settings}
 use Rattle.spec_exi.specs.Sizes.{Sizes}

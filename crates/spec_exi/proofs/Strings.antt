@@ -12,7 +12,8 @@ use Rattle.spec_fields.specs.Refusal.{character, limit, reference, loose, name}
 use Rattle.spec_fields.specs.Parser.{times}
 use Rattle.spec_fields.specs.Field.{choiceBits}
 use Rattle.spec_fields.proofs.Exact.{Reads, Returned, Then, Mapped, reads-as, reads-return}
-use Rattle.spec_fields.proofs.Exact.{reads-present, reads-then, reads-map, reads-guard, reads-checked}
+use Rattle.spec_fields.proofs.Exact.{reads-present, reads-then, reads-map, reads-guard}
+use Rattle.spec_fields.proofs.Exact.{reads-checked}
 use Rattle.spec_fields.proofs.Tests.{both, left, right}
 use Rattle.spec_fields.proofs.Number.{Chosen, choice-reads, Unsigned, unsigned-reads}
 use Rattle.text.specs.Text.{Text, isChar, allChars}
