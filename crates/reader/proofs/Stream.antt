@@ -26,7 +26,7 @@ use Rattle.outcome.specs.Memory.{readerMemory}
 use Rattle.read_header.specs.Header.{Passes}
 use Rattle.read_body.specs.Reply.{replyOf, eventsFilled, textFilled, refusalOf}
 use Rattle.read_body.specs.Body.{answerFrom}
-use Rattle.reader.specs.Read.{answerOf, StreamReady}
+use Rattle.reader.specs.Read.{lent, readerRoom, answerOf, ReadPost, StreamReady}
 use Rattle.read_header.specs.declared.Passed.{Passed}
 use Rattle.read_body.specs.declared.ReadReply as declared
 
@@ -88,6 +88,11 @@ fits a b c k m n e =
 abbrev short : List ℕ → List ℕ → List ℕ → Bool
 short events text work = ltb (length events) 36864 || ltb (length text) 16384 || ltb (length work) 4096
 
+as-post : {s : SettingNumbers} {stream events text work events′ text′ work′ : List ℕ} {r : declared.ReadReply}
+    → Answered (answerOf s stream (lent events text work)) (length events) (length text) (length work) events′ text′ work′ r
+    → ReadPost s stream (lent events text work) (lent events′ text′ work′) r
+as-post (a, (b, (c, d))) = record { reply = a; events = b; text = c; work = d }
+
 -- Everything that is lent is cleared, and tested then.
 module _ (s : SettingNumbers) (stream events text work : List ℕ) {events₁ text₁ work₁ : List ℕ}
     (e : events₁ ≡ replicate (length events) 0) (t : text₁ ≡ replicate (length text) 0) (w : work₁ ≡ replicate (length work) 0) where
@@ -100,25 +105,25 @@ module _ (s : SettingNumbers) (stream events text work : List ℕ) {events₁ te
   same-work : length work₁ ≡ length work
   same-work = ap length w ∙ length-replicate {A = ℕ} (length work) 0
 
-  lent : (leb 36864 (length events) && leb 16384 (length text) && leb 4096 (length work)) ≡ not (short events₁ text₁ work₁)
-  lent = rw (← same-events, ← same-text, ← same-work) (enough (length events₁) (length text₁) (length work₁) 36864 16384 4096)
+  lent-is : (leb 36864 (length events) && leb 16384 (length text) && leb 4096 (length work)) ≡ not (short events₁ text₁ work₁)
+  lent-is = rw (← same-events, ← same-text, ← same-work) (enough (length events₁) (length text₁) (length work₁) 36864 16384 4096)
 
   pub no-room : short events₁ text₁ work₁ ≡ true → {r : declared.ReadReply} → r ≡ refusalOf 1 0
-      → Answered (answerOf s stream events text work) (length events) (length text) (length work) events₁ text₁ work₁ r
-  unfolding answerOf format-reader.read readSized enoughToRead eventCells cellsPerEvent maxEvents maxStore readerWork numberOf
-  no-room f is = answered-refused _ _ (length work) room 1 (rw (lent, f)) refl is e t w
+      → ReadPost s stream (lent events text work) (lent events₁ text₁ work₁) r
+  unfolding answerOf readerRoom format-reader.read readSized enoughToRead eventCells cellsPerEvent maxEvents maxStore readerWork numberOf
+  no-room f is = as-post (answered-refused _ _ (length work) room 1 (rw (lent-is, f)) refl is e t w)
 
   module _ (few : short events₁ text₁ work₁ ≡ false) {asked : Bool} (meant : asked ≡ meaningful (numbersOf s)) where
     pub no-meaning : not asked ≡ true → {r : declared.ReadReply} → r ≡ refusalOf 2 0
-        → Answered (answerOf s stream events text work) (length events) (length text) (length work) events₁ text₁ work₁ r
-    unfolding answerOf format-reader.read readSized enoughToRead eventCells cellsPerEvent maxEvents maxStore readerWork numberOf
-    no-meaning f is = answered-refused _ _ (length work) settings 2 (rw (lent, few, ← meant, f)) refl is e t w
+        → ReadPost s stream (lent events text work) (lent events₁ text₁ work₁) r
+    unfolding answerOf readerRoom format-reader.read readSized enoughToRead eventCells cellsPerEvent maxEvents maxStore readerWork numberOf
+    no-meaning f is = as-post (answered-refused _ _ (length work) settings 2 (rw (lent-is, few, ← meant, f)) refl is e t w)
 
     module _ (fine : not asked ≡ false) where
       pub too-long : 16384 < length stream → {r : declared.ReadReply} → r ≡ refusalOf 3 0
-          → Answered (answerOf s stream events text work) (length events) (length text) (length work) events₁ text₁ work₁ r
-      unfolding answerOf format-reader.read readSized enoughToRead eventCells cellsPerEvent maxEvents maxStore readerWork maxStream numberOf
-      too-long l is = answered-refused _ _ (length work) long 3 (rw (lent, few, ← meant, fine, lt-leb (length stream) 16384 l)) refl is e t w
+          → ReadPost s stream (lent events text work) (lent events₁ text₁ work₁) r
+      unfolding answerOf readerRoom format-reader.read readSized enoughToRead eventCells cellsPerEvent maxEvents maxStore readerWork maxStream numberOf
+      too-long l is = as-post (answered-refused _ _ (length work) long 3 (rw (lent-is, few, ← meant, fine, lt-leb (length stream) 16384 l)) refl is e t w)
 
       module _ (small : length stream ≤ 16384) where
         pub stream-asks : StreamReady stream events₁ text₁ work₁
@@ -135,13 +140,13 @@ module _ (s : SettingNumbers) (stream events text work : List ℕ) {events₁ te
               noWork = rw same-work w;
             }
 
-        answer-stream : answerOf s stream events text work ≡ readStream sizes (settingsOf (numbersOf s)) stream
-        unfolding answerOf format-reader.read readSized enoughToRead eventCells cellsPerEvent maxEvents maxStore readerWork maxStream
-        answer-stream = rw (lent, few, ← meant, fine, le-leb (length stream) 16384 small)
+        answer-stream : answerOf s stream (lent events text work) ≡ readStream sizes (settingsOf (numbersOf s)) stream
+        unfolding answerOf readerRoom format-reader.read readSized enoughToRead eventCells cellsPerEvent maxEvents maxStore readerWork maxStream
+        answer-stream = rw (lent-is, few, ← meant, fine, le-leb (length stream) 16384 small)
 
         pub stream-answered : {o : Settings} {events′ text′ work′ : List ℕ} (r : declared.ReadReply) → o ≡ settingsMeant s
             → Answered (readStream sizes (settingsFrom o) stream) (length events₁) (length text₁) (length work₁) events′ text′ work′ r
-            → Answered (answerOf s stream events text work) (length events) (length text) (length work) events′ text′ work′ r
+            → ReadPost s stream (lent events text work) (lent events′ text′ work′) r
         stream-answered r o-is a =
-            answered-as r (ap (λ o. readStream sizes (settingsFrom o) stream) o-is ∙ ap (λ x. readStream sizes x stream) (settings-from s) ∙ sym answer-stream)
-            same-events same-text same-work a
+            as-post (answered-as r (ap (λ o. readStream sizes (settingsFrom o) stream) o-is ∙ ap (λ x. readStream sizes x stream) (settings-from s) ∙ sym answer-stream)
+            same-events same-text same-work a)

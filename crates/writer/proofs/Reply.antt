@@ -23,13 +23,14 @@ use Rattle.settings.specs.Meant.{numbersOf, settingsMeant, settingsFrom}
 use Rattle.settings.proofs.Laws.{settings-from}
 use Rattle.settings.specs.declared.SettingNumbers.{SettingNumbers}
 use Rattle.settings.specs.declared.Settings.{Settings}
+use Rattle.event.specs.Cells.{eventsOf}
 use Rattle.write_field.specs.Written.{Put}
 use Rattle.write_field.proofs.Written.{zeros-blank, put-then}
 use Rattle.write_header.specs.Header.{HeaderPut}
 use Rattle.write_body.specs.Body.{Ran}
 use Rattle.write_body.specs.declared.Run.{Run}
 use Rattle.writer.specs.declared.WriteReply as declared
-use Rattle.writer.specs.Write.{answerOf, replyOf, filled, Attempted, ListFits, ListPut}
+use Rattle.writer.specs.Write.{lent, writerRoom, answerOf, replyOf, filled, Attempted, ListFits, ListPut}
 use Rattle.writer.proofs.Octets.{pack-length, put-packed}
 use Rattle.writer.proofs.Start.{Begins}
 
@@ -149,10 +150,10 @@ fits : (a b m n : ℕ) → (ltb a m || ltb b n) ≡ false → (m ≤ a) × (n �
 fits a b m n e =
     split (ltb a m) (λ f. absurd (true≢false (rw f at e))) (λ f. (ltb-false a m f, ltb-false b n (rw f at e)))
 
-module _ (s : SettingNumbers) (stream : List ℕ) (xs : List Stored) (store : Text) (work : List ℕ) where
+module _ (s : SettingNumbers) (stream events : List ℕ) (store : Text) (work : List ℕ) where
   pub no-room : (after : List ℕ) → (ltb (length stream) 16384 || ltb (length work) 20480) ≡ true
-      → Attempted (answerOf s stream xs store work) stream after (record { number = 1; index = 0; octets = 0 })
-  unfolding answerOf format-writer.write enoughToWrite maxStream writerWork numberOf readerWork maxStore
+      → Attempted (answerOf s events store (lent stream work)) stream after (record { number = 1; index = 0; octets = 0 })
+  unfolding answerOf writerRoom format-writer.write enoughToWrite maxStream writerWork numberOf readerWork maxStore
   no-room after e = attempted-refused room 0 1 0 (rw (enough (length stream) (length work) 16384 20480, e)) refl refl
 
   module _ (few : (ltb (length stream) 16384 || ltb (length work) 20480) ≡ false) where
@@ -164,17 +165,17 @@ module _ (s : SettingNumbers) (stream : List ℕ) (xs : List Stored) (store : Te
 
     module _ {asked : Bool} (meant : asked ≡ meaningful (numbersOf s)) where
       pub no-meaning : (after : List ℕ) → not asked ≡ true
-          → Attempted (answerOf s stream xs store work) stream after (record { number = 2; index = 0; octets = 0 })
-      unfolding answerOf format-writer.write enoughToWrite maxStream writerWork numberOf readerWork maxStore
+          → Attempted (answerOf s events store (lent stream work)) stream after (record { number = 2; index = 0; octets = 0 })
+      unfolding answerOf writerRoom format-writer.write enoughToWrite maxStream writerWork numberOf readerWork maxStore
       no-meaning after e =
           attempted-refused settings 0 2 0 (rw (enough (length stream) (length work) 16384 20480, few, ← meant, e)) refl refl
 
-      answer-list : not asked ≡ false → answerOf s stream xs store work ≡ writeList sizes (settingsOf (numbersOf s)) xs store
-      unfolding answerOf format-writer.write enoughToWrite maxStream writerWork readerWork maxStore
+      answer-list : not asked ≡ false → answerOf s events store (lent stream work) ≡ writeList sizes (settingsOf (numbersOf s)) (eventsOf events) store
+      unfolding answerOf writerRoom format-writer.write enoughToWrite maxStream writerWork readerWork maxStore
       answer-list e = rw (enough (length stream) (length work) 16384 20480, few, ← meant, e)
 
       pub list-answered : {o : Settings} {zeros after : List ℕ} {r : declared.WriteReply} → not asked ≡ false → o ≡ settingsMeant s → zeros ≡ replicate (length stream) 0
-          → ListPut (settingsFrom o) xs store zeros after r → Attempted (answerOf s stream xs store work) stream after r
+          → ListPut (settingsFrom o) (eventsOf events) store zeros after r → Attempted (answerOf s events store (lent stream work)) stream after r
       list-answered e o-is zeros-are a =
-          attempted-as (ap (λ o. writeList sizes (settingsFrom o) xs store) o-is ∙ ap (λ x. writeList sizes x xs store) (settings-from s) ∙ sym (answer-list e))
+          attempted-as (ap (λ o. writeList sizes (settingsFrom o) (eventsOf events) store) o-is ∙ ap (λ x. writeList sizes x (eventsOf events) store) (settings-from s) ∙ sym (answer-list e))
           (ap length zeros-are ∙ length-replicate {A = ℕ} (length stream) 0) a

@@ -1,11 +1,10 @@
-// The writer: an event list to the octets of its strict form, or a refusal with its number and index. The definitions that the contracts cite are in
-// specs/Write.antt and, for the answer itself, in crates/spec_exi/specs/Writer.antt.
-ghost use mathlib.Core.Path.{_≡_};
-ghost use lib.ListN.{length, replicate};
-ghost use Rattle.spec_exi.specs.Writer.{writeReply};
+// The writer: an event list to the octets of its strict form, or a refusal with its number and index.
+// The definitions that the contracts cite are in specs/Write.antt and, for the answer itself, in
+// crates/spec_exi/specs/Writer.antt.
 ghost use Rattle.settings.specs.Meant.{settingsFrom};
 ghost use Rattle.event.specs.Cells.{eventsOf};
-ghost use Rattle.writer.specs.Write.{ListFits, ListPut, Attempted, answerOf, replyOf, filled};
+ghost use Rattle.writer.specs.Write.{ListFits, ListPut, Attempted};
+ghost use Rattle.writer.specs.Write.{answerOf, WritePost, lent};
 use layout::STORE;
 use refusal::LONG;
 use refusal::ROOM;
@@ -32,7 +31,8 @@ fn put_list(
     work: &mut [u32],
 ) -> WriteReply
     requires { ⌜ ListFits (now stream) (now work) ⌝ }
-    ensures { λ r. ⌜ ListPut (settingsFrom o) (eventsOf (now (events .entry))) (now (text .entry)) (now (stream .entry)) (now (stream .exit)) r ⌝ }
+    ensures { λ r. ⌜ ListPut (settingsFrom o) (eventsOf (now (events .entry))) (now (text .entry))
+        (now (stream .entry)) (now (stream .exit)) r ⌝ }
 {
     let at = write_header::put_header(o, stream);
     initial::lay_rows(work, STORE as u32);
@@ -68,7 +68,9 @@ fn attempt(
     text: &[u32],
     work: &mut [u32],
 ) -> WriteReply
-    ensures { λ r. ⌜ Attempted (answerOf s (now (stream .entry)) (eventsOf (now (events .entry))) (now (text .entry)) (now (work .entry))) (now (stream .entry)) (now (stream .exit)) r ⌝ }
+    ensures { λ r. ⌜ Attempted (answerOf s (now (events .entry)) (now (text .entry))
+        (lent (now (stream .entry)) (now (work .entry))))
+        (now (stream .entry)) (now (stream .exit)) r ⌝ }
 {
     if (stream.len() < MAX_STREAM) | (work.len() < WRITER_WORK) {
         return WriteReply {
@@ -88,8 +90,8 @@ fn attempt(
     put_list(settings::settings_of(s), stream, events, text, work)
 }
 
-// Writes the strict form of the list that the event cells and the text store hold: the octets, and zeros behind them; after a refusal zeros alone.
-// Work memory is left zero.
+// Writes the strict form of the list that the event cells and the text store hold: the octets, and
+// zeros behind them; after a refusal zeros alone. Work memory is left zero.
 pub fn write(
     s: SettingNumbers,
     stream: &mut [u8],
@@ -97,9 +99,9 @@ pub fn write(
     text: &[u32],
     work: &mut [u32],
 ) -> WriteReply
-    ensures { λ r. ⌜ replyOf r ≡ writeReply (answerOf s (now (stream .entry)) (eventsOf (now (events .entry))) (now (text .entry)) (now (work .entry))) ⌝ }
-    ensures { λ r. ⌜ now (stream .exit) ≡ filled (length (now (stream .entry))) (answerOf s (now (stream .entry)) (eventsOf (now (events .entry))) (now (text .entry)) (now (work .entry))) ⌝ }
-    ensures { λ r. ⌜ now (work .exit) ≡ replicate (length (now (work .entry))) 0 ⌝ }
+    ensures { λ r. ⌜ WritePost s (now (events .entry)) (now (text .entry))
+        (lent (now (stream .entry)) (now (work .entry)))
+        (lent (now (stream .exit)) (now (work .exit))) r ⌝ }
 {
     let answer = attempt(s, stream, events, text, work);
     clear::cells(work);

@@ -24,16 +24,17 @@ same-length-2 c = search needs
 
 returns : tie.Need-returns
 returns c =
-    let a = c .before .before .before .before .before .before .before .before .before .before .before .before .before .before in (
-      reply-is _ (a .attempt .ensures),
-      (
-        c .before .before .octets .ensures
-            ∙ ap (λ (n : ℕ). replicate n 0) (c .before .before .before .before .before .before .before .before .before .before .before .before .before .stream .given)
-            ∙ refused-zeros _ _ (a .attempt .ensures) (c .before .before .before .before .if1 .taken),
-        c .before .before .before .before .before .before .before .before .cells .ensures
-            ∙ ap (λ (n : ℕ). replicate n 0) (c .before .before .before .before .before .before .before .before .before .before .before .work .given),
-      ),
-    )
+    let i = c .before .before .before .before in
+    let w = i .before .before .before .before in
+    let g = w .before .before .before in
+    let a = g .before .before .before in
+    record {
+      reply = reply-is _ (a .attempt .ensures);
+      octets = c .before .before .octets .ensures
+          ∙ ap (λ (n : ℕ). replicate n 0) (g .before .before .stream .given)
+          ∙ refused-zeros _ _ (a .attempt .ensures) (i .if1 .taken);
+      work = w .cells .ensures ∙ ap (λ (n : ℕ). replicate n 0) (g .work .given);
+    }
 
 same-length-3 : tie.Need-same-length-3
 same-length-3 c = search needs
@@ -43,13 +44,14 @@ same-length-4 c = search needs
 
 returns-2 : tie.Need-returns-2
 returns-2 c =
-    let a = c .before .before .before .before .before .before .before .before .before .before in (
-      reply-is _ (a .attempt .ensures),
-      (
-        accepted-octets _ (a .attempt .ensures) (c .if1 .left),
-        c .before .before .before .before .cells .ensures ∙ ap (λ (n : ℕ). replicate n 0) (c .before .before .before .before .before .before .before .work .given),
-      ),
-    )
+    let w = c .before .before .before .before in
+    let g = w .before .before .before in
+    let a = g .before .before .before in
+    record {
+      reply = reply-is _ (a .attempt .ensures);
+      octets = accepted-octets _ (a .attempt .ensures) (c .if1 .left);
+      work = w .cells .ensures ∙ ap (λ (n : ℕ). replicate n 0) (g .work .given);
+    }
 
 pub write-spec : {M : Type 1} → statement M
 write-spec =
