@@ -99,6 +99,11 @@ module _ (low c : ℕ) where
       split (ltb low c) (λ e. omega (arith, since-in (ltb-true low c e)))
       (λ e. omega (arith, since-out (ltb-false low c e)))
 
+pub since-all : (c : ℕ) → since 0 c ≡ c
+since-all c =
+    split (ltb 0 c) (λ e. since-in 0 c (ltb-true 0 c e))
+    (λ e. since-out 0 c (ltb-false 0 c e) ∙ (omega (arith, ltb-false 0 c e)))
+
 module _ (top c : ℕ) where
   pub below-in : c < top → below top c ≡ c
   unfolding below

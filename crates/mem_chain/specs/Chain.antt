@@ -12,7 +12,13 @@ unfoldable pub lastThat : (ℕ → Bool) → ℕ → ℕ
 lastThat test zero = 0
 lastThat test (suc n) = cond (test n) (suc n) (lastThat test n)
 
--- The same, where none below low counts.
+-- The first row below n that passes the test, counted from 1, or 0.
+unfoldable pub firstThat : (ℕ → Bool) → ℕ → ℕ
+firstThat test zero = 0
+firstThat test (suc n) =
+    let before = firstThat test n in cond (eqb before 0) (cond (test n) (suc n) 0) before
+
+-- The newest row, where none below low counts.
 unfoldable pub since : ℕ → ℕ → ℕ
 since low c = cond (ltb low c) c 0
 

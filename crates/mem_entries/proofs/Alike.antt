@@ -2,16 +2,16 @@
 use Prim.Native.Nat.{ℕ, zero, suc, _-_, _<_}
 use native.Mathlib.Omega.{arith}
 use mathlib.Core.Path.{_≡_, refl, sym, ap, _∙_}
-use mathlib.Core.Bool.{Bool, true, false}
+use mathlib.Core.Bool.{Bool, true, false, true≢false}
 use mathlib.Core.List.{List, [], _∷_, _++_, map}
-use mathlib.Core.Option.{Option, none, some, Option·map}
+use mathlib.Core.Option.{Option, some, Option·map}
 use lib.ListN.{length, getElem?, length-append}
 use lib.Dec.{eqb, T}
 use borrow.Author.Tests.{eqb-true, eqb-false}
 use Rattle.text.specs.Text.{Text}
 use Rattle.spec_exi.specs.Tables.{Placed, Entry, partition, hasText, indexOf}
 use Rattle.mem_chain.proofs.Last.{split}
-use Rattle.mem_entries.specs.Entries.{Entries, entryAt, keyAt, slotAfter, slots, Alike}
+use Rattle.mem_entries.specs.Entries.{Entries, entryAt, keyAt, given, slotAfter, slots, Alike}
 use Rattle.mem_entries.specs.Entries.{alike-none, alike-more, named, Keys, Keyed}
 use Rattle.mem_entries.proofs.Entries.{entry-old, entry-new}
 
@@ -148,3 +148,32 @@ alike-renamed same o (alike-more {e = e} key text rest) =
 pub keyed-wider : {isKey more : ℕ → Bool} {es : Entries}
     → ((j : ℕ) → isKey j ≡ true → more j ≡ true) → Keyed isKey es → Keyed more es
 keyed-wider {es = es} wide o = record { each = λ i h. wide (keyAt es i) (o .each i h) }
+
+pub map-append : {A B : Type 0} (f : A → B) (xs ys : List A)
+    → map f (xs ++ ys) ≡ map f xs ++ map f ys
+map-append f [] ys = refl
+map-append f (x ∷ xs) ys = ap (λ l. f x ∷ l) (map-append f xs ys)
+
+-- Entries named by rows that keep their names are the same.
+pub named-renamed : {K : Type 0} {name more : ℕ → K} {isKey : ℕ → Bool}
+    → ((j : ℕ) → isKey j ≡ true → more j ≡ name j) → (es : Entries) → Keyed isKey es
+    → map (named more) es ≡ map (named name) es
+unfolding named entryAt
+named-renamed same [] o = refl
+named-renamed {name = name} same (e ∷ es) o =
+    rw (
+      same (e .key) (o .each 0 (omega arith)),
+      named-renamed same es (record { each = λ i h. o .each (suc i) (omega arith) }),
+    )
+
+-- A row that is no key has no entries.
+pub keyed-none : {isKey : ℕ → Bool} (k : ℕ) → isKey k ≡ false → (es : Entries) → Keyed isKey es
+    → given es k ≡ []
+unfolding given partition
+keyed-none k out [] o = refl
+keyed-none {isKey} k out (e ∷ es) o =
+    split (eqb k (e .key))
+    (λ y.
+    let z : k ≡ e .key = eqb-true k (e .key) y in
+    absurd (true≢false (sym (keyed-head o) ∙ ap isKey (sym z) ∙ out)))
+    (λ y. rw y (keyed-none k out es (keyed-tail o)))

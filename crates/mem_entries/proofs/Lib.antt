@@ -3,3 +3,4 @@ pub mod Texts
 pub mod Entries
 pub mod Slots
 pub mod Alike
+pub mod Nth

@@ -5,10 +5,10 @@
 use Prim.Native.Nat.{ℕ, zero, suc, _-_, _<_}
 use mathlib.Core.Path.{_≡_}
 use mathlib.Core.Bool.{Bool, true, cond}
-use mathlib.Core.List.{List, [], _∷_}
-use mathlib.Core.Option.{none, some}
+use mathlib.Core.List.{List, [], _∷_, _++_}
+use mathlib.Core.Option.{Option, none, some}
 use lib.ListN.{length, getD}
-use lib.Dec.{eqb}
+use lib.Dec.{eqb, ltb}
 use Rattle.text.specs.Text.{Text, eqText}
 use Rattle.spec_exi.specs.Tables.{Placed, Entry, partition, Slot}
 
@@ -30,6 +30,11 @@ textAt es i = entryAt es i .string .text
 abbrev pub hasTextAt : Entries → Text → ℕ → Bool
 hasTextAt es x i = eqText (textAt es i) x
 
+-- One entry more.
+abbrev pub joinedBy : Entries → ℕ → ℕ → Text → Entries
+joinedBy es key place x =
+    es ++ (record { key = key; string = record { place = place; text = x } } ∷ [])
+
 -- The entries of a key that were ever added.
 unfoldable pub given : Entries → ℕ → List Placed
 given es k = partition (eqb k) es
@@ -44,6 +49,11 @@ unfoldable pub slots : {K : Type 0} → ℕ → (K → Bool) → List (Entry K) 
 slots g has [] = []
 slots g has (x ∷ xs) =
     cond (has (x .key)) (slotAfter g (x .string) ∷ slots (g - 1) has xs) (slots (g - 1) has xs)
+
+-- What a number and 1, or 0, stands for.
+unfoldable pub slotOf : Entries → ℕ → ℕ → Option Slot
+slotOf es low zero = none
+slotOf es low (suc g) = some (cond (ltb g low) none (some (entryAt es g .string)))
 
 -- ---- as entries of the definitions' tables
 
@@ -65,3 +75,8 @@ pub record Keys {K : Type 0} (name : ℕ → K) (isKey : ℕ → Bool) : Type 0 
 
 pub record Keyed (isKey : ℕ → Bool) (es : Entries) : Type 0 where
   pub each : (i : ℕ) → i < length es → isKey (keyAt es i) ≡ true
+
+-- Every row is a key: no two have one name. (A strict reader's and the writer's; a loose reader may
+-- add a text again.)
+pub record Distinct (isKey : ℕ → Bool) (n : ℕ) : Type 0 where
+  pub each : (i : ℕ) → i < n → isKey i ≡ true

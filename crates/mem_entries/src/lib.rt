@@ -27,7 +27,8 @@ pub fn hash(x: &[u32]) -> u32
 // Whether the string that two cells name is this text.
 pub fn has_text(work: &[u32], store: &[u32], place: usize, size: usize, x: &[u32]) -> bool
     requires { ⌜ TextCells (now work) place size ⌝ }
-    ensures { λ r. ⌜ r ≡ rowHas (now (work .entry)) (now (store .entry)) place size (now (x .entry)) ⌝ }
+    ensures { λ r. ⌜
+        r ≡ rowHas (now (work .entry)) (now (store .entry)) place size (now (x .entry)) ⌝ }
 {
     text::same_text(text::look_up(store, work[place], work[size]), x)
 }

@@ -17,7 +17,8 @@ use Rattle.spec_exi.specs.Alike.{unplaced, unplacedEntry, unplacedTables, unpla
 use Rattle.spec_exi.specs.Alike.{unplacedLearned, unplacedContext, SameBy, AlikeTables, Alike}
 use Rattle.spec_exi.proofs.Alike.{alike-same, after-alike, entries-alike}
 use Rattle.mem_entries.specs.Entries.{entryAt, named, noEntry}
-use Rattle.mem_rows.specs.Rows.{nothing, Learnt, Rows, uriAt, uriText, placedAt}
+use Rattle.mem_names.specs.Uris.{noUri, uriAt, uriText}
+use Rattle.mem_rows.specs.Rows.{Learnt, Rows, placedAt}
 use Rattle.mem_rows.specs.Rows.{nameAt, tablesOf, kindAt, carries, siteAt, carriedAt}
 use Rattle.mem_rows.specs.Rows.{productionOf, learntAs, backward, learnedOf, grammarsOf, stateOf}
 use Rattle.mem_rows.specs.Rows.{contextOf, withUri, withName, withValue, modeAfter, openedAfter}
@@ -43,7 +44,7 @@ AlikeRows = SameBy unplacedRows
 
 uri-unplaced : (us : List Placed) (u : ℕ) → uriAt (map unplaced us) u ≡ unplaced (uriAt us u)
 unfolding uriAt unplaced
-uri-unplaced us u = List·getD-map unplaced us u nothing
+uri-unplaced us u = List·getD-map unplaced us u noUri
 
 entry-unplaced : (es : List (Entry ℕ)) (i : ℕ) → entryAt (map unplacedEntry es) i ≡ unplacedEntry (entryAt es i)
 unfolding entryAt unplacedEntry unplaced

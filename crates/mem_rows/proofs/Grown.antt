@@ -13,7 +13,8 @@ use Rattle.text.specs.Text.{Text}
 use Rattle.spec_exi.specs.Event.{QName}
 use Rattle.spec_exi.specs.Tables.{Placed, Entry}
 use Rattle.mem_entries.specs.Entries.{entryAt}
-use Rattle.mem_rows.specs.Rows.{nothing, Learnt, Rows, uriAt, uriText, placedAt, nameAt}
+use Rattle.mem_names.specs.Uris.{noUri, uriAt, uriText}
+use Rattle.mem_rows.specs.Rows.{Learnt, Rows, placedAt, nameAt}
 use Rattle.mem_rows.specs.Rows.{isAmong, withUri, withName, withValue, withLearned, withGrammar}
 use Rattle.mem_rows.specs.Valid.{noLearnt, learntAt, KeysBelow, LearntFits, Refers, Distinct, Valid}
 use Rattle.mem_rows.proofs.Entries.{last-or, keys-more, keys-up}

@@ -11,7 +11,8 @@ use Rattle.spec_exi.specs.Event.{QName}
 use Rattle.spec_exi.specs.Tables.{Placed, Entry, Tables, Role, uri, local, value, target, plain, newUri}
 use Rattle.spec_exi.specs.Tables.{newName, newValue, newEntry, laid, added}
 use Rattle.mem_entries.specs.Entries.{entryAt, named}
-use Rattle.mem_rows.specs.Rows.{nothing, Rows, uriAt, uriText, placedAt, nameAt}
+use Rattle.mem_names.specs.Uris.{noUri, uriAt, uriText}
+use Rattle.mem_rows.specs.Rows.{Rows, placedAt, nameAt}
 use Rattle.mem_rows.specs.Rows.{tablesOf, withUri, withName, withValue}
 use Rattle.mem_rows.specs.Valid.{KeysBelow, Refers}
 use Rattle.mem_rows.proofs.Entries.{keys-head, keys-tail}
@@ -37,11 +38,11 @@ map-snoc f (y ∷ l) x = ap (λ m. f y ∷ m) (map-snoc f l x)
 module _ (w : Rows) (x : Placed) where
   pub uri-old : (u : ℕ) → u < length (w .uris) → uriAt (withUri w x .uris) u ≡ uriAt (w .uris) u
   unfolding uriAt withUri
-  uri-old u h = List·getD-append (w .uris) (x ∷ []) nothing u h
+  uri-old u h = List·getD-append (w .uris) (x ∷ []) noUri u h
 
   pub uri-new : uriAt (withUri w x .uris) (length (w .uris)) ≡ x
   unfolding uriAt withUri
-  uri-new = getD-append-seam (w .uris) x [] nothing
+  uri-new = getD-append-seam (w .uris) x [] noUri
 
   module _ (r : Refers w) where
     pub uri-names : (n : ℕ) → n < length (w .names) → placedAt (withUri w x) n ≡ placedAt w n

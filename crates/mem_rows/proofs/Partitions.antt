@@ -16,7 +16,8 @@ use Rattle.spec_exi.specs.Event.{QName, eqName}
 use Rattle.spec_exi.specs.Tables.{Placed, Entry, Tables, Slot, partition, namesOf, valuesOf, allValues}
 use Rattle.spec_exi.proofs.Codes.{eqName-refl, eqName-eq}
 use Rattle.mem_entries.specs.Entries.{entryAt, given, named}
-use Rattle.mem_rows.specs.Rows.{Rows, uriText, nameAt, tablesOf}
+use Rattle.mem_names.specs.Uris.{uriText}
+use Rattle.mem_rows.specs.Rows.{Rows, nameAt, tablesOf}
 use Rattle.mem_rows.specs.Valid.{KeysBelow, Refers, Distinct, Valid}
 use Rattle.mem_rows.proofs.Entries.{keys-head, keys-tail}
 

@@ -15,9 +15,7 @@ use Rattle.spec_exi.specs.Grammar.{Production, Site, tagOf, contentOf, Learned,
 use Rattle.spec_exi.specs.Grammar.{docContent, docEnd, finished, startTag, elementContent, kindNumber}
 use Rattle.spec_exi.specs.Context.{Context}
 use Rattle.mem_entries.specs.Entries.{Entries, entryAt, named}
-
-abbrev pub nothing : Placed
-nothing = record { place = 0; text = [] }
+use Rattle.mem_names.specs.Uris.{uriAt, uriText}
 
 -- ---- the rows
 
@@ -42,12 +40,6 @@ pub record Rows : Type 0 where
   pub grammars : List ℕ
 
 -- ---- as the definitions' tables
-
-unfoldable pub uriAt : List Placed → ℕ → Placed
-uriAt us u = getD us u nothing
-
-abbrev pub uriText : List Placed → ℕ → Text
-uriText us u = uriAt us u .text
 
 -- The name in a row, with the places of its strings.
 unfoldable pub placedAt : Rows → ℕ → QName Placed

@@ -7,7 +7,8 @@ use mathlib.Core.List.{List}
 use lib.ListN.{length, getD}
 use Rattle.spec_exi.specs.Tables.{Placed, Entry}
 use Rattle.mem_entries.specs.Entries.{entryAt}
-use Rattle.mem_rows.specs.Rows.{Learnt, Rows, uriText, nameAt, kindAt, carries}
+use Rattle.mem_names.specs.Uris.{uriText}
+use Rattle.mem_rows.specs.Rows.{Learnt, Rows, nameAt, kindAt, carries}
 
 abbrev pub noLearnt : Learnt
 noLearnt = record { site = 0; kind = 0; name = 0 }

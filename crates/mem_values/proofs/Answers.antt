@@ -1,30 +1,26 @@
 -- What the answers of `find` and `nth_local` say of the partitions.
-use Prim.Native.Nat.{ℕ, zero, suc, _-_, _≤_, _<_}
+use Prim.Native.Nat.{ℕ, zero, suc, _≤_, _<_}
 use native.Mathlib.Omega.{arith}
-use mathlib.Core.Path.{_≡_, refl, sym, ap, _∙_}
-use mathlib.Core.Bool.{Bool, true, false, cond, _&&_, true≢false}
-use mathlib.Core.List.{_∷_}
+use mathlib.Core.Path.{_≡_, sym, ap, _∙_}
+use mathlib.Core.Bool.{Bool, true, false, true≢false}
 use mathlib.Core.Option.{none, some}
 use lib.ListN.{length, getElem?}
 use lib.Dec.{eqb, ltb}
-use borrow.Author.Tests.{eqb-true, eq-eqb, ltb-true, ltb-false, lt-ltb, le-ltb}
+use borrow.Author.Tests.{ltb-true, ltb-false, lt-ltb, le-ltb}
 use Rattle.text.specs.Text.{Text}
 use Rattle.mem_chain.specs.Chain.{lastThat, since}
 use Rattle.mem_chain.proofs.Last.{split, last-most, last-is, last-none, since-in, since-out}
+use Rattle.spec_exi.specs.Tables.{Placed, indexOf}
+use Rattle.mem_index.specs.Index.{tally, isNumbered}
+use Rattle.mem_entries.specs.Entries.{Entries, entryAt, keyAt, textAt, hasTextAt, slots, slotOf}
+use Rattle.mem_entries.proofs.Texts.{text-is, is-text}
+use Rattle.mem_entries.proofs.Slots.{index-none, index-some}
+use Rattle.mem_entries.proofs.Nth.{nth-slot}
+use Rattle.mem_values.specs.Window.{Differ}
+
 -- ---- a search by text
 
 -- A value from low on has the text.
-use Rattle.spec_exi.specs.Tables.{Placed, partition, indexOf, value}
-use Rattle.mem_index.specs.Index.{tally, hasKey, isNumbered}
-use Rattle.mem_index.proofs.Tally.{tally-exists}
-use Rattle.mem_index.proofs.Codes.{numbered-is, is-numbered}
-use Rattle.mem_entries.specs.Entries.{Entries, entryAt, keyAt, textAt, hasTextAt, given, slotAfter}
-use Rattle.mem_entries.specs.Entries.{slots}
-use Rattle.mem_entries.proofs.Texts.{text-is, is-text}
-use Rattle.mem_entries.proofs.Slots.{at-none, slots-tally, slot-in, slot-out, slot-at, index-none}
-use Rattle.mem_entries.proofs.Slots.{index-some}
-use Rattle.mem_values.specs.Window.{replaced, Differ, slotOf}
-
 pub record FoundAt (es : Entries) (low : ℕ) (x : Text) (g : ℕ) : Type 0 where
   pub present : low ≤ g
   pub inside : g < length es
@@ -90,45 +86,6 @@ module _ (es : Entries) (low : ℕ) (x : Text) where
 -- ---- a value by its owner and number
 
 module _ (es : Entries) (low k i : ℕ) where
-  never : lastThat (isNumbered (keyAt es) k i) (length es) ≡ 0 → length (slots low (eqb k) es) ≤ i
-  never e =
-      split (ltb i (tally (hasKey (keyAt es) k) (length es)))
-      (λ t.
-      let (g, l, u, z) =
-      tally-exists (hasKey (keyAt es) k) (length es) i
-      (ltb-true i (tally (hasKey (keyAt es) k) (length es)) t) in
-      absurd (true≢false (sym (is-numbered (keyAt es) k i g (sym (eqb-true k (keyAt es g) u)) z)
-      ∙ last-none (isNumbered (keyAt es) k i) (length es) g (omega arith) l)))
-      (λ t. omega
-      (arith, slots-tally (eqb k) low es, ltb-false i (tally (hasKey (keyAt es) k) (length es)) t))
-
-  slot-is : (g : ℕ) → slotAfter (low - g) (entryAt es g .string)
-      ≡ cond (ltb g low) none (some (entryAt es g .string))
-  slot-is g =
-      split (ltb g low)
-      (λ t. rw t (slot-out g (entryAt es g .string) low (ltb-true g low t)))
-      (λ t. rw t (slot-in g (entryAt es g .string) low (ltb-false g low t)))
-
-  given-at : (g : ℕ) → g < length es → isNumbered (keyAt es) k i g ≡ true
-      → getElem? (slots low (eqb k) es) i ≡ some (slotAfter (low - g) (entryAt es g .string))
-  given-at g l t =
-      let (o, n) = numbered-is (keyAt es) k i g t in
-      ap (getElem? (slots low (eqb k) es)) (sym n)
-      ∙ slot-at (eqb k) low es g l (eq-eqb k (keyAt es g) (sym o))
-
-  by-last : (r : ℕ) → lastThat (isNumbered (keyAt es) k i) (length es) ≡ r
-      → getElem? (slots low (eqb k) es) i ≡ slotOf es low r
-  unfolding slotOf
-  by-last zero e = at-none (slots low (eqb k) es) i (never e)
-  by-last (suc g) e =
-      given-at g (omega (arith, last-most (isNumbered (keyAt es) k i) (length es)))
-      (last-is (isNumbered (keyAt es) k i) (length es) g e) ∙ ap some (slot-is g)
-
-  -- The i-th number of a name.
-  pub nth-slot : getElem? (slots low (eqb k) es) i
-      ≡ slotOf es low (lastThat (isNumbered (keyAt es) k i) (length es))
-  nth-slot = by-last (lastThat (isNumbered (keyAt es) k i) (length es)) refl
-
   -- What the answer of `nth_local` says of it: a string, or a number that was never given or whose
   -- value is replaced.
   pub local-string : (g : ℕ) → suc g ≡ since low (lastThat (isNumbered (keyAt es) k i) (length es))
@@ -140,7 +97,7 @@ module _ (es : Entries) (low k i : ℕ) where
       let l : low < lastThat (isNumbered (keyAt es) k i) (length es) = ltb-true _ _ t in
       let z : lastThat (isNumbered (keyAt es) k i) (length es) ≡ suc g =
       sym (e ∙ since-in low _ l) in
-      nth-slot ∙ ap (slotOf es low) z ∙ rw (le-ltb g low (omega arith)))
+      nth-slot es low k i ∙ ap (slotOf es low) z ∙ rw (le-ltb g low (omega arith)))
       (λ t. absurd
       (omega (
         arith,
@@ -159,7 +116,7 @@ module _ (es : Entries) (low k i : ℕ) where
         ltb-true low (lastThat (isNumbered (keyAt es) k i) (length es)) t,
       ))
       (λ t. off (lastThat (isNumbered (keyAt es) k i) (length es)) (ltb-false _ _ t)
-      (sym nth-slot ∙ h))
+      (sym (nth-slot es low k i) ∙ h))
     where
       off : (r : ℕ) → r ≤ low → slotOf es low r ≡ some (some x) → ⊥
       off zero l q = let z : _≡_ {A = ℕ} 0 1 = cc in omega arith

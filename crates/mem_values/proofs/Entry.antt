@@ -1,15 +1,15 @@
 -- The string of a number, as the definitions have it: what a hit that is read stands for.
 use Prim.Native.Nat.{ℕ, suc, _-_, _<_}
 use native.Mathlib.Omega.{arith}
-use mathlib.Core.Path.{_≡_, refl, sym, ap, _∙_}
+use mathlib.Core.Path.{_≡_, sym, ap, _∙_}
 use mathlib.Core.Bool.{Bool, true}
-use mathlib.Core.List.{List, map}
-use mathlib.Core.Option.{Option, none, some, Option·map}
+use mathlib.Core.List.{map}
+use mathlib.Core.Option.{Option, some, Option·map}
 use lib.ListN.{length, drop, getElem?, length-map}
 use lib.Dec.{eqb}
 use Rattle.text.specs.Text.{Text}
 use Rattle.spec_exi.specs.Event.{QName, eqName}
-use Rattle.spec_exi.specs.Tables.{Placed, Entry, Tables, partition, Slot, valuesOf, allValues}
+use Rattle.spec_exi.specs.Tables.{Placed, Entry, Tables, partition, valuesOf, allValues}
 use Rattle.spec_exi.proofs.Codes.{eqName-refl, eqName-eq}
 use Rattle.mem_chain.specs.Chain.{lastThat, since}
 use Rattle.mem_index.specs.Index.{isNumbered}
@@ -23,7 +23,6 @@ use Rattle.mem_values.proofs.Order.{ordered}
 use Rattle.mem_values.proofs.Global.{present-length, present-at}
 
 -- ---- global numbers, under any capacity
-
 module _ {cap : Option ℕ} (p : Capacity cap) (es : Entries) where
   order : Ordered (length es) (replaced cap (length es)) (globalNumber cap (length es))
       (globalNumber cap)

@@ -17,7 +17,6 @@ use Rattle.mem_values.specs.Forms.{pickForm, formAt, numberIn, numberOf,
 use Rattle.mem_values.specs.Forms.{ValuesStand, Formed}
 use Rattle.mem_values.proofs.Order.{insertion-new, insertion-old, ordered}
 use Rattle.mem_values.proofs.Answers.{FoundAt, found-at}
--- ---- global numbers
 use Rattle.spec_exi.specs.Tables.{hit, value}
 use Rattle.mem_index.specs.Index.{numberAt, numbers}
 use Rattle.mem_entries.specs.Texts.{hashOf}
@@ -25,6 +24,7 @@ use Rattle.mem_entries.specs.Entries.{Entries, keyAt, hasTextAt}
 use Rattle.mem_layout.specs.Layout.{valueRing}
 use Rattle.mem_values.specs.Window.{insertion, Ordered, globalNumber, earlier, valueForm}
 
+-- ---- global numbers
 module _ (n low newer g : ℕ) where
   pub number-old : g < n - newer → newer + (g - low) ≡ numberOf n low newer g
   unfolding numberOf

@@ -3,7 +3,7 @@ use Prim.Native.Nat.{ℕ, _+_, _-_, _≤_, _<_}
 use native.Mathlib.Omega.{arith}
 use mathlib.Core.Path.{_≡_, refl, sym, ap, _∙_}
 use mathlib.Core.Bool.{true}
-use mathlib.Core.List.{List, _∷_, _++_, map}
+use mathlib.Core.List.{List, _++_, map}
 use mathlib.Core.Option.{none, some}
 use lib.ListN.{length, getD, take, drop, length-append, length-drop, length-take, List·getD-append}
 use lib.Seq.{getD-drop, getD-take, getD-append-add}
@@ -13,12 +13,12 @@ use Rattle.text.specs.Text.{Text}
 use Rattle.mem_chain.proofs.Last.{split}
 use Rattle.mem_values.proofs.Answers.{FoundAt, only}
 use Rattle.mem_values.proofs.Order.{insertion-new, insertion-old}
--- ---- the value with a global number, where n were added
 use Rattle.spec_exi.specs.Tables.{Entry, Slot, indexOf}
 use Rattle.mem_entries.specs.Entries.{Entries, noEntry, entryAt, textAt, slots}
 use Rattle.mem_entries.proofs.Slots.{every-slot, tally-every, index-none, index-some}
 use Rattle.mem_values.specs.Window.{byNumber, insertion, Ordered, Differ}
 
+-- ---- the value with a global number, where n were added
 module _ (es : Entries) (g new : ℕ) (have : g ≤ length es) (few : new ≤ length es - g) where
   present : Entries
   present = byNumber new (drop g es)

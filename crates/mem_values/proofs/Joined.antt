@@ -4,12 +4,12 @@
 use Prim.Native.Nat.{ℕ, suc, _+_, _%_, _≤_, _<_}
 use native.Mathlib.Omega.{arith}
 use mathlib.Core.Path.{_≡_, refl, sym, ap, subst, _∙_}
-use mathlib.Core.List.{List, [], _∷_, _++_}
+use mathlib.Core.List.{List, [], _∷_}
 use lib.ListN.{length, getD, length-append}
 use lib.Dec.{eqb}
 use borrow.Author.Tests.{eqb-true, eqb-false}
 use Rattle.text.specs.Text.{Text}
-use Rattle.spec_exi.specs.Tables.{Placed, Entry}
+use Rattle.spec_exi.specs.Tables.{Entry}
 use Rattle.mem_layout.specs.Layout.{valueTextHeads, valueCodeHeads, valueCounts, valueBuckets}
 use Rattle.mem_layout.specs.Layout.{valueRing}
 use Rattle.mem_layout.specs.Layout.{valuePlaces, valueSizes, valueTextNexts, valueCodes}
@@ -21,20 +21,15 @@ use Rattle.mem_chain.proofs.More.{ring-apart, chained-same, chained-more, linke
 use Rattle.mem_chain.proofs.More.{linked-other}
 use Rattle.mem_index.specs.declared.Index.{Index}
 use Rattle.mem_index.specs.Index.{numbers, joined, Numbered}
-use Rattle.mem_index.proofs.More.{Ordered, OrderedCounts, Off, SameIndex, numbered-same}
+use Rattle.mem_index.proofs.More.{OrderedCounts, Off, SameIndex, numbered-same}
 use Rattle.mem_index.proofs.More.{numbered-none}
 use Rattle.mem_index.proofs.More.{numbered-more, joined-length, joined-other}
 use Rattle.mem_entries.specs.Texts.{hashOf, withText, Names, Grown, Lies}
-use Rattle.mem_entries.specs.Entries.{Entries, entryAt, keyAt, textAt}
+use Rattle.mem_entries.specs.Entries.{Entries, entryAt, keyAt, joinedBy}
 use Rattle.mem_entries.proofs.Texts.{names-same, names-grown, put-length, put-other, put-names}
 use Rattle.mem_entries.proofs.Entries.{entry-old, entry-new}
 use Rattle.mem_values.specs.Values.{valueIndex, textBucket, withValue}
 use Rattle.mem_values.specs.Hold.{ValuesHold}
-
--- The table with one value more.
-abbrev pub joinedBy : Entries → ℕ → ℕ → Text → Entries
-joinedBy es owner place x =
-    es ++ (record { key = owner; string = record { place = place; text = x } } ∷ [])
 
 index-order : OrderedCounts valueIndex valueCounts nameRows
 index-order =

@@ -9,7 +9,6 @@ use Rattle.mem_layout.specs.Layout.{valueRing, valueCounts, nameRows, workCells
 use Rattle.mem_index.specs.declared.Index.{Index}
 use Rattle.mem_index.specs.Index.{numbers, tally, hasKey, Asking, Joining, Counted, NthFound}
 use Rattle.mem_index.proofs.Codes.{code-key, code-number}
-use Rattle.mem_entries.specs.Texts.{Names}
 use Rattle.mem_entries.specs.Entries.{Entries, keyAt, given}
 use Rattle.mem_entries.proofs.Entries.{given-tally}
 use Rattle.mem_values.specs.Values.{valueIndex, valueIn}

@@ -13,7 +13,7 @@ use borrow.Author.Tests.{eqb-true, eqb-false, eq-eqb}
 use Rattle.mem_chain.proofs.Last.{split}
 use Rattle.mem_values.proofs.Order.{ordered-ring}
 use Rattle.mem_values.proofs.Entry.{present-slot}
-use Rattle.spec_exi.specs.Tables.{Entry, value}
+use Rattle.spec_exi.specs.Tables.{Entry}
 use Rattle.mem_index.specs.Index.{hasKey}
 use Rattle.mem_index.proofs.Tally.{tally-same}
 use Rattle.mem_entries.specs.Entries.{Entries, entryAt, keyAt, slots}

@@ -14,14 +14,14 @@ use Rattle.mem_layout.specs.Layout.{valueRing, nameRows}
 use Rattle.mem_chain.specs.Chain.{lastThat, since}
 use Rattle.mem_index.specs.Index.{numbers}
 use Rattle.mem_entries.specs.Texts.{hashOf, Grown, Lies}
-use Rattle.mem_entries.specs.Entries.{Entries, hasTextAt}
+use Rattle.mem_entries.specs.Entries.{Entries, hasTextAt, joinedBy}
 use Rattle.mem_values.specs.declared.Form.{Form}
 use Rattle.mem_values.specs.Values.{withValue}
 use Rattle.mem_values.specs.Window.{replaced, globalNumber, valueForm, Tabled}
 use Rattle.mem_values.specs.Hold.{FoundText}
 use Rattle.mem_values.specs.Forms.{formIn, ValuesStand, Formed}
 use Rattle.mem_values.proofs.Answers.{found-none}
-use Rattle.mem_values.proofs.Joined.{SameValues, joinedBy, values-more, values-grown}
+use Rattle.mem_values.proofs.Joined.{SameValues, values-more, values-grown}
 use Rattle.mem_values.proofs.Joined.{values-kept}
 use Rattle.mem_values.proofs.Tables.{form-is, differ-more, differ-later}
 

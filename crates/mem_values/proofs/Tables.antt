@@ -2,9 +2,9 @@
 -- replaced.
 use Prim.Native.Nat.{ℕ, suc, _-_, _≤_, _<_}
 use native.Mathlib.Omega.{arith}
-use mathlib.Core.Path.{_≡_, refl, sym, ap, _∙_}
+use mathlib.Core.Path.{_≡_, refl, sym, ap, subst, _∙_}
 use mathlib.Core.Bool.{Bool, true, false}
-use mathlib.Core.List.{List, [], _∷_, _++_, map, append-nil}
+use mathlib.Core.List.{[], _∷_, _++_, map, append-nil}
 use mathlib.Core.Option.{none, some}
 use lib.ListN.{length, length-map, length-append}
 use lib.Dec.{eqb}
@@ -18,19 +18,18 @@ use Rattle.spec_exi.specs.Tables.{laid, added}
 use Rattle.spec_exi.proofs.Codes.{eqName-refl, eqName-eq}
 use Rattle.mem_chain.specs.Chain.{lastThat, since}
 use Rattle.mem_chain.proofs.Last.{split}
-use Rattle.mem_entries.specs.Entries.{Entries, entryAt, textAt, hasTextAt, given, slots}
+use Rattle.mem_entries.specs.Entries.{Entries, textAt, hasTextAt, given, slots, joinedBy}
+use Rattle.mem_entries.specs.Entries.{Alike, Keys}
 use Rattle.mem_entries.proofs.Entries.{entry-old, entry-new}
 use Rattle.mem_entries.proofs.Slots.{slots-all, every-slot}
 use Rattle.mem_entries.proofs.Alike.{key-test, alike-index, alike-count, alike-length, alike-append}
-use Rattle.mem_entries.proofs.Alike.{keyed-append}
+use Rattle.mem_entries.proofs.Alike.{alike-renamed, keyed-append, keyed-wider}
 use Rattle.mem_values.specs.Window.{unbounded, replaced, byNumber, globalNumber}
 use Rattle.mem_values.specs.Window.{presentStrings}
 use Rattle.mem_values.specs.Window.{Differ, valueForm, Tabled}
-use Rattle.mem_values.proofs.Joined.{joinedBy}
 use Rattle.mem_values.proofs.Forms.{value-form}
 
 -- ---- the tables
-
 module _ {name : ℕ → QName Text} {isKey : ℕ → Bool} {t : Tables} {es : Entries}
     (w : Tabled name isKey t es) where
   name-test : (k : ℕ) → isKey k ≡ true → (j : ℕ) → isKey j ≡ true
@@ -92,6 +91,19 @@ module _ {name : ℕ → QName Text} {isKey : ℕ → Bool} {t : Tables} {es : E
         keyed = keyed-append (record { key = k; string = record { place = place; text = x } }) l
             (w .keyed);
       }
+
+-- Names that keep their rows, while URIs and names join.
+pub tabled-renamed : {name more : ℕ → QName Text} {isKey wider : ℕ → Bool} (t after : Tables)
+    {es : Entries}
+    → after .values ≡ t .values → ((j : ℕ) → isKey j ≡ true → more j ≡ name j)
+    → ((j : ℕ) → isKey j ≡ true → wider j ≡ true) → Keys more wider → Tabled name isKey t es
+    → Tabled more wider after es
+tabled-renamed {more = more} t after {es = es} same names wide keys w =
+    record {
+      alike = subst (λ l. Alike more l es) (sym same) (alike-renamed names (w .keyed) (w .alike));
+      keys = keys;
+      keyed = keyed-wider wide (w .keyed);
+    }
 
 -- Where no value present has the text, all stay different.
 pub differ-more : (es : Entries) (low k place : ℕ) (x : Text) → Differ low es

@@ -6,7 +6,7 @@ use mathlib.Core.List.{List}
 use lib.ListN.{getD}
 use borrow.Author.Tests.{eq-eqb}
 use native.Mathlib.Omega.{arith}
-use Rattle.mem_layout.specs.Layout.{valueRing, valueTextHeads, valueTextNexts, valueBuckets}
+use Rattle.mem_layout.specs.Layout.{valueRing, valueTextHeads, valueTextNexts}
 use Rattle.mem_chain.specs.Chain.{below, inBucket}
 use Rattle.mem_chain.proofs.Turn.{Turn, Answer, turn-start, turn-end, turn-row, turn-ring}
 use Rattle.mem_chain.proofs.Turn.{turn-here}

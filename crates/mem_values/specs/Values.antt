@@ -9,7 +9,7 @@ use Rattle.mem_layout.specs.Layout.{valueRing, valuePlaces, valueSizes, valueTe
 use Rattle.mem_layout.specs.Layout.{valueCodeNexts}
 use Rattle.mem_chain.specs.Chain.{linked, walkedFrom}
 use Rattle.mem_index.specs.declared.Index.{Index}
-use Rattle.mem_index.specs.Index.{numbers, countIn, nthIn, joined}
+use Rattle.mem_index.specs.Index.{numbers, joined}
 use Rattle.mem_entries.specs.Texts.{hashOf, rowHas, withText}
 use Rattle.mem_entries.specs.Entries.{Entries, textAt}
 use Rattle.mem_values.specs.declared.Value.{Value}

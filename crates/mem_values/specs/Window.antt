@@ -11,7 +11,7 @@ use Rattle.text.specs.Text.{Text}
 use Rattle.spec_exi.specs.Event.{QName}
 use Rattle.spec_exi.specs.Tables.{Entry, Tables, Slot, Form, hit, literal}
 use Rattle.mem_index.specs.Index.{tally, hasKey}
-use Rattle.mem_entries.specs.Entries.{Entries, entryAt, keyAt, textAt, Alike, Keys, Keyed}
+use Rattle.mem_entries.specs.Entries.{Entries, keyAt, textAt, Alike, Keys, Keyed}
 
 -- How many of n added values have been replaced, where so many may be present.
 unfoldable pub replaced : Option ℕ → ℕ → ℕ
@@ -66,11 +66,6 @@ earlier es k i = tally (hasKey (keyAt es) k) i
 -- No two values from low on have one text.
 pub record Differ (low : ℕ) (es : Entries) : Type 0 where
   pub texts : (i j : ℕ) → low ≤ i → i < j → j < length es → textAt es i ≡ textAt es j → ⊥
-
--- What a number and 1, or 0, stands for.
-unfoldable pub slotOf : Entries → ℕ → ℕ → Option Slot
-slotOf es low zero = none
-slotOf es low (suc g) = some (cond (ltb g low) none (some (entryAt es g .string)))
 
 -- The form of a value by what a search for its text answers: local before global.
 unfoldable pub valueForm : Option ℕ → Entries → ℕ → ℕ → Form
