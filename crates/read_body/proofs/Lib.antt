@@ -2,4 +2,3 @@ pub mod Cells
 pub mod Events
 pub mod Padding
 pub mod Reply
-pub mod Claims

@@ -1,11 +1,13 @@
-// The events of a stream and the pad bits behind them, read. What the functions ask and leave is in specs/Body.antt, the reply in specs/Reply.antt.
+// The events of a stream and the pad bits behind them, read. What the functions ask and leave is in
+// specs/Body.antt, the reply in specs/Reply.antt.
 ghost use mathlib.Core.Path.{_≡_};
 ghost use Prim.Native.Nat.{_≤_};
 ghost use lib.ListN.{length, drop, replicate};
 ghost use Rattle.spec_fields.specs.Bits.{unpack, isPadding};
 ghost use Rattle.spec_exi.specs.Reader.{readReply};
 ghost use Rattle.settings.specs.Meant.{settingsFrom};
-ghost use Rattle.read_body.specs.Reply.{refusalOf, Attempted, replyOf, eventsFilled, textFilled};
+ghost use Rattle.read_body.specs.Reply.{refusalOf, Attempted, replyOf, eventsFilled};
+ghost use Rattle.read_body.specs.Reply.{textFilled};
 ghost use Rattle.read_body.specs.Body.{PlaceIn, RunReady, answerFrom};
 use read_field::Field;
 use refusal::LIMIT;
@@ -14,7 +16,8 @@ use settings::Settings;
 use sizes::MAX_EVENTS;
 use state::State;
 
-// The number of the refusal or 0, the index of the event concerned, and the counts of events and code points.
+// The number of the refusal or 0, the index of the event concerned, and the counts of events and
+// code points.
 #[repr(C)]
 pub struct ReadReply {
     pub number: u32,
@@ -51,7 +54,8 @@ fn is_padding(stream: &[u8], at: usize) -> bool
     }
 }
 
-// The events, one behind the other, and the padding. After a refusal the cells of the events before it are left.
+// The events, one behind the other, and the padding. After a refusal the cells of the events before
+// it are left.
 fn run(
     o: Settings,
     stream: &[u8],
@@ -61,7 +65,10 @@ fn run(
     work: &mut [u32],
 ) -> ReadReply
     requires { ⌜ RunReady (now stream) (now events) (now text) (now work) st ⌝ }
-    ensures { λ r. ⌜ Attempted (answerFrom (settingsFrom o) (now (stream .entry)) (now (text .entry)) (now (work .entry)) st) (now (events .entry)) (now (text .entry)) (now (events .exit)) (now (text .exit)) r ⌝ }
+    ensures { λ r. ⌜ Attempted
+        (answerFrom (settingsFrom o) (now (stream .entry)) (now (text .entry))
+        (now (work .entry)) st)
+        (now (events .entry)) (now (text .entry)) (now (events .exit)) (now (text .exit)) r ⌝ }
 {
     let mut t = st;
     while t.events < MAX_EVENTS {
@@ -85,7 +92,8 @@ fn run(
     refused(LIMIT, t.events)
 }
 
-// Reads the events and the padding: their cells and the text store, and zeros behind them; after a refusal zeros alone. Work memory is left zero.
+// Reads the events and the padding: their cells and the text store, and zeros behind them; after a
+// refusal zeros alone. Work memory is left zero.
 pub fn read_events(
     o: Settings,
     stream: &[u8],
@@ -95,9 +103,15 @@ pub fn read_events(
     work: &mut [u32],
 ) -> ReadReply
     requires { ⌜ RunReady (now stream) (now events) (now text) (now work) st ⌝ }
-    ensures { λ r. ⌜ replyOf r ≡ readReply (answerFrom (settingsFrom o) (now (stream .entry)) (now (text .entry)) (now (work .entry)) st) ⌝ }
-    ensures { λ r. ⌜ now (events .exit) ≡ eventsFilled (length (now (events .entry))) (answerFrom (settingsFrom o) (now (stream .entry)) (now (text .entry)) (now (work .entry)) st) ⌝ }
-    ensures { λ r. ⌜ now (text .exit) ≡ textFilled (length (now (text .entry))) (answerFrom (settingsFrom o) (now (stream .entry)) (now (text .entry)) (now (work .entry)) st) ⌝ }
+    ensures { λ r. ⌜ replyOf r ≡ readReply
+        (answerFrom (settingsFrom o) (now (stream .entry)) (now (text .entry))
+        (now (work .entry)) st) ⌝ }
+    ensures { λ r. ⌜ now (events .exit) ≡ eventsFilled (length (now (events .entry)))
+        (answerFrom (settingsFrom o) (now (stream .entry)) (now (text .entry))
+        (now (work .entry)) st) ⌝ }
+    ensures { λ r. ⌜ now (text .exit) ≡ textFilled (length (now (text .entry)))
+        (answerFrom (settingsFrom o) (now (stream .entry)) (now (text .entry))
+        (now (work .entry)) st) ⌝ }
     ensures { λ r. ⌜ now (work .exit) ≡ replicate (length (now (work .entry))) 0 ⌝ }
 {
     let reply = run(o, stream, st, events, text, work);

@@ -1,6 +1,6 @@
-// The reader: octets to the event list whose strict form they are, or a refusal with its number and
-// index. The definitions that the contracts cite are in specs/Read.antt and
-// crates/read_body/specs/Reply.antt and, for the answer itself, in crates/spec_exi/specs/Reader.antt.
+// The reader: octets to the event list whose strict form they are, or a refusal with its number
+// and index. The definitions that the contracts cite are in specs/Read.antt and
+// crates/read_body/specs/Reply.antt and, for the answer, in crates/spec_exi/specs/Reader.antt.
 ghost use mathlib.Core.Path.{_≡_};
 ghost use lib.ListN.{length, replicate};
 ghost use Rattle.spec_exi.specs.Sizes.{sizes};

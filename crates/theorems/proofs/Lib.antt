@@ -1,2 +1,5 @@
 pub mod Claims
 pub mod Pieces
+pub mod Left
+pub mod Round
+pub mod Cells

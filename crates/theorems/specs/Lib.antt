@@ -1,2 +1,4 @@
 pub mod Claims
 pub mod Pieces
+pub mod Calls
+pub mod Cells

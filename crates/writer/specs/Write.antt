@@ -30,7 +30,7 @@ lent octets work = record { octets = octets; work = work }
 unfoldable pub writerRoom : WriterLent → WriterRoom
 writerRoom m = record { octets = length (m .octets); work = length (m .work) }
 
--- The definitions' answer for the list that event cells and a text store hold, and for what is lent.
+-- The definitions' answer for what is lent and the list that event cells and a text store hold.
 unfoldable pub answerOf : SettingNumbers → List ℕ → Text → WriterLent → Answer (List ℕ)
 answerOf s events store m =
     format-writer.write (writerRoom m) (numbersOf s) (eventsOf events) store

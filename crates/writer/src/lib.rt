@@ -1,5 +1,5 @@
-// The writer: an event list to the octets of its strict form, or a refusal with its number and index.
-// The definitions that the contracts cite are in specs/Write.antt and, for the answer itself, in
+// The writer: an event list to the octets of its strict form, or a refusal with its number and
+// index. The definitions that the contracts cite are in specs/Write.antt and, for the answer, in
 // crates/spec_exi/specs/Writer.antt.
 ghost use Rattle.settings.specs.Meant.{settingsFrom};
 ghost use Rattle.event.specs.Cells.{eventsOf};
