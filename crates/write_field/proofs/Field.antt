@@ -9,7 +9,7 @@ use mathlib.Core.List.{List, [], _++_, append-nil}
 use lib.ListN.{length, getD, replicate, length-replicate}
 use mir.Syntax.{w8}
 use mir.Val.{Fits}
-use lib.Pow.{pow-mono, pow-pos, pow-add, shl-lt, shl-exact, shr-lt}
+use lib.Pow.{pow-mono, pow-pos, pow-add, shl-lt, shl-exact, shl-shr, shr-lt, shr-shr}
 use lib.Bits.{bitAnd, and-mask, mask-lt}
 use lib.Dec.{T}
 use Rattle.spec_fields.specs.Bits.{bitsOf, each, unpack, octetsFor}
@@ -105,7 +105,7 @@ put-zeros {buf} {at} {o} n known t e =
     rw (e, bits-zero n) (written-zeros buf at [] n) in
     record { octets = put-nothing known t .octets ∙ sym w; next = omega (arith, length-bits n o) }
 
--- What `put_bits` asks.
+-- What the parts of n bits ask: at a position that a field was begun before.
 abbrev pub BitsFit : List ℕ → ℕ → ℕ → ℕ → Type 0
 BitsFit buf at n v = T (blankFrom buf at) × (at ≤ farthest + 40) × (n ≤ 16) × (v < 2 ^ n)
 
@@ -177,6 +177,59 @@ module _ (buf : List ℕ) {at n v : ℕ} (h : BitsFit buf at n v) where
       let z = first-none at n v (h .2) (h .3) (omega arith) in
       put-one (put-zeros (8 - at % 8) known (h .0) z) known (omega arith)
 
+-- ---- an octet: its window has no third part
+
+module _ (at o : ℕ) (h : o < 256) where
+  octet-exact : window at 8 o ≡ o * 2 ^ (16 - at % 8)
+  octet-exact =
+      let e : behind at 8 ≡ 16 - at % 8 = omega arith in
+      exact at 8 o (omega arith) h ∙ ap (λ k. o * 2 ^ k) e
+
+  octet-first : first at 8 o ≡ o / 2 ^ (at % 8)
+  octet-first =
+      let e : 16 - at % 8 + at % 8 ≡ 16 = omega arith in
+      let s = shr-shr (o * 2 ^ (16 - at % 8)) (16 - at % 8) (at % 8) in
+      rw octet-exact (sym (rw e at s) ∙ ap (λ x. x / 2 ^ (at % 8)) (shl-shr o (16 - at % 8)))
+
+  octet-second : second at 8 o ≡ bitAnd ((o * 2 ^ (8 - at % 8)) % 2 ^ 32) 255
+  octet-second =
+      let e : 16 - at % 8 ≡ (8 - at % 8) + 8 = omega arith in
+      let p : 2 ^ (16 - at % 8) ≡ 2 ^ (8 - at % 8) * 2 ^ 8 =
+      ap (λ k. 2 ^ k) e ∙ pow-add 2 (8 - at % 8) 8 in
+      let x = shl-exact 8 (8 - at % 8) 32 h (omega arith) in
+      let d : o * 2 ^ (16 - at % 8) / 256 ≡ o * 2 ^ (8 - at % 8) =
+      rw (p, ← mul-assoc o (2 ^ (8 - at % 8)) (2 ^ 8)) (shl-shr (o * 2 ^ (8 - at % 8)) 8) in
+      rw (octet-exact, d, x)
+
+module _ (buf : List ℕ) {at o : ℕ}
+    (h : T (blankFrom buf at) × (at ≤ farthest + 40) × (o < 256)) where
+  eight : BitsFit buf at 8 o
+  eight = (h .0, h .1, omega arith, h .2)
+
+  pub octet-asks : ShortFits buf at (8 - at % 8) (o / 2 ^ (at % 8))
+  octet-asks =
+      subst (ShortFits buf at (8 - at % 8)) (octet-first at o (h .2)) (first-asks buf eight)
+
+  module _ {mid : List ℕ} {p : ℕ}
+      (a : Put buf at (bitsOf (8 - at % 8) (o / 2 ^ (at % 8))) mid p) where
+    begun : Put buf at (bitsOf (8 - at % 8) (first at 8 o)) mid p
+    begun = subst (λ x. Put buf at (bitsOf (8 - at % 8) x) mid p) (sym (octet-first at o (h .2))) a
+
+    pub octet-whole : Known mid → at % 8 ≡ 0 → Put buf at (bitsOf 8 o) mid (at + 8)
+    octet-whole known e = put-one buf eight begun known (omega (arith, second-at buf eight begun))
+
+    pub rest-asks : ShortFits mid p (8 - p % 8) (bitAnd ((o * 2 ^ (8 - at % 8)) % 2 ^ 32) 255)
+    rest-asks =
+        subst (ShortFits mid p (8 - p % 8)) (octet-second at o (h .2)) (second-asks buf eight begun)
+
+    pub octet-split : {far : List ℕ} {q : ℕ}
+        → Put mid p (bitsOf (8 - p % 8) (bitAnd ((o * 2 ^ (8 - at % 8)) % 2 ^ 32) 255)) far q
+        → Known far → Put buf at (bitsOf 8 o) far (at + 8)
+    octet-split {far} {q} b known =
+        let e = sym (octet-second at o (h .2)) in
+        let c = subst (λ x. Put mid p (bitsOf (8 - p % 8) x) far q) e b in
+        put-two buf eight begun c known (omega (arith, third-at buf eight begun c))
+
 -- ---- the fewest octets that hold n bits
 
 -- At most two octets, the least significant first: the first bits of the number exchanged.
@@ -195,18 +248,23 @@ little (suc (suc zero)) v l h =
 little (suc (suc (suc k))) v l h = absurd (omega arith)
 
 module _ {buf : List ℕ} {at n v : ℕ} (h : NumberFits buf at n v) where
-  pub bits-ask : BitsFit buf at n v
-  bits-ask = (h .blank, omega (arith, h .near), h .narrow, h .fits)
+  pub as-bits : BitsFit buf at n v
+  as-bits = (h .blank, omega (arith, h .near), h .narrow, h .fits)
 
   pub sixteen : v < 65536
   sixteen = lt-of-lt-of-le (h .fits) (pow-mono (h .narrow))
 
   module _ {k x : ℕ} (i : (n + 7) / 8 ≡ k) (e : x ≡ v % 256 * 256 + v / 256) where
-    pub octets-ask : BitsFit buf at (k * 8) (x / 2 ^ (16 - k * 8))
+    pub octets-ask : NumberFits buf at (k * 8) (x / 2 ^ (16 - k * 8))
     octets-ask =
         let j : k * 8 + (16 - k * 8) ≡ 16 = omega (arith, h .narrow) in
         let b : x < 2 ^ (k * 8 + (16 - k * 8)) = rw j (omega (arith, sixteen)) in
-        (h .blank, omega (arith, h .near), omega (arith, h .narrow), shr-lt (k * 8) (16 - k * 8) b)
+        record {
+          blank = h .blank;
+          near = h .near;
+          narrow = omega (arith, h .narrow);
+          fits = shr-lt (k * 8) (16 - k * 8) b;
+        }
 
     pub put-little : {after : List ℕ} {r : ℕ}
         → Put buf at (bitsOf (k * 8) (x / 2 ^ (16 - k * 8))) after r

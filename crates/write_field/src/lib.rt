@@ -1,6 +1,6 @@
 // The fields of a stream, written at a bit position. Each function gives the position after the field.
 ghost use mathlib.Core.Path.{_≡_};
-ghost use Prim.Native.Nat.{_+_, _-_, _%_, _^_, _≤_, _<_};
+ghost use Prim.Native.Nat.{_+_, _-_, _%_, _≤_, _<_};
 ghost use lib.Dec.{T};
 ghost use Rattle.spec_fields.specs.Bits.{bitsOf};
 ghost use Rattle.spec_fields.specs.Field.{byteAligned, numberBits, choiceBits, unsignedBits};
@@ -29,7 +29,7 @@ fn put_part(buf: &mut [u8], place: usize, o: u32) -> usize
 
 // n bits, most significant first, in the octets that they touch: none to three.
 fn put_bits(buf: &mut [u8], at: usize, n: u32, v: u32) -> usize
-    requires { ⌜ T (blankFrom (now buf) at) × (at ≤ farthest + 40) × (n ≤ 16) × (v < 2 ^ n) ⌝ }
+    requires { ⌜ NumberFits (now buf) at n v ⌝ }
     ensures { λ r. ⌜ Put (now (buf .entry)) at (bitsOf n v) (now (buf .exit)) r ⌝ }
 {
     let next = at + n as usize;
@@ -77,6 +77,20 @@ pub fn put_choice(aligned: bool, buf: &mut [u8], at: usize, m: u32, v: u32) -> u
     put_number(aligned, buf, at, read_field::width(m), v)
 }
 
+// An octet of an Unsigned Integer, in the one or two octets that it touches.
+fn put_octet(buf: &mut [u8], at: usize, o: u32) -> usize
+    requires { ⌜ T (blankFrom (now buf) at) × (at ≤ farthest + 40) × (o < 256) ⌝ }
+    ensures { λ r. ⌜ Put (now (buf .entry)) at (bitsOf 8 o) (now (buf .exit)) r ⌝ }
+{
+    let used = at % 8;
+    let second = put_part(buf, at, o >> used);
+    if used == 0 {
+        return at + 8;
+    }
+    put_part(buf, second, (o << (8 - used)) & 255);
+    at + 8
+}
+
 // Unsigned Integer: 7 bits an octet, least significant first.
 pub fn put_unsigned(buf: &mut [u8], at: usize, v: u32) -> usize
     requires { ⌜ UnsignedFits (now buf) at v ⌝ }
@@ -85,8 +99,8 @@ pub fn put_unsigned(buf: &mut [u8], at: usize, v: u32) -> usize
     let mut next = at;
     let mut rest = v;
     while 128 <= rest {
-        next = put_bits(buf, next, 8, rest % 128 + 128);
+        next = put_octet(buf, next, rest % 128 + 128);
         rest = rest / 128;
     }
-    put_bits(buf, next, 8, rest)
+    put_octet(buf, next, rest)
 }

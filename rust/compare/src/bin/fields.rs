@@ -27,11 +27,8 @@ struct Code {
 mod now {
     use super::Found;
 
-    fn octet_before(s: &[u8], place: usize, end: usize) -> u32 {
-        if place < end {
-            return u32::from(s[place / 8]);
-        }
-        0
+    fn octet_at(s: &[u8], i: usize) -> u32 {
+        u32::from(s[i])
     }
 
     fn bits(s: &[u8], at: usize, n: u32) -> Found {
@@ -39,13 +36,17 @@ mod now {
         if 8 * s.len() < next {
             return None;
         }
-        let used = at % 8;
-        let high = octet_before(s, at, next);
-        let middle = octet_before(s, at - used + 8, next);
-        let low = octet_before(s, at - used + 16, next);
+        if next <= at {
+            return Some((0, next));
+        }
+        let first = at / 8;
+        let last = (next - 1) / 8;
+        let high = octet_at(s, first);
+        let middle = octet_at(s, (first + last) / 2);
+        let low = octet_at(s, last);
         let window = high * 65536 + middle * 256 + low;
         let power: u32 = 1 << n;
-        Some(((window >> (24 - used as u32 - n)) & (power - 1), next))
+        Some(((window >> (7 - (next - 1) % 8)) & (power - 1), next))
     }
 
     fn exchanged(x: u32) -> u32 {
