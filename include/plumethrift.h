@@ -129,7 +129,7 @@ enum plumethrift_refusal {
   PLUMETHRIFT_OK = 0,        /* not refused */
   PLUMETHRIFT_ROOM = 1,      /* a lent part is shorter than asked for */
   PLUMETHRIFT_SETTINGS = 2,  /* a settings number has no meaning */
-  PLUMETHRIFT_LONG = 3,      /* reader: the input is over 16,384 octets; writer: it would be */
+  PLUMETHRIFT_LONG = 3,      /* over 16,384 octets: the reader's input, or the writer's result */
   PLUMETHRIFT_HEADER = 4,    /* an octet differs from the header that the settings ask for */
   PLUMETHRIFT_ENDED = 5,     /* the input ends inside the header or a field */
   PLUMETHRIFT_CODE = 6,      /* an event code part names no production */
