@@ -25,9 +25,11 @@ use Rattle.spec_exi.proofs.Step.{StepRead, step-reads, Sane, step-next,
 use Rattle.spec_exi.proofs.Step.{sane-next}
 use Rattle.spec_exi.proofs.Writes.{is-finished, finished-is, finished-no-fit}
 
+-- A refusal is no acceptance.
 pub not-accepted : {A X : Type 0} {k : Refusal} {i : ℕ} {a : A} → _≡_ {A = Answer A} (refused k i) (accepted a) → X
 not-accepted e = let z : _≡_ {A = ℕ} 0 1 = cc in absurd (omega arith)
 
+-- What is accepted is one reading.
 pub accepted-same : {A : Type 0} {a b : A} → _≡_ {A = Answer A} (accepted a) (accepted b) → a ≡ b
 accepted-same e = cc
 
@@ -67,6 +69,7 @@ module _ (z : Sizes) (s : Settings) where
       split (isFinished (c .state)) (λ t. let (p, m) = ended s c bs r (rw t at q) in rw m (ends (is-T (isFinished (c .state)) t) p))
       (λ t. f (rw t at q))
 
+  -- What is accepted is a run of events that were read, one after the other.
   pub read-runs : (n : ℕ) (c : Context) (bs : Bits) (r : Reading) → readEvents n z s c bs ≡ accepted r → Run z s n c bs r
   unfolding readEvents onward
   read-runs zero c bs r q = not-accepted q
@@ -109,6 +112,8 @@ run-fit {s} {n} {c} g (goes {n = m} {bs = bs} {r = r} y w h k) =
       padded = a .padded;
     }
 
+-- What is accepted may come next, and its bits are those of its strict form and padding (demand 3,
+-- half of it).
 pub read-fit : (n : ℕ) (s : Settings) (c : Context) (bs : Bits) (r : Reading) → Sane c → readEvents n sizes s c bs ≡ accepted r
     → Accepted s c n bs (map eventText (r .events))
 read-fit n s c bs r g q = run-fit g (read-runs sizes s n c bs r q)
@@ -139,6 +144,7 @@ more : (s : Settings) (c : Context) (e : Event Text) (rest : Bits) (l : List (Ev
 more s c e rest l zero m fit f = absurd (omega arith)
 more s c e rest l (suc k) m fit f = then-found k s c e rest l fit (f k (omega arith))
 
+-- A list that may come next is read from the bits of its strict form (the other half).
 pub read-found : (n : ℕ) (s : Settings) (c : Context) (l : List (Event Text)) (padding : Bits) → ListFit s c l → length l ≤ n → T (isPadding padding)
     → ListFound (Afterwards n sizes s c (listBits s c l ++ padding)) l
 unfolding listBits ending

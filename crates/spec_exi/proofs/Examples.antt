@@ -92,6 +92,7 @@ pieces-told : Tell pieces
 unfolding definitions pieces
 pieces-told = record { replies = refl }
 
+-- All of them.
 pub worked-examples : WorkedExamples
 worked-examples =
     record {

@@ -477,7 +477,7 @@ refused-count r o os k i e h =
     (λ b. early settings (rw (a, b) at e) (omega arith)))
     (λ a. early room (rw a at e) (omega arith))
   where
-    early : {X : Type 0} (j : Refusal) → _≡_ {A = Answer Reading} (refused j 0) (refused k i) → numberOf j < 4 → X
+    early : {X : Type 0} (j : Refusal) → _≡_ {A = Answer Reading} (refused j 0) (refused k i) → numberOf j < numberOf header → X
     early j q l = let same = ap numberOf (refused-same q .0) in absurd (omega arith)
 
 -- The index counts the complete events.
@@ -505,6 +505,7 @@ module _ (r : ReaderRoom) (o : SettingNumbers) (os : List ℕ) where
           (λ t. let e : refused j m ≡ refused k i = rw t at h in
           (q ∙ e, λ n. not-ended j t (refused-same e .0 ∙ n)))
 
+  -- What is accepted whole is accepted as a piece.
   pub accepted-alike : (x : Reading) → read r o os ≡ accepted x → receive r o os ≡ accepted x
   unfolding receive soFar
   accepted-alike x e = rw e

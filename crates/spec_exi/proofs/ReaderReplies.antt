@@ -34,6 +34,7 @@ use Rattle.spec_exi.specs.Reader.{onward, readEvents, readHeader, readBo
 use Rattle.spec_exi.specs.Reader.{ReaderRoom, enoughToRead, readSized, read, readReply}
 use Rattle.spec_exi.proofs.Content.{NameRead, carriedName, writtenName, ContentRead, anSD}
 use Rattle.spec_exi.proofs.Content.{anED, anEE, anSE, anAT, aCH, aCM, aPI}
+use Rattle.spec_exi.proofs.Entries.{store-within}
 use Rattle.spec_exi.proofs.Step.{StepRead, sane-start}
 use Rattle.spec_exi.proofs.Body.{Run, ends, goes, read-runs, not-accepted}
 
@@ -190,16 +191,9 @@ module _ (z : Sizes) (s : Settings) where
   unfolding after
   step-room h p = rw (h .leaves) (content-room (h .read) p)
 
-  store-within : (t : Tables) → T (withinTables z t) → length (t .store) ≤ z .store
-  unfolding withinTables
-  store-within t h =
-      leb→le (length (t .store)) (z .store)
-      (right (leb (length (t .uris)) (z .uris) && leb (length (t .names)) (z .names) && leb (length (t .values)) (z .values))
-      (leb (length (t .store)) (z .store)) h)
-
   run-store : {n : ℕ} {c : Context} {bs : Bits} {r : Reading} → T (withinTables z (c .tables)) → Run z s n c bs r
       → length (r .store) ≤ z .store
-  run-store {n} {c} p (ends f q) = store-within (c .tables) p
+  run-store {n} {c} p (ends f q) = store-within z (c .tables) p
   run-store p (goes y w h k) = run-store (step-room h p) k
 
 -- ---- the whole stream
@@ -246,6 +240,7 @@ pub data Outcome (r : ReaderRoom) (o : SettingNumbers) (stream : List ℕ) : Ans
   inside : {a : Answer Reading} → T (enoughToRead sizes r) → T (meaningful o) → length stream ≤ maxStream → Inside a
       → Outcome r o stream a
 
+-- It answers one of these.
 pub outcome : (r : ReaderRoom) (o : SettingNumbers) (stream : List ℕ) → Outcome r o stream (read r o stream)
 unfolding read readSized
 outcome r o stream =
@@ -257,11 +252,13 @@ outcome r o stream =
     (λ m. rw (e, m) (noMeaning (is-T _ e) (rw m tt))))
     (λ e. rw e (noRoom (rw e tt)))
 
+-- A test does not pass and fail.
 pub contrary : {X : Type 0} (b : Bool) → T b → T (not b) → X
 contrary true t f = absurd f
 contrary false t f = absurd t
 
 module _ {r : ReaderRoom} {o : SettingNumbers} {stream : List ℕ} where
+  -- SHAPE and PLACE are not among the reader's numbers.
   pub numbers : {a : Answer Reading} → Outcome r o stream a → readReply a .number ≤ numberOf tail
   unfolding readReply numberOf
   numbers (noRoom e) = omega arith
@@ -298,6 +295,7 @@ module _ {r : ReaderRoom} {o : SettingNumbers} {stream : List ℕ} where
   too-long (inside e m l (stopped least most i z)) = (λ q. absurd (omega (arith, least)), λ f. absurd (omega (arith, f .2)))
   too-long (inside e m l (whole n c)) = (λ q. absurd (omega arith), λ f. absurd (omega (arith, f .2)))
 
+  -- The index is 0 on success and up to HEADER.
   pub no-index : {a : Answer Reading} → Outcome r o stream a → readReply a .number ≤ numberOf header → readReply a .index ≡ 0
   unfolding readReply
   no-index (noRoom e) h = refl

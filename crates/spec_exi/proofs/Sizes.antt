@@ -43,9 +43,11 @@ module _ {A : Type 0} where
   pub record Also (p q : Parser A) : Type 0 where
     pub reads : (bs : Bits) (a : A) (rest : Bits) → p bs ≡ got a rest → q bs ≡ got a rest
 
+  -- Anything reads what it reads.
   pub also-same : (p : Parser A) → Also p p
   also-same p = record { reads = λ bs a rest e. e }
 
+-- One after the other.
 pub also-then : {A B : Type 0} {p q : Parser A} {f g : A → Parser B} → Also p q → ((a : A) → Also (f a) (g a)) → Also (p >>= f) (q >>= g)
 unfolding _>>=_ andThen
 also-then {A} {B} {p} {q} {f} {g} h k = record { reads = λ bs b rest e. go bs b rest (p bs) refl e }
@@ -54,6 +56,7 @@ also-then {A} {B} {p} {q} {f} {g} h k = record { reads = λ bs b rest e. go bs b
     go bs b rest (bad j) i e = not-got e
     go bs b rest (got a mid) i e = ap (λ y. andThen y g) (h .reads bs a mid i) ∙ k a .reads mid b rest e
 
+-- A test that passes where another does.
 pub also-need : {B : Type 0} {p q : Parser B} (b c : Bool) (k : Refusal) → (T b → T c) → Also p q → Also (need b k >> p) (need c k >> q)
 unfolding need _>>_ _>>=_ andThen return fail
 also-need {p} {q} b c k t h = record { reads = λ bs a rest e. go b c t bs a rest e }
@@ -63,6 +66,7 @@ also-need {p} {q} b c k t h = record { reads = λ bs a rest e. go b c t bs a res
     go true false t bs a rest e = absurd (t tt)
     go false c t bs a rest e = not-got e
 
+-- The same test.
 pub also-when : {B : Type 0} {p q : Parser B} (b : Bool) (k : Refusal) → Also p q → Also (need b k >> p) (need b k >> q)
 also-when b k h = also-need b b k (λ t. t) h
 

@@ -35,6 +35,7 @@ use Rattle.spec_exi.proofs.ReaderReplies.{contrary}
 
 -- ---- the refusals of a list
 
+-- What an event, or the list's end, can be refused by.
 pub data OfList : Refusal → Type 0 where
   aCharacter : OfList character
   aName : OfList name
@@ -138,6 +139,7 @@ list-outcome {r} {o} xs store e m =
           octets = subst (λ b. maxStream < length b) is (leb-false _ _ t);
         }))))
 
+-- It answers one of these.
 pub outcome : (r : WriterRoom) (o : SettingNumbers) (xs : List Stored) (store : Text) → Outcome r o xs store (write r o xs store)
 unfolding write
 outcome r o xs store =
@@ -175,6 +177,7 @@ of-list-least aShape = omega arith
 of-list-least aPlace = omega arith
 
 module _ {r : WriterRoom} {o : SettingNumbers} {xs : List Stored} {store : Text} where
+  -- Only these numbers are the writer's.
   pub numbers : {a : Answer (List ℕ)} → Outcome r o xs store a
       → T (isZeroOr (room ∷ settings ∷ long ∷ character ∷ name ∷ limit ∷ shape ∷ place ∷ []) (writeReply a .number))
   unfolding writeReply numberOf isZeroOr
@@ -233,6 +236,7 @@ module _ {r : WriterRoom} {o : SettingNumbers} {xs : List Stored} {store : Text}
   no-index (tooLong e m t) h = refl
   no-index (whole e m l) h = refl
 
+  -- The count is within the size of a stream.
   pub bounded : {a : Answer (List ℕ)} → Outcome r o xs store a → writeReply a .octets ≤ maxStream
   unfolding writeReply
   bounded (noRoom e) = zero-le
