@@ -30,7 +30,11 @@ same-streams [] t = refl
 same-streams (x ∷ xs) t =
     let test = eqText (strictFor x) (x .stream) in
     let others = every (λ y. eqText (strictFor y) (y .stream)) xs in
-    cc (eqText-eq (strictFor x) (x .stream) (left test others t), same-streams xs (right test others t))
+    cc (
+      eqText-eq (strictFor x) (x .stream) (left test others t),
+      same-streams xs
+          (right test others t),
+    )
 
 scope : Hold K
 unfolding definitions K
