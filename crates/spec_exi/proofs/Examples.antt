@@ -30,7 +30,11 @@ same-streams [] t = refl
 same-streams (x ∷ xs) t =
     let test = eqText (strictFor x) (x .stream) in
     let others = every (λ y. eqText (strictFor y) (y .stream)) xs in
-    cc (eqText-eq (strictFor x) (x .stream) (left test others t), same-streams xs (right test others t))
+    cc (
+      eqText-eq (strictFor x) (x .stream) (left test others t),
+      same-streams xs
+          (right test others t),
+    )
 
 scope : Hold K
 unfolding definitions K
@@ -92,6 +96,7 @@ pieces-told : Tell pieces
 unfolding definitions pieces
 pieces-told = record { replies = refl }
 
+-- All of them.
 pub worked-examples : WorkedExamples
 worked-examples =
     record {

@@ -180,6 +180,7 @@ module _ (s : Settings) (c : Context) (e : Event Text) where
 
 -- ---- lists
 
+-- What is asked of a good list, but for its numbers of events and octets.
 pub record Meets (s : Settings) (l : List (Event Text)) : Type 0 where
   pub shape : Document s l
   pub chars : T (every charsOnly l)
@@ -218,10 +219,12 @@ module _ {s : Settings} where
       let later = meets-from (sound-next s c e f o) r in
       search (both, go e (first .shape) (rw (state-next s c e f) at (later .shape)))
 
+-- The events of a good list may come one after the other.
 pub fit-of-good : (s : Settings) (l : List (Event Text)) → Meets s l → ListFit s (start s) l
 unfolding start
 fit-of-good s l m = fit-from (start s) l (sound-start s) (search run-of-document)
 
+-- A list whose events may come one after the other is good.
 pub good-of-fit : (s : Settings) (l : List (Event Text)) → ListFit s (start s) l → Meets s l
 unfolding start
 good-of-fit s l f = let m = meets-from (sound-start s) f in search document-of-run
