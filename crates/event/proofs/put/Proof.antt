@@ -1,7 +1,6 @@
 -- `put` meets its contract: nine stores, each inside, put a row.
 use native.Mathlib.Omega.{arith}
 use lib.ListN.{length-set}
-use borrow.Author.Needs.{needs}
 use Rattle.event.specs.Cells.{rowCells, asSpan}
 use Rattle.event.proofs.Laws.{row-put}
 use Rattle.event.proofs.put.Statement.{statement}
