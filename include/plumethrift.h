@@ -60,7 +60,7 @@ extern "C" {
  * Settings of a stream. They travel outside it: reader and writer have to be given the same. A
  * number other than those named here is refused (SETTINGS). All zero, as from `= {0}`, is
  * bit-packed, no cookie, nothing kept: name the members that differ, and leave out the others, as
- * in `= {.alignment = PLUMETHRIFT_BYTE_ALIGNED}`.
+ * in `= {.alignment = PLUMETHRIFT_BYTE_ALIGNED}`; in C++17, assign to members of a `= {}`.
  *
  * The last six are for what this version does not do: as yet, a number other than 0 is refused. The
  * struct stays as it is when they get their meanings.

@@ -2,9 +2,9 @@
 //!
 //! Both get the same lent memory, of the stated sizes, which each leaves zero but for what it
 //! counts. A row's streams are put in slices to the library, to the ordinary implementation and to
-//! a clearing of the same memory, by turns, in seven rounds or more; of each slice the fastest time
-//! of each counts, since that was disturbed least by other programs. A ratio is the library's time
-//! by the ordinary one's; net of clearing, the clearing is taken off both.
+//! a clearing of the same memory, by turns, in many rounds; of each slice the fastest time of each
+//! counts, since that was disturbed least by other programs. A ratio is the library's time by the
+//! ordinary one's; net of clearing, the clearing is taken off both.
 //!
 //! `bench WORD..` takes only rows whose names have one of the words. `bench --once ROW WAY WHICH`
 //! puts a few streams of a row once to one of the two, for a counter of instructions; see
@@ -24,7 +24,7 @@ use compare::prng::Prng;
 use compare::sizes::{MAX_STORE, MAX_STREAM, MAX_STRING, MAX_VALUES};
 
 const END: Event = Event::EndElement;
-const ROUNDS: usize = 7;
+const ROUNDS: usize = 15;
 
 /// What the library may take of the ordinary implementation's time.
 #[derive(Clone, Copy)]
@@ -101,20 +101,20 @@ fn rows() -> Vec<Row> {
         lists,
         settings: BYTES,
         streams: 10,
-        slice: 2,
+        slice: 1,
         goals: GOALS,
     };
     let mut rows = Vec::new();
     rows.extend(both!("K7", readings, 10_000, 200, SMALL));
-    rows.extend(both!("long", long_documents, 20, 2, GOALS));
-    rows.extend(both!("512 values", unlike_values, 10, 2, GOALS));
-    rows.extend(both!("512 alike", alike_values, 10, 2, GOALS));
-    rows.extend(both!("100 deep", deep, 20, 2, LOOK_UPS));
-    rows.extend(both!("128 names", many_names, 20, 2, LOOK_UPS));
-    rows.extend(both!("local hits", local_hits, 10, 2, LOOK_UPS));
-    rows.extend(both!("long notes", long_notes, 10, 2, GOALS));
-    rows.extend(both!("500 readings*", day, 10, 2, GOALS));
-    rows.extend(both!("2,048 short*", short_values, 10, 2, GOALS));
+    rows.extend(both!("long", long_documents, 20, 1, GOALS));
+    rows.extend(both!("512 values", unlike_values, 10, 1, GOALS));
+    rows.extend(both!("512 alike", alike_values, 10, 1, GOALS));
+    rows.extend(both!("100 deep", deep, 20, 1, LOOK_UPS));
+    rows.extend(both!("128 names", many_names, 20, 1, LOOK_UPS));
+    rows.extend(both!("local hits", local_hits, 10, 1, LOOK_UPS));
+    rows.extend(both!("long notes", long_notes, 10, 1, GOALS));
+    rows.extend(both!("500 readings*", day, 10, 1, GOALS));
+    rows.extend(both!("2,048 short*", short_values, 10, 1, GOALS));
     rows.push(growth("growth, 2 KB", |count| records(count, 32)));
     rows.push(growth("growth, 4 KB", |count| records(count, 64)));
     rows.push(growth("growth, 8 KB", |count| records(count, 128)));
@@ -553,7 +553,7 @@ fn print_head() {
     println!("Nanoseconds for a stream, the fastest of each slice in {ROUNDS} rounds.");
     println!("Rows with * need sizes that have not landed, and are cut to those of today.");
     println!(
-        "{:<26} {:>5} {:>7} {:>6} {:>9} {:>9} {:>6} {:>10} {:>8} {:>6} {:>10}",
+        "{:<27} {:>5} {:>7} {:>6} {:>9} {:>9} {:>6} {:>10} {:>8} {:>6} {:>10}",
         "row",
         "way",
         "streams",
@@ -577,7 +577,7 @@ fn print(case: &Case, way: Way, times: &Times, score: &mut Score) {
     let verdict = score.judge(times.ratio(), goal);
     let net_verdict = net_goal.map_or("-".to_string(), |goal| score.judge(times.net(), goal));
     println!(
-        "{:<26} {:>5} {:>7} {:>6} {:>9.0} {:>9.0} {:>6.2} {:>10} {:>8.0} {:>6.2} {:>10}",
+        "{:<27} {:>5} {:>7} {:>6} {:>9.0} {:>9.0} {:>6.2} {:>10} {:>8.0} {:>6.2} {:>10}",
         case.row.name,
         word,
         case.streams.len(),
