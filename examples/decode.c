@@ -5,9 +5,10 @@
  *   cc -std=c99 -Wall -Wextra -Werror -Iinclude examples/decode.c target/staticlib/libplumethrift.a -o target/decode
  *   printf '\200\001\002\141\003\003\142\000' | target/decode 1000 -
  *
- * The first argument is four digits, the settings in order: alignment (0 bit-packed, 1
- * byte-aligned), cookie, comments, instructions (0 no, 1 yes). The second is a file's name, or -
- * for standard input. Exit status: 0 read, 1 refused, 2 bad usage or no input.
+ * The first argument is at most ten digits, the settings' numbers in the order of the header:
+ * alignment (0 bit-packed, 1 byte-aligned), cookie, comments, instructions (0 no, 1 yes), and those
+ * that this version refuses; what is left out is 0. The second is a file's name, or - for standard
+ * input. Exit status: 0 read, 1 refused, 2 bad usage or no input.
  */
 #include <inttypes.h>
 #include <stdio.h>
@@ -23,19 +24,21 @@ static uint32_t events[PLUMETHRIFT_EVENT_CELLS];
 static uint32_t text[PLUMETHRIFT_TEXT_CELLS];
 static uint32_t work[PLUMETHRIFT_READER_WORK_CELLS];
 
-/* Each kind's name and number of strings, by its number. The reader answers no other kinds. */
+/* Each kind's name and its strings, by its number. The reader answers no other kinds. */
 static const struct {
   const char *name;
-  unsigned strings;
+  unsigned count;
+  unsigned strings[3];
 } kinds[] = {
-  [PLUMETHRIFT_START_DOCUMENT] = {"start document", 0},
-  [PLUMETHRIFT_END_DOCUMENT] = {"end document", 0},
-  [PLUMETHRIFT_START_ELEMENT] = {"start element", 2},
-  [PLUMETHRIFT_ATTRIBUTE] = {"attribute", 3},
-  [PLUMETHRIFT_END_ELEMENT] = {"end element", 0},
-  [PLUMETHRIFT_CHARACTERS] = {"characters", 1},
-  [PLUMETHRIFT_COMMENT] = {"comment", 1},
-  [PLUMETHRIFT_INSTRUCTION] = {"instruction", 2},
+  [PLUMETHRIFT_START_DOCUMENT] = {"start document", 0, {0}},
+  [PLUMETHRIFT_END_DOCUMENT] = {"end document", 0, {0}},
+  [PLUMETHRIFT_START_ELEMENT] = {"start element", 2, {PLUMETHRIFT_URI, PLUMETHRIFT_LOCAL_NAME}},
+  [PLUMETHRIFT_ATTRIBUTE] = {"attribute", 3,
+                             {PLUMETHRIFT_URI, PLUMETHRIFT_LOCAL_NAME, PLUMETHRIFT_VALUE}},
+  [PLUMETHRIFT_END_ELEMENT] = {"end element", 0, {0}},
+  [PLUMETHRIFT_CHARACTERS] = {"characters", 1, {0}},
+  [PLUMETHRIFT_COMMENT] = {"comment", 1, {0}},
+  [PLUMETHRIFT_INSTRUCTION] = {"instruction", 2, {0, 1}},
 };
 
 /* Prints a string in quotes: printable ASCII as it is, any other code point as \u{hexadecimal}. */
@@ -53,22 +56,34 @@ static void print_string(plumethrift_string string) {
   putchar('"');
 }
 
-/* Prints the event in the seven cells at `event`, indented by `depth`. */
+/* Prints the event in the nine cells at `event`, indented by `depth`. */
 static void print_event(const uint32_t *event, unsigned depth, size_t code_points) {
   printf("%*s%s", (int)(2 * depth), "", kinds[event[0]].name);
-  for (unsigned i = 0; i < kinds[event[0]].strings; i++)
-    print_string(plumethrift_event_string(event, i, text, code_points));
+  for (unsigned i = 0; i < kinds[event[0]].count; i++)
+    print_string(plumethrift_event_string(event, kinds[event[0]].strings[i], text, code_points));
   putchar('\n');
 }
 
-/* Takes four digits as settings; 0 if they are no such. What they mean is the library's to say. */
+/* Takes digits as settings; 0 if they are no such. What they mean is the library's to say. */
 static int parse_settings(const char *digits, plumethrift_settings *settings) {
-  if (strlen(digits) != 4 || strspn(digits, "0123456789") != 4)
+  uint32_t numbers[10] = {0};
+  const size_t count = strlen(digits);
+  if (count == 0 || count > 10 || strspn(digits, "0123456789") != count)
     return 0;
-  settings->alignment = (uint32_t)(digits[0] - '0');
-  settings->cookie = (uint32_t)(digits[1] - '0');
-  settings->comments = (uint32_t)(digits[2] - '0');
-  settings->instructions = (uint32_t)(digits[3] - '0');
+  for (size_t i = 0; i < count; i++)
+    numbers[i] = (uint32_t)(digits[i] - '0');
+  *settings = (plumethrift_settings){
+    .alignment = numbers[0],
+    .cookie = numbers[1],
+    .comments = numbers[2],
+    .instructions = numbers[3],
+    .fragment = numbers[4],
+    .value_length = numbers[5],
+    .value_capacity = numbers[6],
+    .loose = numbers[7],
+    .prefixes = numbers[8],
+    .grammar_cap = numbers[9],
+  };
   return 1;
 }
 

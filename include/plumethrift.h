@@ -47,37 +47,51 @@ extern "C" {
 #endif
 
 /* Sizes to lend, at least. plumethrift_sizes answers the same numbers. */
-#define PLUMETHRIFT_EVENT_CELLS 28672       /* reader: events, 7 cells for each of 4,096 */
+#define PLUMETHRIFT_EVENT_CELLS 36864       /* reader: events, 9 cells for each of 4,096 */
 #define PLUMETHRIFT_TEXT_CELLS 16384        /* reader: text store, one code point a cell */
 #define PLUMETHRIFT_STREAM_OCTETS 16384     /* writer: octets; the reader takes no longer stream */
 #define PLUMETHRIFT_READER_WORK_CELLS 4096  /* reader: work memory */
 #define PLUMETHRIFT_WRITER_WORK_CELLS 20480 /* writer: work memory */
 
 /* Cells of one event. */
-#define PLUMETHRIFT_CELLS_PER_EVENT 7
+#define PLUMETHRIFT_CELLS_PER_EVENT 9
 
 /*
  * Settings of a stream. They travel outside it: reader and writer have to be given the same. A
  * number other than those named here is refused (SETTINGS). All zero, as from `= {0}`, is
- * bit-packed, no cookie, nothing kept.
+ * bit-packed, no cookie, nothing kept: name the members that differ, and leave out the others, as
+ * in `= {.alignment = PLUMETHRIFT_BYTE_ALIGNED}`.
+ *
+ * The last six are for what this version does not do: as yet, a number other than 0 is refused. The
+ * struct stays as it is when they get their meanings.
  */
 typedef struct plumethrift_settings {
-  uint32_t alignment;    /* PLUMETHRIFT_BIT_PACKED or PLUMETHRIFT_BYTE_ALIGNED */
-  uint32_t cookie;       /* 1: the stream begins with 24 45 58 49 ("$EXI"); 0: it does not */
-  uint32_t comments;     /* 1: comments are kept; 0: no list or stream has any */
-  uint32_t instructions; /* 1: processing instructions are kept; 0: no list or stream has any */
+  uint32_t alignment;      /* PLUMETHRIFT_BIT_PACKED or PLUMETHRIFT_BYTE_ALIGNED */
+  uint32_t cookie;         /* 1: the stream begins with 24 45 58 49 ("$EXI"); 0: it does not */
+  uint32_t comments;       /* 1: comments are kept; 0: no list or stream has any */
+  uint32_t instructions;   /* 1: processing instructions are kept; 0: no list or stream has any */
+  uint32_t fragment;       /* 0: a document, with one root */
+  uint32_t value_length;   /* PLUMETHRIFT_UNBOUNDED: values of any length join the tables */
+  uint32_t value_capacity; /* PLUMETHRIFT_UNBOUNDED: no value in the tables is replaced */
+  uint32_t loose;          /* 0: the reader takes strict forms alone */
+  uint32_t prefixes;       /* 0: prefixes are not kept */
+  uint32_t grammar_cap;    /* PLUMETHRIFT_UNBOUNDED: element grammars are not capped */
 } plumethrift_settings;
+
+/*
+ * Value length, value capacity and grammar cap are bounds: a bound n is given as n + 1, and 0 is
+ * none. The largest number stays as it is, so that no bound comes round to none.
+ */
+#define PLUMETHRIFT_UNBOUNDED 0
+#define PLUMETHRIFT_BOUND(n) \
+  ((uint32_t)(n) < UINT32_MAX ? (uint32_t)(n) + 1 : UINT32_MAX)
 
 enum plumethrift_alignment {
   PLUMETHRIFT_BIT_PACKED = 0, /* EXI's default */
   PLUMETHRIFT_BYTE_ALIGNED = 1
 };
 
-/*
- * The kind of an event, its cell 0. A string takes two cells: its place in the text store, and its
- * length. Cells 1 and 2 hold an event's first string, 3 and 4 its second, 5 and 6 its third; cells
- * that a kind does not use are 0. Seven zero cells are no event.
- */
+/* The kind of an event, its cell 0. */
 enum plumethrift_kind {
   PLUMETHRIFT_START_DOCUMENT = 1,
   PLUMETHRIFT_END_DOCUMENT = 2,
@@ -87,6 +101,19 @@ enum plumethrift_kind {
   PLUMETHRIFT_CHARACTERS = 6, /* text */
   PLUMETHRIFT_COMMENT = 7,    /* text */
   PLUMETHRIFT_INSTRUCTION = 8 /* target, text */
+};
+
+/*
+ * Which string of an event. Behind the kind there are four pairs of cells: string i has its place
+ * in the text store in cell 1 + 2 * i, and its length in cell 2 + 2 * i. The text of characters and
+ * of a comment is string 0; an instruction's target is 0, and its text 1. Pairs that a kind does
+ * not use are 0, and so is every prefix, since none are kept. Nine zero cells are no event.
+ */
+enum plumethrift_string_of_an_event {
+  PLUMETHRIFT_URI = 0,        /* start element, attribute */
+  PLUMETHRIFT_LOCAL_NAME = 1, /* start element, attribute */
+  PLUMETHRIFT_PREFIX = 2,
+  PLUMETHRIFT_VALUE = 3 /* attribute */
 };
 
 /*
@@ -120,7 +147,7 @@ enum plumethrift_refusal {
 typedef struct plumethrift_read_reply {
   uint32_t number;      /* 0, or the refusal's number */
   uint32_t index;       /* the event concerned by a refusal; 0 on success */
-  uint32_t events;      /* events written: the list is the first 7 * events of the event cells */
+  uint32_t events;      /* events written: the list is the first 9 * events of the event cells */
   uint32_t code_points; /* code points written: the store is the first so many of the text cells */
 } plumethrift_read_reply;
 
@@ -152,7 +179,7 @@ plumethrift_read_reply plumethrift_read(plumethrift_settings settings,
 
 /*
  * Writes the list that is all of `events`, with its strings in `text`: both are only read, and may
- * have any length. Where `event_cells` is no multiple of 7, the rest is one more event, which is
+ * have any length. Where `event_cells` is no multiple of 9, the rest is one more event, which is
  * SHAPE. `stream` and `work` are lent for writing, at least PLUMETHRIFT_STREAM_OCTETS octets and
  * PLUMETHRIFT_WRITER_WORK_CELLS cells. Refusals 1 to 3, 8, 11, 12, 14 and 15.
  *
@@ -187,9 +214,9 @@ typedef struct plumethrift_string {
 } plumethrift_string;
 
 /*
- * Looks up string `which` (0, 1 or 2: first, second or third) of the event in the seven cells at
- * `event`, in the store of `text_cells` cells at `text`. A string that lies outside the store is
- * the empty part at its start, and so is one that the kind does not have.
+ * Looks up string `which` (0 to 3, as PLUMETHRIFT_VALUE) of the event in the nine cells at `event`,
+ * in the store of `text_cells` cells at `text`. A string that lies outside the store is the empty
+ * part at its start, and so is one that the kind does not have. This function is ordinary C.
  */
 static inline plumethrift_string plumethrift_event_string(const uint32_t *event, unsigned which,
                                                           const uint32_t *text, size_t text_cells) {

@@ -1,81 +1,128 @@
 //! How an input of the fuzzer stands for a request.
 //!
-//! The first octet has the settings in its low four bits; with 64 set, the alignment has no
-//! meaning; with 128 set, the request is to write, else to read. To read, the rest is the stream.
-//! To write, the rest is numbers of 7 bits an octet, the least significant group first, the top bit
-//! set on all but the last: how many code points, the code points, then the events. An event is its
-//! kind and a place and a length for each of its strings; a kind without meaning is followed by
-//! nothing; [`RAW`] is followed by how many cells, at most seven, and the cells.
+//! The first octet has the first four settings in its low four bits; with 16 set, other settings'
+//! numbers follow; with 32 set, a part is lent short; with 64 set, the alignment has no meaning;
+//! with 128 set, the request is to write, else to read. Numbers take 7 bits an octet, the least
+//! significant group first, the top bit set on all but the last. The other settings are an octet
+//! whose low six bits say which of the six are not 0, and their numbers. A part is an octet: its
+//! remainder by how many parts there are. To read, the rest is the stream. To write, the rest is
+//! numbers: how many code points, the code points, then the events. An event is its kind and a
+//! place and a length for each of its strings; a kind without meaning is followed by nothing;
+//! [`RAW`] is followed by how many cells, at most nine, and the cells.
 
 #![forbid(unsafe_code)]
 
 use compare::event::{stored_strings, strings_of, Stored, CELLS};
-use compare::lent::Settings;
+use compare::lent::{ReaderPart, Settings, WriterPart};
 use compare::protocol::Request;
 
+const OTHER_SETTINGS: u8 = 16;
+const SHORT: u8 = 32;
 const NO_ALIGNMENT: u8 = 64;
 const WRITE: u8 = 128;
+
+const READER_PARTS: [ReaderPart; 3] = [ReaderPart::Events, ReaderPart::Text, ReaderPart::Work];
+const WRITER_PARTS: [WriterPart; 2] = [WriterPart::Octets, WriterPart::Work];
 
 /// In place of a kind: cells as they are.
 pub const RAW: u32 = 127;
 
 pub fn request(input: &[u8]) -> Option<Request> {
     let (&first, rest) = input.split_first()?;
-    let bit = |k: u32| u32::from(first >> k & 1);
-    let settings = Settings {
-        alignment: if first & NO_ALIGNMENT == 0 { bit(0) } else { 2 },
-        cookie: bit(1),
-        comments: bit(2),
-        instructions: bit(3),
+    let mut numbers = Numbers { octets: rest };
+    let settings = settings(first, &mut numbers);
+    let short = if first & SHORT == 0 {
+        None
+    } else {
+        Some(usize::from(numbers.octet()))
     };
     Some(if first & WRITE == 0 {
         Request::Read {
             settings,
-            stream: rest.to_vec(),
+            short: short.map(|part| READER_PARTS[part % READER_PARTS.len()]),
+            stream: numbers.octets.to_vec(),
         }
     } else {
         Request::Write {
             settings,
-            list: list(rest),
+            short: short.map(|part| WRITER_PARTS[part % WRITER_PARTS.len()]),
+            list: list(&mut numbers),
         }
     })
 }
 
+fn settings(first: u8, numbers: &mut Numbers) -> Settings {
+    let mut all = [0; 10];
+    for (k, number) in all[..4].iter_mut().enumerate() {
+        *number = u32::from(first >> k & 1);
+    }
+    if first & NO_ALIGNMENT != 0 {
+        all[0] = 2;
+    }
+    if first & OTHER_SETTINGS != 0 {
+        let which = numbers.octet();
+        for (k, number) in all[4..].iter_mut().enumerate() {
+            if which >> k & 1 == 1 {
+                *number = numbers.next().unwrap_or(0);
+            }
+        }
+    }
+    Settings::from_numbers(all)
+}
+
 /// The input that stands for a request, if there is one.
 pub fn input(request: &Request) -> Option<Vec<u8>> {
-    let settings = match request {
-        Request::Read { settings, .. } | Request::Write { settings, .. } => settings,
+    let (settings, short) = match request {
+        Request::Read {
+            settings, short, ..
+        } => {
+            let place = |part| READER_PARTS.iter().position(|known| *known == part);
+            (settings, short.and_then(place))
+        }
+        Request::Write {
+            settings, short, ..
+        } => {
+            let place = |part| WRITER_PARTS.iter().position(|known| *known == part);
+            (settings, short.and_then(place))
+        }
     };
-    let numbers = [
-        settings.alignment,
-        settings.cookie,
-        settings.comments,
-        settings.instructions,
-    ];
-    let mut first = 0;
-    for (k, number) in numbers.into_iter().enumerate() {
+    let mut input = vec![0];
+    put_settings(&mut input, *settings)?;
+    if let Some(part) = short {
+        input[0] |= SHORT;
+        input.push(part as u8);
+    }
+    match request {
+        Request::Read { stream, .. } => input.extend(stream),
+        Request::Write { list, .. } => {
+            input[0] |= WRITE;
+            put_list(&mut input, list);
+        }
+    }
+    Some(input)
+}
+
+fn put_settings(input: &mut Vec<u8>, settings: Settings) -> Option<()> {
+    let numbers = settings.numbers();
+    for (k, &number) in numbers[..4].iter().enumerate() {
         match number {
-            0 | 1 => first |= (number as u8) << k,
-            _ if k == 0 => first |= NO_ALIGNMENT,
+            0 | 1 => input[0] |= (number as u8) << k,
+            _ if k == 0 => input[0] |= NO_ALIGNMENT,
             _ => return None,
         }
     }
-    match request {
-        Request::Read { stream, .. } => {
-            let mut input = vec![first];
-            input.extend(stream);
-            Some(input)
-        }
-        Request::Write { list, .. } => {
-            let mut input = vec![first | WRITE];
-            put_list(&mut input, list);
-            Some(input)
-        }
+    let others = &numbers[4..];
+    if others.iter().any(|&number| number != 0) {
+        input[0] |= OTHER_SETTINGS;
+        let which = |which: u8, (k, &number): (usize, &u32)| which | u8::from(number != 0) << k;
+        input.push(others.iter().enumerate().fold(0, which));
+        let given = others.iter().filter(|&&number| number != 0);
+        given.for_each(|&number| put(input, number));
     }
+    Some(())
 }
 
-fn list(octets: &[u8]) -> Stored {
-    let mut numbers = Numbers { octets };
+fn list(numbers: &mut Numbers) -> Stored {
     let count = numbers.next().unwrap_or(0) as usize;
     let mut list = Stored {
         cells: Vec::new(),
@@ -95,12 +142,13 @@ fn list(octets: &[u8]) -> Stored {
             }
             continue;
         }
-        let end = list.cells.len() + CELLS;
-        list.cells.push(kind);
-        for _ in 0..2 * strings_of(kind).unwrap_or(0) {
-            list.cells.push(numbers.next().unwrap_or(0));
+        let mut event = [0; CELLS];
+        event[0] = kind;
+        for &at in strings_of(kind).unwrap_or(&[]) {
+            event[at] = numbers.next().unwrap_or(0);
+            event[at + 1] = numbers.next().unwrap_or(0);
         }
-        list.cells.resize(end, 0);
+        list.cells.extend(event);
     }
     list
 }
@@ -110,9 +158,13 @@ fn put_list(input: &mut Vec<u8>, list: &Stored) {
     list.store.iter().for_each(|&number| put(input, number));
     for cells in list.cells.chunks(CELLS) {
         match stored_strings(cells) {
-            Some(strings) => cells[..1 + 2 * strings]
-                .iter()
-                .for_each(|&number| put(input, number)),
+            Some(strings) => {
+                put(input, cells[0]);
+                for &at in strings {
+                    put(input, cells[at]);
+                    put(input, cells[at + 1]);
+                }
+            }
             None => {
                 put(input, RAW);
                 put(input, cells.len() as u32);
@@ -136,6 +188,15 @@ struct Numbers<'a> {
 }
 
 impl Numbers<'_> {
+    /// The next octet as it is; 0 at the end.
+    fn octet(&mut self) -> u8 {
+        let Some((&octet, rest)) = self.octets.split_first() else {
+            return 0;
+        };
+        self.octets = rest;
+        octet
+    }
+
     fn next(&mut self) -> Option<u32> {
         let mut number = 0u32;
         let mut shift = 0;
@@ -164,6 +225,9 @@ mod tests {
             "r 2 1 0 1 -",
             "w 0 1 1 1 SD,SE:0:0:0:1,AT:4294967295:1:2:3:4:5,BAD2,BAD,CM:300:7,PI:1:1:1:1,EE,ED 61,ffffffff,0",
             "w 1 0 0 0 - -",
+            "r 2 0 0 0 fragment=1 vmax=0 vcap=4294967294 loose=7 prefixes=300 cap=5 short=work 80",
+            "r 1 0 0 0 cap=0 short=events -",
+            "w 1 1 0 0 vmax=70000 short=octets BAD 61",
         ];
         for line in requests {
             let wanted = Request::parse(line).expect(line);

@@ -6,6 +6,7 @@
 use std::cell::RefCell;
 
 use compare::check::Comparison;
+use compare::lent::{ReaderSizes, WriterSizes};
 use compare::protocol::Request;
 
 thread_local! {
@@ -28,8 +29,26 @@ pub unsafe extern "C" fn LLVMFuzzerTestOneInput(place: *const u8, length: usize)
     let checked = BOTH.with(|both| {
         let mut both = both.borrow_mut();
         match &request {
-            Request::Read { settings, stream } => both.read_and_back(*settings, stream).map(|_| ()),
-            Request::Write { settings, list } => both.write_and_back(*settings, list).map(|_| ()),
+            Request::Read {
+                settings,
+                short: Some(part),
+                stream,
+            } => both
+                .read(*settings, stream, ReaderSizes::short(*part))
+                .map(|_| ()),
+            Request::Write {
+                settings,
+                short: Some(part),
+                list,
+            } => both
+                .write(*settings, list, WriterSizes::short(*part))
+                .map(|_| ()),
+            Request::Read {
+                settings, stream, ..
+            } => both.read_and_back(*settings, stream).map(|_| ()),
+            Request::Write { settings, list, .. } => {
+                both.write_and_back(*settings, list).map(|_| ())
+            }
         }
     });
     if let Err(error) = checked {

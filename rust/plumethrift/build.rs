@@ -17,7 +17,9 @@ fn main() {
         Some(named) => named_folder(PathBuf::from(named)),
         None => repository_folder(),
     };
-    println!("cargo:rerun-if-changed={}", folder.join(ARCHIVE).display());
+    let archive = folder.join(ARCHIVE);
+    println!("cargo:rerun-if-changed={}", archive.display());
+    println!("cargo:rustc-env=PLUMETHRIFT_ARCHIVE={}", archive.display()); // for the tests
     println!("cargo:rustc-link-search=native={}", folder.display());
     println!("cargo:rustc-link-lib=static=plumethrift");
 }

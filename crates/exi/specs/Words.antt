@@ -44,7 +44,18 @@ taken a place option at =
     (record { flags = a .flags; file = a .file; wrong = at })
     (record { flags = a .flags; file = at; wrong = a .wrong }))
 
--- Bit-packed unless byte-aligned is given.
+-- Bit-packed unless byte-aligned is given. What has no flag is at its base.
 abbrev pub numbersOf : List ℕ → SettingNumbers
 numbersOf flags =
-    record { alignment = getD flags 1 0; cookie = getD flags 2 0; comments = getD flags 3 0; instructions = getD flags 4 0 }
+    record {
+      alignment = getD flags 1 0;
+      cookie = getD flags 2 0;
+      comments = getD flags 3 0;
+      instructions = getD flags 4 0;
+      fragment = 0;
+      «value_length» = 0;
+      «value_capacity» = 0;
+      loose = 0;
+      prefixes = 0;
+      «grammar_cap» = 0;
+    }

@@ -9,6 +9,10 @@ mod words;
 use libc::STDERR_FILENO;
 use libc::STDOUT_FILENO;
 use settings::SettingNumbers;
+use sizes::EVENT_CELLS;
+use sizes::MAX_STORE;
+use sizes::MAX_STREAM;
+use sizes::READER_WORK;
 use words::Asked;
 
 // The verdict on a stream, and its events before it where they are to be shown.
@@ -32,9 +36,9 @@ fn judge(
 }
 
 fn judge_stream(shows: bool, s: SettingNumbers, stream: &[u8]) {
-    let mut cells = [0u32; 28672];
-    let mut store = [0u32; 16384];
-    let mut work = [0u32; 4096];
+    let mut cells = [0u32; EVENT_CELLS];
+    let mut store = [0u32; MAX_STORE];
+    let mut work = [0u32; READER_WORK];
     judge(shows, s, stream, &mut cells, &mut store, &mut work);
 }
 
@@ -45,7 +49,7 @@ fn judge_file(shows: bool, s: SettingNumbers, name: &[u8]) {
         say::unread(name);
         return;
     }
-    let mut stream = [0u8; 16385];
+    let mut stream = [0u8; MAX_STREAM + 1];
     let got = input::fill(fd, &mut stream);
     if got.failed {
         say::unread(name);

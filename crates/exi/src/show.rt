@@ -6,6 +6,7 @@ use event::Event;
 use event::Loaded;
 use event::Part;
 use libc::STDOUT_FILENO;
+use sizes::CELLS_PER_EVENT;
 
 // How a code point is shown: as it is, as a letter behind a backslash, or as its number.
 enum Shown {
@@ -159,8 +160,8 @@ pub(crate) fn events(cells: &[u32], n: u32, store: &[u32]) {
     let mut depth = 0;
     let mut i: u32 = 0;
     while i < n {
-        let at = 7 * i as usize;
-        if cells.len() < at + 7 {
+        let at = CELLS_PER_EVENT * i as usize;
+        if cells.len() < at + CELLS_PER_EVENT {
             return;
         }
         depth = put_loaded(event::load(cells, at), store, depth);

@@ -113,7 +113,7 @@ pub(crate) fn read_words(count: usize) -> Asked {
     a
 }
 
-// The settings that the flags mean.
+// The settings that the flags mean. What has no flag is at its base.
 pub(crate) fn numbers(flags: [u32; 6]) -> SettingNumbers
     ensures { λ r. ⌜ r ≡ numbersOf flags ⌝ }
 {
@@ -122,5 +122,11 @@ pub(crate) fn numbers(flags: [u32; 6]) -> SettingNumbers
         cookie: flags[COOKIE],
         comments: flags[COMMENTS],
         instructions: flags[INSTRUCTIONS],
+        fragment: 0,
+        value_length: 0,
+        value_capacity: 0,
+        loose: 0,
+        prefixes: 0,
+        grammar_cap: 0,
     }
 }

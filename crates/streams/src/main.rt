@@ -5,7 +5,8 @@
 //     l PLACE LENGTH STORE     looks a string up
 //     # ..                     is written out as it is
 //
-// A, K, C and P are the settings' numbers: alignment, cookie, comments, instructions. HEX has two hexadecimal digits for each octet. STORE has code
+// A, K, C and P are the settings' numbers: alignment, cookie, comments, instructions. Behind them the other settings may be named, in this order:
+// fragment=N vmax=N vcap=N loose=N prefixes=N cap=N; vmax, vcap and cap are bounds. HEX has two hexadecimal digits for each octet. STORE has code
 // points in hexadecimal, with commas between. EVENTS has events with commas between: SD, ED, EE, SE, AT, CH, CM, PI, each with `:place:length` for each
 // of its strings, in decimal; BAD is a stored event of no kind, BAD2 a stored end element with data. `-` stands for nothing. There is room for 65,535
 // octets of a line, 20,000 octets, 5,000 events and 20,000 code points.
@@ -20,6 +21,12 @@ use parse::Laid;
 use parse::Numeral;
 use read_body::ReadReply;
 use settings::SettingNumbers;
+use sizes::CELLS_PER_EVENT;
+use sizes::EVENT_CELLS;
+use sizes::MAX_STORE;
+use sizes::MAX_STREAM;
+use sizes::READER_WORK;
+use sizes::WRITER_WORK;
 use writer::WriteReply;
 
 struct Request {
@@ -33,15 +40,15 @@ fn show_read(r: ReadReply, cells: &[u32], store: &[u32], work: &[u32]) {
     print::head(r.number, r.index, b" - -");
     let are_events = print::events(cells, r.events);
     let is_text = print::code_points(store, 0, r.code_points as usize);
-    let are_zero = print::code_points(cells, 7 * r.events as usize, 0);
+    let are_zero = print::code_points(cells, CELLS_PER_EVENT * r.events as usize, 0);
     print::end(are_events & is_text & are_zero & print::code_points(work, 0, 0));
 }
 
 // Calls the reader, with 3 cells more than the sizes of each part.
 fn read(s: SettingNumbers, stream: &[u8]) {
-    let mut cells = [CELL; 28675];
-    let mut store = [CELL; 16387];
-    let mut work = [CELL; 4099];
+    let mut cells = [CELL; EVENT_CELLS + 3];
+    let mut store = [CELL; MAX_STORE + 3];
+    let mut work = [CELL; READER_WORK + 3];
     let r = reader::read(s, stream, &mut cells, &mut store, &mut work);
     show_read(r, &cells, &store, &work);
 }
@@ -54,8 +61,8 @@ fn show_written(r: WriteReply, stream: &[u8], work: &[u32]) {
 
 // The same for the writer.
 fn write(s: SettingNumbers, cells: &[u32], text: &[u32]) {
-    let mut stream = [0xA5u8; 16387];
-    let mut work = [CELL; 20483];
+    let mut stream = [0xA5u8; MAX_STREAM + 3];
+    let mut work = [CELL; WRITER_WORK + 3];
     let r = writer::write(s, &mut stream, cells, text, &mut work);
     show_written(r, &stream, &work);
 }
@@ -79,20 +86,74 @@ fn setting(line: &[u8], at: usize) -> Numeral {
     parse::number(line, parse::after(line, at, b' '), 10)
 }
 
+// A number behind a name; 0 where the name is not there.
+fn named(line: &[u8], at: usize, name: &[u8]) -> Numeral {
+    let from = parse::after_word(line, at, name);
+    if from == 0 {
+        return Numeral { value: 0, next: at };
+    }
+    parse::number(line, from, 10)
+}
+
+// The largest number stays as it is.
+fn one_more(n: u32) -> u32 {
+    if n < u32::MAX {
+        return n + 1;
+    }
+    n
+}
+
+// A bound behind a name, as one more; 0 where the name is not there.
+fn bound(line: &[u8], at: usize, name: &[u8]) -> Numeral {
+    let n = named(line, at, name);
+    if n.next == at {
+        return n;
+    }
+    Numeral {
+        value: one_more(n.value),
+        next: n.next,
+    }
+}
+
+// The settings that are named, beside those that are not.
+fn with_names(s: SettingNumbers, line: &[u8], at: usize) -> Request {
+    let f = named(line, at, b" fragment=");
+    let m = bound(line, f.next, b" vmax=");
+    let v = bound(line, m.next, b" vcap=");
+    let l = named(line, v.next, b" loose=");
+    let p = named(line, l.next, b" prefixes=");
+    let c = bound(line, p.next, b" cap=");
+    let mut numbers = s;
+    numbers.fragment = f.value;
+    numbers.value_length = m.value;
+    numbers.value_capacity = v.value;
+    numbers.loose = l.value;
+    numbers.prefixes = p.value;
+    numbers.grammar_cap = c.value;
+    Request {
+        numbers,
+        next: parse::after(line, c.next, b' '),
+    }
+}
+
 fn asked(line: &[u8]) -> Request {
     let a = setting(line, 1);
     let k = setting(line, a.next);
     let c = setting(line, k.next);
     let p = setting(line, c.next);
-    Request {
-        numbers: SettingNumbers {
-            alignment: a.value,
-            cookie: k.value,
-            comments: c.value,
-            instructions: p.value,
-        },
-        next: parse::after(line, p.next, b' '),
-    }
+    let numbers = SettingNumbers {
+        alignment: a.value,
+        cookie: k.value,
+        comments: c.value,
+        instructions: p.value,
+        fragment: 0,
+        value_length: 0,
+        value_capacity: 0,
+        loose: 0,
+        prefixes: 0,
+        grammar_cap: 0,
+    };
+    with_names(numbers, line, p.next)
 }
 
 // Nothing, where a dash stands for it; else what was laid.
@@ -121,7 +182,7 @@ fn answer_read(line: &[u8]) -> bool {
 
 fn answer_write(line: &[u8]) -> bool {
     let a = asked(line);
-    let mut cells = [0u32; 35000];
+    let mut cells = [0u32; 5000 * CELLS_PER_EVENT];
     let mut store = [0u32; 20000];
     let e = laid_at(line, a.next, parse::events(line, a.next, &mut cells));
     let t = store_at(line, parse::after(line, e.next, b' '), &mut store);

@@ -3,6 +3,7 @@
 ghost use mathlib.Core.Path.{_≡_};
 ghost use Prim.Native.Nat.{_+_, _≤_};
 ghost use lib.ListN.{length};
+use sizes::CELLS_PER_EVENT;
 use std::num::wrapping_add_usize;
 
 pub(crate) struct Numeral {
@@ -29,6 +30,20 @@ pub(crate) fn after(s: &[u8], at: usize, b: u8) -> usize
         }
     }
     0
+}
+
+// The place behind all of `word`.
+pub(crate) fn after_word(s: &[u8], from: usize, word: &[u8]) -> usize {
+    let mut at = from;
+    let mut i = 0;
+    while i < word.len() {
+        at = after(s, at, word[i]);
+        if at == 0 {
+            return 0;
+        }
+        i += 1;
+    }
+    at
 }
 
 // The value of a digit, of a base up to 36 and in either case; 36 for anything else.
@@ -189,13 +204,31 @@ fn put(cells: &mut [u32], n: usize, x: u32, is_wanted: bool) {
     }
 }
 
+pub(crate) fn cell(cells: &[u32], n: usize) -> u32 {
+    if n < cells.len() {
+        return cells[n];
+    }
+    0
+}
+
+// An attribute's value lies behind the place of a prefix, which is left empty.
+fn put_value(cells: &mut [u32], n: usize, is_attribute: bool) {
+    let place = cell(cells, wrapping_add_usize(n, 5));
+    let size = cell(cells, wrapping_add_usize(n, 6));
+    put(cells, wrapping_add_usize(n, 5), 0, is_attribute);
+    put(cells, wrapping_add_usize(n, 6), 0, is_attribute);
+    put(cells, wrapping_add_usize(n, 7), place, is_attribute);
+    put(cells, wrapping_add_usize(n, 8), size, is_attribute);
+}
+
 // An event, into the cells from `n` on: its word, and two numbers for each string.
 fn event(s: &[u8], at: usize, cells: &mut [u32], n: usize) -> usize {
     let word = number(s, at, 36).value;
     let k = kind(word);
     let l = numbers(s, at, b':', 36, 10, cells, n);
     put(cells, n, k, true);
-    put(cells, wrapping_add_usize(n, 6), 1, word == BAD2);
+    put_value(cells, n, k == 4);
+    put(cells, wrapping_add_usize(n, 8), 1, word == BAD2);
     let count = wrapping_add_usize(n, 1 + 2 * strings(k));
     if (k == 0) | (l.count != count) {
         return 0;
@@ -206,9 +239,9 @@ fn event(s: &[u8], at: usize, cells: &mut [u32], n: usize) -> usize {
 pub(crate) fn events(s: &[u8], from: usize, cells: &mut [u32]) -> Laid {
     let mut at = from;
     let mut n: usize = 0;
-    while 7 <= cells.len() - n {
+    while CELLS_PER_EVENT <= cells.len() - n {
         let next = event(s, at, cells, n);
-        n += 7;
+        n += CELLS_PER_EVENT;
         at = after(s, next, b',');
         if at == 0 {
             return Laid { count: n, next };

@@ -1,5 +1,7 @@
 // An answer, word by word, and whether memory is as it has to be.
+use crate::parse::cell;
 use crate::parse::strings;
+use sizes::CELLS_PER_EVENT;
 use std::num::wrapping_add_usize;
 
 // The two letters of each kind of event.
@@ -38,13 +40,6 @@ pub(crate) fn end(is_clean: bool) {
     io::write_all(1, b"\n");
 }
 
-fn cell(cells: &[u32], n: usize) -> u32 {
-    if n < cells.len() {
-        return cells[n];
-    }
-    0
-}
-
 // Tells whether it is a kind.
 fn kind(k: u32) -> bool {
     let i = k as usize;
@@ -76,7 +71,8 @@ fn event(cells: &[u32], at: usize) -> bool {
     kind(k)
         & string(cells, wrapping_add_usize(at, 1), 0 < n)
         & string(cells, wrapping_add_usize(at, 3), 1 < n)
-        & string(cells, wrapping_add_usize(at, 5), 2 < n)
+        & string(cells, wrapping_add_usize(at, 5), false)
+        & string(cells, wrapping_add_usize(at, 7), 2 < n)
 }
 
 // Events. Tells whether they are events.
@@ -84,7 +80,7 @@ pub(crate) fn events(cells: &[u32], n: u32) -> bool {
     let mut is_clean = true;
     let mut i: u32 = 0;
     while i < n {
-        is_clean = is_clean & event(cells, 7 * i as usize);
+        is_clean = is_clean & event(cells, CELLS_PER_EVENT * i as usize);
         i += 1;
     }
     is_clean

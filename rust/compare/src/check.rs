@@ -23,16 +23,6 @@ impl Default for Comparison {
     }
 }
 
-fn read_request(settings: Settings, stream: &[u8]) -> Request {
-    let stream = stream.to_vec();
-    Request::Read { settings, stream }
-}
-
-fn write_request(settings: Settings, list: &Stored) -> Request {
-    let list = list.clone();
-    Request::Write { settings, list }
-}
-
 impl Comparison {
     pub fn new() -> Comparison {
         Comparison {
@@ -70,7 +60,7 @@ impl Comparison {
         };
         Err(format!(
             "{}\nlent: {sizes:?}\n{problem}\nlibrary: {reply:?}\nordinary: {other_reply:?}",
-            read_request(settings, stream)
+            Request::read(settings, stream)
         ))
     }
 
@@ -112,7 +102,7 @@ impl Comparison {
         };
         Err(format!(
             "{}\nlent: {sizes:?}\n{cells}{problem}\nlibrary: {reply:?}\nordinary: {other_reply:?}",
-            write_request(settings, list)
+            Request::write(settings, list)
         ))
     }
 
@@ -135,15 +125,15 @@ impl Comparison {
         settings: Settings,
         stream: &[u8],
     ) -> Result<ReadReply, String> {
-        let reply = self.read(settings, stream, ReaderSizes::USUAL)?;
+        let reply = self.read(settings, stream, ReaderSizes::usual())?;
         if reply.number != 0 {
             return Ok(reply);
         }
-        let failed = |what: &str| format!("{}\n{what}", read_request(settings, stream));
+        let failed = |what: &str| format!("{}\n{what}", Request::read(settings, stream));
         let list = self
             .list_read(&reply)
             .ok_or_else(|| failed("counts beyond the memory"))?;
-        let written = self.write(settings, &list, WriterSizes::USUAL)?;
+        let written = self.write(settings, &list, WriterSizes::usual())?;
         if written.number != 0 {
             return Err(failed(&format!("read and not written again: {written:?}")));
         }
@@ -159,16 +149,16 @@ impl Comparison {
         settings: Settings,
         list: &Stored,
     ) -> Result<WriteReply, String> {
-        let reply = self.write(settings, list, WriterSizes::USUAL)?;
+        let reply = self.write(settings, list, WriterSizes::usual())?;
         if reply.number != 0 {
             return Ok(reply);
         }
-        let failed = |what: &str| format!("{}\n{what}", write_request(settings, list));
+        let failed = |what: &str| format!("{}\n{what}", Request::write(settings, list));
         let octets = self
             .octets_written(&reply)
             .ok_or_else(|| failed("counts beyond the memory"))?
             .to_vec();
-        let read = self.read(settings, &octets, ReaderSizes::USUAL)?;
+        let read = self.read(settings, &octets, ReaderSizes::usual())?;
         if read.number != 0 {
             return Err(failed(&format!("written and not read again: {read:?}")));
         }
@@ -185,7 +175,7 @@ pub fn read_is_refused(settings: Settings, stream: &[u8], number: u32, index: u3
     for codec in BOTH {
         let mut memory = ReaderMemory::new();
         let reply = memory.read(codec, settings, stream);
-        let what = format!("{codec:?}: {}", read_request(settings, stream));
+        let what = format!("{codec:?}: {}", Request::read(settings, stream));
         assert_eq!((reply.number, reply.index), (number, index), "{what}");
         assert_eq!(memory.fault(&reply), None, "{what}");
     }
@@ -196,7 +186,7 @@ pub fn write_is_refused(settings: Settings, list: &Stored, number: u32, index: u
     for codec in BOTH {
         let mut memory = WriterMemory::new();
         let reply = memory.write(codec, settings, &list.cells, &list.store);
-        let what = format!("{codec:?}: {}", write_request(settings, list));
+        let what = format!("{codec:?}: {}", Request::write(settings, list));
         assert_eq!((reply.number, reply.index), (number, index), "{what}");
         assert_eq!(memory.fault(&reply), None, "{what}");
     }
@@ -206,7 +196,7 @@ pub fn write_is_refused(settings: Settings, list: &Stored, number: u32, index: u
 /// read, as this stream.
 pub fn is_strict_form(settings: Settings, stream: &[u8], list: &[Event]) {
     for codec in BOTH {
-        let what = format!("{codec:?}: {}", read_request(settings, stream));
+        let what = format!("{codec:?}: {}", Request::read(settings, stream));
         let mut memory = ReaderMemory::new();
         let reply = memory.read(codec, settings, stream);
         assert_eq!((reply.number, reply.index), (0, 0), "{what}");

@@ -2,14 +2,15 @@
 
 use crate::encode::{encode_loosely, unsigned_octets, width, Encoded, Field, Loose, Role, Shape};
 use crate::event::{
-    strings_of, text, Event, Stored, ATTRIBUTE, CELLS, COMMENT, END_DOCUMENT, END_ELEMENT,
-    INSTRUCTION, START_ELEMENT, XSI_URI,
+    strings_of, text, unused_cells, Event, Stored, ATTRIBUTE, CELLS, COMMENT, END_DOCUMENT,
+    END_ELEMENT, INSTRUCTION, START_ELEMENT, XSI_URI,
 };
 use crate::generate::NO_CHARS;
 use crate::lent::{
     CHARACTER, CODE, ENDED, HEADER, LIMIT, LOOSE, NAME, NUMBER, PLACE, REFERENCE, SHAPE, TAIL,
 };
 use crate::prng::Prng;
+use crate::sizes::MAX_STRING;
 
 /// A fault in the strict form of a list that is inside the limits.
 #[derive(Clone, Copy, Debug, PartialEq, Eq, Hash, PartialOrd, Ord)]
@@ -201,8 +202,8 @@ fn not_a_number(rng: &mut Prng, value: u32) -> (StreamFault, Shape, u32) {
 
 fn string_fault(rng: &mut Prng, role: Role) -> Option<(StreamFault, Shape, u32)> {
     let length = match rng.below(3) {
-        0 => 1_025,
-        1 => rng.between(1_025, 70_000) as u32,
+        0 => MAX_STRING as u32 + 1,
+        1 => rng.between(MAX_STRING + 1, 70_000) as u32,
         _ => 2_147_483_645,
     };
     let (fault, value, number) = match role {
@@ -366,11 +367,8 @@ pub fn faulty_list(rng: &mut Prng, list: &Stored) -> Option<FaultyList> {
             (SHAPE, at)
         }
         ListFault::UnusedCell => {
-            let used = 1 + 2 * strings_of(list.cells[at * CELLS])?;
-            if used == CELLS {
-                return None;
-            }
-            let cell = rng.between(used, CELLS - 1);
+            let unused: Vec<usize> = unused_cells(list.cells[at * CELLS])?.collect();
+            let cell = *rng.pick(&unused);
             list.cells[at * CELLS + cell] = *rng.pick(&[1, 2, 1 << 16, 1 << 31, u32::MAX]);
             (SHAPE, at)
         }
@@ -425,10 +423,10 @@ pub fn faulty_list(rng: &mut Prng, list: &Stored) -> Option<FaultyList> {
         ListFault::DroppedKind => return None,
         ListFault::OutsideTheStore => {
             let strings = strings_of(list.cells[at * CELLS])?;
-            if strings == 0 {
+            if strings.is_empty() {
                 return None;
             }
-            let first = at * CELLS + 1 + 2 * rng.below(strings);
+            let first = at * CELLS + rng.pick(strings);
             let end = list.store.len() as u32;
             let (place, length) = match rng.below(6) {
                 0 => (end + 1, 0),
@@ -454,18 +452,18 @@ pub fn faulty_list(rng: &mut Prng, list: &Stored) -> Option<FaultyList> {
             (CHARACTER, at)
         }
         ListFault::StringTooLong => {
-            let length = rng.between(1_025, 1_030);
+            let length = rng.between(MAX_STRING + 1, MAX_STRING + 6);
             let code_point = *rng.pick(&[97, 0]);
             list.replace_string(rng, at, &vec![code_point; length])?;
             (LIMIT, at)
         }
         ListFault::EmptyName => {
-            let string = match list.cells[at * CELLS] {
-                START_ELEMENT | ATTRIBUTE => 1,
-                INSTRUCTION => 0,
+            let name = match list.cells[at * CELLS] {
+                START_ELEMENT | ATTRIBUTE => 3,
+                INSTRUCTION => 1,
                 _ => return None,
             };
-            list.cells[at * CELLS + 2 + 2 * string] = 0;
+            list.cells[at * CELLS + name + 1] = 0;
             (NAME, at)
         }
         ListFault::NilOrType => {
@@ -473,8 +471,8 @@ pub fn faulty_list(rng: &mut Prng, list: &Stored) -> Option<FaultyList> {
                 return None;
             }
             let name = if rng.one_in(2) { "nil" } else { "type" };
-            list.set_string(at, 0, &text(XSI_URI));
-            list.set_string(at, 1, &text(name));
+            list.set_string(at, 1, &text(XSI_URI));
+            list.set_string(at, 3, &text(name));
             (NAME, at)
         }
     };
@@ -502,18 +500,24 @@ impl Stored {
             .rposition(|event| event[0] == END_ELEMENT)
     }
 
+    /// Puts an event before another. Strings that the kind does not have are laid in the cells
+    /// behind those of its own.
     fn insert(&mut self, at: usize, kind: u32, strings: &[&[u32]]) {
-        let mut event = vec![kind];
-        for string in strings {
-            event.extend([self.store.len() as u32, string.len() as u32]);
+        let own = strings_of(kind).unwrap_or(&[]);
+        let others = [1, 3, 5, 7].into_iter().filter(|cell| !own.contains(cell));
+        let mut event = [0; CELLS];
+        event[0] = kind;
+        for (cell, string) in own.iter().copied().chain(others).zip(strings) {
+            event[cell] = self.store.len() as u32;
+            event[cell + 1] = string.len() as u32;
             self.store.extend(*string);
         }
-        event.resize(CELLS, 0);
         self.cells.splice(at * CELLS..at * CELLS, event);
     }
 
-    fn set_string(&mut self, event: usize, string: usize, text: &[u32]) {
-        let first = event * CELLS + 1 + 2 * string;
+    /// Lays a string anew, whose place is in this cell of an event.
+    fn set_string(&mut self, event: usize, cell: usize, text: &[u32]) {
+        let first = event * CELLS + cell;
         self.cells[first] = self.store.len() as u32;
         self.cells[first + 1] = text.len() as u32;
         self.store.extend(text);
@@ -521,11 +525,11 @@ impl Stored {
 
     fn replace_string(&mut self, rng: &mut Prng, event: usize, text: &[u32]) -> Option<()> {
         let strings = strings_of(self.cells[event * CELLS])?;
-        if strings == 0 {
+        if strings.is_empty() {
             return None;
         }
-        let string = rng.below(strings);
-        self.set_string(event, string, text);
+        let cell = *rng.pick(strings);
+        self.set_string(event, cell, text);
         Some(())
     }
 }
@@ -573,9 +577,9 @@ pub fn damaged_list(rng: &mut Prng, list: &Stored) -> Stored {
             8 => list.insert(at, rng.between(1, 8) as u32, &[&[], &[97], &[98, 99]]),
             9 => {
                 let kind = rng.between(1, 8) as u32;
-                let strings = strings_of(kind).unwrap_or(0);
+                let strings = strings_of(kind).unwrap_or(&[]);
                 let texts: [&[u32]; 3] = [&[97], &[97], &[98, 99]];
-                list.insert(at, kind, &texts[..strings]);
+                list.insert(at, kind, &texts[..strings.len()]);
             }
             _ => {}
         }

@@ -17,8 +17,8 @@ pub enum Event {
     Instruction { target: Text, text: Text },
 }
 
-/// Cells of one event: its kind, then a place and a length for each of at most three strings.
-pub const CELLS: usize = 7;
+/// Cells of one event: its kind, then four pairs, each the place and the length of a string.
+pub const CELLS: usize = plumethrift::lent::CELLS_PER_EVENT;
 
 pub const START_DOCUMENT: u32 = 1;
 pub const END_DOCUMENT: u32 = 2;
@@ -74,28 +74,34 @@ pub fn document(events: Vec<Event>) -> Vec<Event> {
     all
 }
 
-/// How many strings a kind has; none for a kind without meaning.
-pub fn strings_of(kind: u32) -> Option<usize> {
+/// The first of the two cells of each string that a kind has; none for a kind without meaning.
+/// Cells 5 and 6 are a prefix's, of which none are kept; behind them is an attribute's value.
+pub fn strings_of(kind: u32) -> Option<&'static [usize]> {
     match kind {
-        START_DOCUMENT | END_DOCUMENT | END_ELEMENT => Some(0),
-        CHARACTERS | COMMENT => Some(1),
-        START_ELEMENT | INSTRUCTION => Some(2),
-        ATTRIBUTE => Some(3),
+        START_DOCUMENT | END_DOCUMENT | END_ELEMENT => Some(&[]),
+        CHARACTERS | COMMENT => Some(&[1]),
+        START_ELEMENT | INSTRUCTION => Some(&[1, 3]),
+        ATTRIBUTE => Some(&[1, 3, 7]),
         _ => None,
     }
 }
 
-/// The strings of a stored event; none where it is not well stored by itself.
-pub fn stored_strings(cells: &[u32]) -> Option<usize> {
+/// The cells that a kind does not use; none for a kind without meaning.
+pub fn unused_cells(kind: u32) -> Option<impl Iterator<Item = usize>> {
+    let strings = strings_of(kind)?;
+    let uses = |cell: usize| strings.iter().any(|&at| cell == at || cell == at + 1);
+    Some((1..CELLS).filter(move |&cell| !uses(cell)))
+}
+
+/// The strings of a stored event, as [`strings_of`] its kind; none where it is not well stored by
+/// itself.
+pub fn stored_strings(cells: &[u32]) -> Option<&'static [usize]> {
     if cells.len() != CELLS {
         return None;
     }
     let strings = strings_of(cells[0])?;
-    if cells[1 + 2 * strings..].iter().all(|&cell| cell == 0) {
-        Some(strings)
-    } else {
-        None
-    }
+    let mut unused = unused_cells(cells[0])?;
+    unused.all(|cell| cells[cell] == 0).then_some(strings)
 }
 
 impl Event {
@@ -121,6 +127,12 @@ impl Event {
             Event::Instruction { target, text } => vec![target, text],
         }
     }
+
+    /// Its strings, each with the first of its two cells.
+    fn placed_strings(&self) -> impl Iterator<Item = (usize, &Text)> {
+        let cells = strings_of(self.kind()).unwrap_or(&[]);
+        cells.iter().copied().zip(self.strings())
+    }
 }
 
 /// Event cells over a text store, as lent to the writer.
@@ -138,14 +150,14 @@ impl Stored {
             store: Vec::new(),
         };
         for event in events {
-            let first = list.cells.len();
-            list.cells.resize(first + CELLS, 0);
-            list.cells[first] = event.kind();
-            for (k, string) in event.strings().into_iter().enumerate() {
-                list.cells[first + 1 + 2 * k] = list.store.len() as u32;
-                list.cells[first + 2 + 2 * k] = string.len() as u32;
+            let mut cells = [0; CELLS];
+            cells[0] = event.kind();
+            for (at, string) in event.placed_strings() {
+                cells[at] = list.store.len() as u32;
+                cells[at + 1] = string.len() as u32;
                 list.store.extend(string);
             }
+            list.cells.extend(cells);
         }
         list
     }
@@ -160,10 +172,9 @@ impl Stored {
         let share = rng.below(3);
         let unused = rng.one_in(4);
         for event in events {
-            let first = list.cells.len();
-            list.cells.resize(first + CELLS, 0);
-            list.cells[first] = event.kind();
-            for (k, string) in event.strings().into_iter().enumerate() {
+            let mut cells = [0; CELLS];
+            cells[0] = event.kind();
+            for (at, string) in event.placed_strings() {
                 if unused && rng.one_in(3) {
                     list.store.push(rng.number() as u32);
                 }
@@ -177,16 +188,16 @@ impl Stored {
                     list.store.extend(string);
                     place
                 });
-                list.cells[first + 1 + 2 * k] = place as u32;
-                list.cells[first + 2 + 2 * k] = string.len() as u32;
+                cells[at] = place as u32;
+                cells[at + 1] = string.len() as u32;
             }
+            list.cells.extend(cells);
         }
         let end = list.store.len();
         for cells in list.cells.chunks_mut(CELLS) {
-            let strings = strings_of(cells[0]).unwrap_or(0);
-            for k in 0..strings {
-                if cells[2 + 2 * k] == 0 {
-                    cells[1 + 2 * k] = rng.between(0, end) as u32;
+            for &at in strings_of(cells[0]).unwrap_or(&[]) {
+                if cells[at + 1] == 0 {
+                    cells[at] = rng.between(0, end) as u32;
                 }
             }
         }
@@ -217,10 +228,10 @@ pub fn events(cells: &[u32], store: &[u32]) -> Option<Vec<Event>> {
 }
 
 fn stored_event(cells: &[u32], store: &[u32]) -> Option<Event> {
-    stored_strings(cells)?;
+    let strings = stored_strings(cells)?;
     let string = |k: usize| -> Option<Text> {
-        let place = cells[1 + 2 * k] as usize;
-        let length = cells[2 + 2 * k] as usize;
+        let place = cells[strings[k]] as usize;
+        let length = cells[strings[k] + 1] as usize;
         Some(store.get(place..place + length)?.to_vec())
     };
     Some(match cells[0] {

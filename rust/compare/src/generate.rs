@@ -2,8 +2,12 @@
 
 use crate::encode::encode;
 use crate::event::{text, Event, Text, XML_URI, XSI_URI};
-use crate::lent::{Settings, STREAM_OCTETS, TEXT_CELLS};
+use crate::lent::Settings;
 use crate::prng::Prng;
+use crate::sizes::{
+    MAX_EVENTS, MAX_GRAMMARS, MAX_LEARNED, MAX_NAMES, MAX_OPEN, MAX_STORE, MAX_STREAM, MAX_STRING,
+    MAX_URIS, MAX_VALUES,
+};
 
 /// What a list is made for: small ones pass no size; each other profile comes near one size and
 /// passes it at times.
@@ -37,7 +41,7 @@ impl Profile {
     ];
 }
 
-/// Settings that have a meaning.
+/// Settings that have a meaning. What has not landed stays as it is in the base.
 pub fn settings(rng: &mut Prng) -> Settings {
     let bits = rng.below(16) as u32;
     Settings {
@@ -45,6 +49,7 @@ pub fn settings(rng: &mut Prng) -> Settings {
         cookie: bits >> 1 & 1,
         comments: bits >> 2 & 1,
         instructions: bits >> 3,
+        ..Settings::BIT_PACKED
     }
 }
 
@@ -261,7 +266,7 @@ fn whole(inner: Vec<Event>) -> Vec<Event> {
 
 /// Nested elements of a few names.
 fn open(rng: &mut Prng) -> Vec<Event> {
-    let depth = rng.between(94, 104);
+    let depth = rng.between(MAX_OPEN - 6, MAX_OPEN + 4);
     let names = rng.between(1, 5);
     let mut inner = Vec::new();
     for _ in 1..depth {
@@ -280,7 +285,7 @@ fn open(rng: &mut Prng) -> Vec<Event> {
 }
 
 fn string_length(rng: &mut Prng, settings: Settings) -> Vec<Event> {
-    let length = rng.between(1_020, 1_027);
+    let length = rng.between(MAX_STRING - 4, MAX_STRING + 3);
     let code_point = *rng.pick(&[97, 97, 233, 20_013, 131_071]);
     let long: Text = vec![code_point; length];
     let event = match rng.below(7) {
@@ -333,7 +338,7 @@ fn string_length(rng: &mut Prng, settings: Settings) -> Vec<Event> {
 }
 
 fn uris(rng: &mut Prng) -> Vec<Event> {
-    let count = rng.between(9, 16);
+    let count = rng.between(MAX_URIS - 7, MAX_URIS);
     let mut inner = Vec::new();
     for k in 0..count {
         for number in [k, rng.below(k + 1)] {
@@ -356,7 +361,7 @@ fn uris(rng: &mut Prng) -> Vec<Event> {
 }
 
 fn names(rng: &mut Prng) -> Vec<Event> {
-    let count = rng.between(112, 124);
+    let count = rng.between(MAX_NAMES - 16, MAX_NAMES - 4);
     let mut inner = Vec::new();
     for k in 0..count {
         for number in [k, rng.below(k + 1)] {
@@ -372,7 +377,7 @@ fn names(rng: &mut Prng) -> Vec<Event> {
 }
 
 fn values(rng: &mut Prng) -> Vec<Event> {
-    let count = rng.between(500, 518);
+    let count = rng.between(MAX_VALUES - 12, MAX_VALUES + 6);
     let names = rng.between(1, 3);
     let mut inner = Vec::new();
     for k in 0..count {
@@ -390,7 +395,7 @@ fn values(rng: &mut Prng) -> Vec<Event> {
 }
 
 fn grammars(rng: &mut Prng) -> Vec<Event> {
-    let count = rng.between(58, 67);
+    let count = rng.between(MAX_GRAMMARS - 6, MAX_GRAMMARS + 3);
     let mut inner = Vec::new();
     for k in 0..count {
         for number in [k, rng.below(k + 1)] {
@@ -405,7 +410,7 @@ fn grammars(rng: &mut Prng) -> Vec<Event> {
 }
 
 fn productions(rng: &mut Prng) -> Vec<Event> {
-    let target = rng.between(495, 525);
+    let target = rng.between(MAX_LEARNED - 17, MAX_LEARNED + 13);
     let elements = rng.between(6, 12);
     let names = rng.between(80, 105);
     let mut learned = std::collections::HashSet::new();
@@ -433,7 +438,7 @@ fn productions(rng: &mut Prng) -> Vec<Event> {
 }
 
 fn events(rng: &mut Prng) -> Vec<Event> {
-    let count = rng.between(4_090, 4_101);
+    let count = rng.between(MAX_EVENTS - 6, MAX_EVENTS + 5);
     let mut inner = Vec::new();
     while inner.len() + 4 < count {
         if inner.len() + 6 < count && rng.one_in(3) {
@@ -448,12 +453,12 @@ fn events(rng: &mut Prng) -> Vec<Event> {
 
 /// Literals that come near the end of the text store.
 fn store(rng: &mut Prng, settings: Settings) -> Vec<Event> {
-    let target = TEXT_CELLS + rng.between(0, 5) - 3;
+    let target = MAX_STORE + rng.between(0, 5) - 3;
     let mut inner = Vec::new();
     let mut count = 99 + 1;
     let mut number = 0;
     while count < target {
-        let length = (target - count).min(rng.between(700, 1_024));
+        let length = (target - count).min(rng.between(700, MAX_STRING.min(1_024)));
         let mut value = numbered("", number);
         value.resize(length.max(value.len()), 97);
         if length < value.len() {
@@ -475,7 +480,7 @@ fn store(rng: &mut Prng, settings: Settings) -> Vec<Event> {
 
 /// Code points of two or three octets, so that the stream comes near its largest size.
 fn octets(rng: &mut Prng, settings: Settings) -> Vec<Event> {
-    let target = STREAM_OCTETS + rng.between(0, 6) - 3;
+    let target = MAX_STREAM + rng.between(0, 6) - 3;
     let wide = rng.one_in(2);
     let code_point = if wide { 20_013 } else { 233 };
     let mut inner = Vec::new();
@@ -483,7 +488,7 @@ fn octets(rng: &mut Prng, settings: Settings) -> Vec<Event> {
     let mut left = target - 200;
     while left > 0 {
         let per_code_point = if wide { 3 } else { 2 };
-        let length = (left / per_code_point).clamp(4, 1_024);
+        let length = (left / per_code_point).clamp(4, MAX_STRING.min(1_024));
         let mut value = numbered("", number);
         value.resize(length, code_point);
         left = left.saturating_sub(length * per_code_point);

@@ -1,15 +1,19 @@
 //! Calls of either implementation, and the memory lent to them.
 //!
-//! Before a call every cell is filled with the octet A5. Lent are 3 cells more than the stated
-//! sizes; some cells behind those are not lent and have to keep their fill.
+//! Before a call every cell is filled with the octet A5. Lent are 3 cells more than the sizes that
+//! the library states; some cells behind those are not lent and have to keep their fill.
+
+use std::sync::OnceLock;
+
+use plumethrift::lent::Sizes;
 
 use crate::event::{stored_strings, CELLS};
 
-pub const EVENT_CELLS: usize = 28_672;
-pub const TEXT_CELLS: usize = 16_384;
-pub const READER_WORK_CELLS: usize = 4_096;
-pub const STREAM_OCTETS: usize = 16_384;
-pub const WRITER_WORK_CELLS: usize = 20_480;
+/// The sizes to lend, as the library states them. The ordinary implementation is held to the same.
+pub fn sizes() -> &'static Sizes {
+    static SIZES: OnceLock<Sizes> = OnceLock::new();
+    SIZES.get_or_init(plumethrift::lent::sizes)
+}
 
 /// Cells lent beyond the stated sizes.
 pub const BEYOND: usize = 3;
@@ -34,25 +38,69 @@ pub const TAIL: u32 = 13;
 pub const SHAPE: u32 = 14;
 pub const PLACE: u32 = 15;
 
+/// The settings' numbers. All zero is the base; of value length, value capacity and grammar cap a
+/// bound n is n + 1.
 #[derive(Clone, Copy, Debug, PartialEq, Eq)]
 pub struct Settings {
     pub alignment: u32,
     pub cookie: u32,
     pub comments: u32,
     pub instructions: u32,
+    pub fragment: u32,
+    pub value_length: u32,
+    pub value_capacity: u32,
+    pub loose: u32,
+    pub prefixes: u32,
+    pub grammar_cap: u32,
 }
 
 impl Settings {
-    pub const BIT_PACKED: Settings = Settings {
-        alignment: 0,
-        cookie: 0,
-        comments: 0,
-        instructions: 0,
-    };
+    pub const BIT_PACKED: Settings = Settings::from_numbers([0; 10]);
     pub const BYTE_ALIGNED: Settings = Settings {
         alignment: 1,
         ..Settings::BIT_PACKED
     };
+
+    /// For each number, the first that has no meaning. What has not landed has no meaning but as 0.
+    pub const FIRST_WITHOUT_MEANING: [u32; 10] = [2, 2, 2, 2, 1, 1, 1, 1, 1, 1];
+
+    /// The ten numbers in their order.
+    pub const fn from_numbers(numbers: [u32; 10]) -> Settings {
+        Settings {
+            alignment: numbers[0],
+            cookie: numbers[1],
+            comments: numbers[2],
+            instructions: numbers[3],
+            fragment: numbers[4],
+            value_length: numbers[5],
+            value_capacity: numbers[6],
+            loose: numbers[7],
+            prefixes: numbers[8],
+            grammar_cap: numbers[9],
+        }
+    }
+
+    pub const fn numbers(self) -> [u32; 10] {
+        [
+            self.alignment,
+            self.cookie,
+            self.comments,
+            self.instructions,
+            self.fragment,
+            self.value_length,
+            self.value_capacity,
+            self.loose,
+            self.prefixes,
+            self.grammar_cap,
+        ]
+    }
+
+    /// With another number in one place.
+    pub fn with(self, place: usize, number: u32) -> Settings {
+        let mut numbers = self.numbers();
+        numbers[place] = number;
+        Settings::from_numbers(numbers)
+    }
 
     /// Comments and instructions kept.
     pub fn keeping(self) -> Settings {
@@ -119,7 +167,8 @@ impl Codec {
             }
             Codec::Ordinary => {
                 let s = ordinary_settings(settings);
-                let r = ordinary::read(s, stream, events, text, work);
+                let least_work = sizes().reader_work_cells;
+                let r = ordinary::read(s, stream, events, text, work, least_work);
                 ReadReply {
                     number: r.number,
                     index: r.index,
@@ -150,7 +199,8 @@ impl Codec {
             }
             Codec::Ordinary => {
                 let s = ordinary_settings(settings);
-                let r = ordinary::write(s, octets, events, text, work);
+                let least_work = sizes().writer_work_cells;
+                let r = ordinary::write(s, octets, events, text, work, least_work);
                 WriteReply {
                     number: r.number,
                     index: r.index,
@@ -167,6 +217,12 @@ fn library_settings(s: Settings) -> plumethrift::lent::SettingNumbers {
         cookie: s.cookie,
         comments: s.comments,
         instructions: s.instructions,
+        fragment: s.fragment,
+        value_length: s.value_length,
+        value_capacity: s.value_capacity,
+        loose: s.loose,
+        prefixes: s.prefixes,
+        grammar_cap: s.grammar_cap,
     }
 }
 
@@ -176,7 +232,28 @@ fn ordinary_settings(s: Settings) -> ordinary::Settings {
         cookie: s.cookie,
         comments: s.comments,
         instructions: s.instructions,
+        fragment: s.fragment,
+        value_length: s.value_length,
+        value_capacity: s.value_capacity,
+        loose: s.loose,
+        prefixes: s.prefixes,
+        grammar_cap: s.grammar_cap,
     }
+}
+
+/// A part lent to the reader.
+#[derive(Clone, Copy, Debug, PartialEq, Eq)]
+pub enum ReaderPart {
+    Events,
+    Text,
+    Work,
+}
+
+/// A part lent to the writer, to write.
+#[derive(Clone, Copy, Debug, PartialEq, Eq)]
+pub enum WriterPart {
+    Octets,
+    Work,
 }
 
 /// How much is lent to the reader.
@@ -188,16 +265,34 @@ pub struct ReaderSizes {
 }
 
 impl ReaderSizes {
-    pub const STATED: ReaderSizes = ReaderSizes {
-        events: EVENT_CELLS,
-        text: TEXT_CELLS,
-        work: READER_WORK_CELLS,
-    };
-    pub const USUAL: ReaderSizes = ReaderSizes {
-        events: EVENT_CELLS + BEYOND,
-        text: TEXT_CELLS + BEYOND,
-        work: READER_WORK_CELLS + BEYOND,
-    };
+    pub fn stated() -> ReaderSizes {
+        ReaderSizes {
+            events: sizes().event_cells,
+            text: sizes().text_cells,
+            work: sizes().reader_work_cells,
+        }
+    }
+
+    pub fn usual() -> ReaderSizes {
+        let stated = ReaderSizes::stated();
+        ReaderSizes {
+            events: stated.events + BEYOND,
+            text: stated.text + BEYOND,
+            work: stated.work + BEYOND,
+        }
+    }
+
+    /// The usual sizes, but one part has one less than is stated.
+    pub fn short(part: ReaderPart) -> ReaderSizes {
+        let stated = ReaderSizes::stated();
+        let mut sizes = ReaderSizes::usual();
+        match part {
+            ReaderPart::Events => sizes.events = stated.events - 1,
+            ReaderPart::Text => sizes.text = stated.text - 1,
+            ReaderPart::Work => sizes.work = stated.work - 1,
+        }
+        sizes
+    }
 }
 
 /// How much is lent to the writer, of what it writes.
@@ -208,14 +303,31 @@ pub struct WriterSizes {
 }
 
 impl WriterSizes {
-    pub const STATED: WriterSizes = WriterSizes {
-        octets: STREAM_OCTETS,
-        work: WRITER_WORK_CELLS,
-    };
-    pub const USUAL: WriterSizes = WriterSizes {
-        octets: STREAM_OCTETS + BEYOND,
-        work: WRITER_WORK_CELLS + BEYOND,
-    };
+    pub fn stated() -> WriterSizes {
+        WriterSizes {
+            octets: sizes().stream_octets,
+            work: sizes().writer_work_cells,
+        }
+    }
+
+    pub fn usual() -> WriterSizes {
+        let stated = WriterSizes::stated();
+        WriterSizes {
+            octets: stated.octets + BEYOND,
+            work: stated.work + BEYOND,
+        }
+    }
+
+    /// The usual sizes, but one part has one less than is stated.
+    pub fn short(part: WriterPart) -> WriterSizes {
+        let stated = WriterSizes::stated();
+        let mut sizes = WriterSizes::usual();
+        match part {
+            WriterPart::Octets => sizes.octets = stated.octets - 1,
+            WriterPart::Work => sizes.work = stated.work - 1,
+        }
+        sizes
+    }
 }
 
 #[derive(Clone, PartialEq, Eq)]
@@ -234,16 +346,17 @@ impl Default for ReaderMemory {
 
 impl ReaderMemory {
     pub fn new() -> ReaderMemory {
+        let sizes = ReaderSizes::usual();
         ReaderMemory {
-            events: vec![FILL; ReaderSizes::USUAL.events + GUARD],
-            text: vec![FILL; ReaderSizes::USUAL.text + GUARD],
-            work: vec![FILL; ReaderSizes::USUAL.work + GUARD],
-            sizes: ReaderSizes::USUAL,
+            events: vec![FILL; sizes.events + GUARD],
+            text: vec![FILL; sizes.text + GUARD],
+            work: vec![FILL; sizes.work + GUARD],
+            sizes,
         }
     }
 
     pub fn read(&mut self, codec: Codec, settings: Settings, stream: &[u8]) -> ReadReply {
-        self.read_with(ReaderSizes::USUAL, |events, text, work| {
+        self.read_with(ReaderSizes::usual(), |events, text, work| {
             codec.read(settings, stream, events, text, work)
         })
     }
@@ -324,10 +437,11 @@ impl Default for WriterMemory {
 
 impl WriterMemory {
     pub fn new() -> WriterMemory {
+        let sizes = WriterSizes::usual();
         WriterMemory {
-            octets: vec![FILL_OCTET; WriterSizes::USUAL.octets + GUARD],
-            work: vec![FILL; WriterSizes::USUAL.work + GUARD],
-            sizes: WriterSizes::USUAL,
+            octets: vec![FILL_OCTET; sizes.octets + GUARD],
+            work: vec![FILL; sizes.work + GUARD],
+            sizes,
         }
     }
 
@@ -338,7 +452,7 @@ impl WriterMemory {
         events: &[u32],
         text: &[u32],
     ) -> WriteReply {
-        self.write_with(WriterSizes::USUAL, |octets, work| {
+        self.write_with(WriterSizes::usual(), |octets, work| {
             codec.write(settings, octets, events, text, work)
         })
     }
@@ -411,7 +525,7 @@ mod tests {
         text.fill(0);
         work.fill(0);
         events[0] = 1;
-        events[7] = 2;
+        events[CELLS] = 2;
         text[..3].fill(9);
         READ
     }
@@ -420,7 +534,7 @@ mod tests {
         change: impl FnOnce(&mut [u32], &mut [u32], &mut [u32]) -> ReadReply,
     ) -> Option<&'static str> {
         let mut memory = ReaderMemory::new();
-        let reply = memory.read_with(ReaderSizes::USUAL, |events, text, work| {
+        let reply = memory.read_with(ReaderSizes::usual(), |events, text, work| {
             good_read(events, text, work);
             change(events, text, work)
         });
@@ -437,10 +551,13 @@ mod tests {
             code_points: 0,
         };
         assert!(read_fault(|_, _, _| refused).is_some());
-        for events in [1, 3, 4096, 4097, u32::MAX] {
+        let sizes = ReaderSizes::usual();
+        let most = (sizes.events / CELLS) as u32;
+        for events in [1, 3, most, most + 1, u32::MAX] {
             assert!(read_fault(|_, _, _| ReadReply { events, ..READ }).is_some());
         }
-        for code_points in [2, 4, 16_387, 16_388, u32::MAX] {
+        let most = sizes.text as u32;
+        for code_points in [2, 4, most, most + 1, u32::MAX] {
             let reply = ReadReply {
                 code_points,
                 ..READ
@@ -453,22 +570,21 @@ mod tests {
             ..READ
         };
         assert!(read_fault(|_, _, _| counted).is_some());
-        let last = [EVENT_CELLS + 2, TEXT_CELLS + 2, READER_WORK_CELLS + 2];
-        for at in [1, 8, 13, 14, last[0]] {
+        for at in [1, CELLS + 1, 2 * CELLS - 1, 2 * CELLS, sizes.events - 1] {
             let stain = |events: &mut [u32], _: &mut [u32], _: &mut [u32]| {
                 events[at] = 1;
                 READ
             };
             assert!(read_fault(stain).is_some(), "event cell {at}");
         }
-        for at in [3, last[1]] {
+        for at in [3, sizes.text - 1] {
             let stain = |_: &mut [u32], text: &mut [u32], _: &mut [u32]| {
                 text[at] = 1 << 31;
                 READ
             };
             assert!(read_fault(stain).is_some(), "text cell {at}");
         }
-        for at in [0, last[2]] {
+        for at in [0, sizes.work - 1] {
             let stain = |_: &mut [u32], _: &mut [u32], work: &mut [u32]| {
                 work[at] = 1;
                 READ
@@ -480,9 +596,9 @@ mod tests {
     #[test]
     fn reader_memory_that_is_not_lent_is_looked_at() {
         let mut memory = ReaderMemory::new();
-        let reply = memory.read_with(ReaderSizes::STATED, good_read);
+        let reply = memory.read_with(ReaderSizes::stated(), good_read);
         assert_eq!(memory.fault(&reply), None);
-        memory.events[EVENT_CELLS] = 0;
+        memory.events[sizes().event_cells] = 0;
         assert!(memory.fault(&reply).is_some());
     }
 
@@ -490,7 +606,7 @@ mod tests {
     fn writer_memory_is_looked_at() {
         let fault = |octets_at: Option<usize>, work_at: Option<usize>, reply: WriteReply| {
             let mut memory = WriterMemory::new();
-            let reply = memory.write_with(WriterSizes::USUAL, |octets, work| {
+            let reply = memory.write_with(WriterSizes::usual(), |octets, work| {
                 octets.fill(0);
                 work.fill(0);
                 octets[..2].fill(0x80);
@@ -507,20 +623,14 @@ mod tests {
         };
         assert_eq!(fault(None, None, good), None);
         assert!(fault(None, None, WriteReply { octets: 1, ..good }).is_some());
-        assert!(fault(
-            None,
-            None,
-            WriteReply {
-                octets: 16_388,
-                ..good
-            }
-        )
-        .is_some());
+        let sizes = WriterSizes::usual();
+        let octets = sizes.octets as u32 + 1;
+        assert!(fault(None, None, WriteReply { octets, ..good }).is_some());
         assert!(fault(None, None, WriteReply { number: 3, ..good }).is_some());
         assert!(fault(Some(2), None, good).is_some());
-        assert!(fault(Some(STREAM_OCTETS + 2), None, good).is_some());
+        assert!(fault(Some(sizes.octets - 1), None, good).is_some());
         assert!(fault(None, Some(0), good).is_some());
-        assert!(fault(None, Some(WRITER_WORK_CELLS + 2), good).is_some());
+        assert!(fault(None, Some(sizes.work - 1), good).is_some());
         let refused = WriteReply {
             number: 3,
             index: 0,

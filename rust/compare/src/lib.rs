@@ -20,3 +20,6 @@ pub mod generate;
 pub mod lent;
 pub mod prng;
 pub mod protocol;
+
+/// The sizes of the scope; what is to be lent the library says, see [`lent::sizes`].
+pub use ordinary::sizes;

@@ -7,12 +7,24 @@ use crate::event::{
     stored_strings, strings_of, Stored, ATTRIBUTE, CELLS, CHARACTERS, COMMENT, END_DOCUMENT,
     END_ELEMENT, INSTRUCTION, START_DOCUMENT, START_ELEMENT,
 };
-use crate::lent::{Codec, ReadReply, ReaderMemory, Settings, WriteReply, WriterMemory};
+use crate::lent::{
+    Codec, ReadReply, ReaderMemory, ReaderPart, ReaderSizes, Settings, WriteReply, WriterMemory,
+    WriterPart, WriterSizes,
+};
 
+/// What is asked for. `short` names the part that is lent one less than its stated size.
 #[derive(Clone, Debug, PartialEq, Eq)]
 pub enum Request {
-    Read { settings: Settings, stream: Vec<u8> },
-    Write { settings: Settings, list: Stored },
+    Read {
+        settings: Settings,
+        short: Option<ReaderPart>,
+        stream: Vec<u8>,
+    },
+    Write {
+        settings: Settings,
+        short: Option<WriterPart>,
+        list: Stored,
+    },
 }
 
 const KINDS: [(&str, u32); 8] = [
@@ -26,65 +38,197 @@ const KINDS: [(&str, u32); 8] = [
     ("PI", INSTRUCTION),
 ];
 
+const READER_PARTS: [(&str, ReaderPart); 3] = [
+    ("events", ReaderPart::Events),
+    ("text", ReaderPart::Text),
+    ("work", ReaderPart::Work),
+];
+
+const WRITER_PARTS: [(&str, WriterPart); 2] =
+    [("octets", WriterPart::Octets), ("work", WriterPart::Work)];
+
+/// The words for settings, for the last six of their numbers, in their order; and whether the word
+/// has a bound, which is one more in the number.
+const SETTING_WORDS: [(&str, bool); 6] = [
+    ("fragment", false),
+    ("vmax", true),
+    ("vcap", true),
+    ("loose", false),
+    ("prefixes", false),
+    ("cap", true),
+];
+
 /// A stored event of a kind that has no meaning.
-pub const BAD: [u32; CELLS] = [9, 0, 0, 0, 0, 0, 0];
+pub const BAD: [u32; CELLS] = [9, 0, 0, 0, 0, 0, 0, 0, 0];
 /// An end element with data in a cell that it does not use.
-pub const BAD2: [u32; CELLS] = [END_ELEMENT, 0, 0, 0, 0, 0, 1];
+pub const BAD2: [u32; CELLS] = [END_ELEMENT, 0, 0, 0, 0, 0, 0, 0, 1];
 
 impl Request {
+    /// To read, with the usual memory.
+    pub fn read(settings: Settings, stream: &[u8]) -> Request {
+        Request::Read {
+            settings,
+            short: None,
+            stream: stream.to_vec(),
+        }
+    }
+
+    /// To write, with the usual memory.
+    pub fn write(settings: Settings, list: &Stored) -> Request {
+        Request::Write {
+            settings,
+            short: None,
+            list: list.clone(),
+        }
+    }
+
     /// A request line without its line end; or why it can't be understood.
     pub fn parse(line: &str) -> Result<Request, String> {
-        let words: Vec<&str> = line.split(' ').collect();
-        let count = match words[0] {
-            "r" => 6,
-            "w" => 7,
+        let mut words = Words::new(line);
+        let letter = words.next().unwrap_or("");
+        let rest = match letter {
+            "r" => 1,
+            "w" => 2,
             other => return Err(format!("neither r nor w: {other:?}")),
         };
-        if let Some(word) = words.iter().find(|word| word.contains('=')) {
-            return Err(format!("no such setting: {word:?}"));
+        let settings = words.settings()?;
+        let short = words.named("short");
+        if words.left() != rest {
+            return Err(words.not_so_many(rest));
         }
-        if words.len() != count {
-            return Err(format!("{} words and not {count}", words.len()));
+        if letter == "r" {
+            return Ok(Request::Read {
+                settings,
+                short: part(short, &READER_PARTS)?,
+                stream: parse_octets(words.next().unwrap_or(""))?,
+            });
         }
-        let settings = Settings {
-            alignment: decimal(words[1])?,
-            cookie: decimal(words[2])?,
-            comments: decimal(words[3])?,
-            instructions: decimal(words[4])?,
-        };
-        if words[0] == "r" {
-            let stream = parse_octets(words[5])?;
-            return Ok(Request::Read { settings, stream });
+        Ok(Request::Write {
+            settings,
+            short: part(short, &WRITER_PARTS)?,
+            list: Stored {
+                cells: parse_events(words.next().unwrap_or(""))?,
+                store: parse_store(words.next().unwrap_or(""))?,
+            },
+        })
+    }
+}
+
+/// The words of a request line, from left to right.
+struct Words<'a> {
+    words: Vec<&'a str>,
+    at: usize,
+}
+
+impl<'a> Words<'a> {
+    fn new(line: &'a str) -> Words<'a> {
+        let words = line.split(' ').collect();
+        Words { words, at: 0 }
+    }
+
+    fn next(&mut self) -> Option<&'a str> {
+        let word = self.words.get(self.at).copied();
+        self.at += 1;
+        word
+    }
+
+    fn left(&self) -> usize {
+        self.words.len().saturating_sub(self.at)
+    }
+
+    /// What stands behind `name=` in the next word, if this is there.
+    fn named(&mut self, name: &str) -> Option<&'a str> {
+        let (found, value) = self.words.get(self.at)?.split_once('=')?;
+        (found == name).then(|| {
+            self.at += 1;
+            value
+        })
+    }
+
+    /// Four numbers, and the named ones that are not at their base.
+    fn settings(&mut self) -> Result<Settings, String> {
+        let mut numbers = [0; 10];
+        for number in &mut numbers[..4] {
+            *number = decimal(self.next().unwrap_or(""))?;
         }
-        let list = Stored {
-            cells: parse_events(words[5])?,
-            store: parse_store(words[6])?,
-        };
-        Ok(Request::Write { settings, list })
+        for (number, (name, is_bound)) in numbers[4..].iter_mut().zip(SETTING_WORDS) {
+            if let Some(value) = self.named(name) {
+                let value = decimal(value)?;
+                *number = value.saturating_add(u32::from(is_bound));
+            }
+        }
+        Ok(Settings::from_numbers(numbers))
+    }
+
+    /// Why the line can't be understood, where this many words should be left.
+    fn not_so_many(&self, rest: usize) -> String {
+        match self.words.get(self.at) {
+            Some(word) if word.contains('=') => format!("no such word here: {word:?}"),
+            _ => format!("{} words left and not {rest}", self.left()),
+        }
+    }
+}
+
+/// The part that a word names, if there is one.
+fn part<P: Copy>(name: Option<&str>, parts: &[(&str, P)]) -> Result<Option<P>, String> {
+    let Some(name) = name else { return Ok(None) };
+    match parts.iter().find(|(known, _)| *known == name) {
+        Some(&(_, part)) => Ok(Some(part)),
+        None => Err(format!("no part that is lent: {name:?}")),
+    }
+}
+
+/// A part's word, with a space behind it.
+fn print_short<P: PartialEq>(line: &mut String, short: Option<P>, parts: &[(&str, P)]) {
+    for (name, part) in parts {
+        if short.as_ref() == Some(part) {
+            write!(line, "short={name} ").expect("a string takes all");
+        }
+    }
+}
+
+/// The numbers and words of settings, with a space behind each.
+fn print_settings(line: &mut String, settings: Settings) {
+    let numbers = settings.numbers();
+    for number in &numbers[..4] {
+        write!(line, "{number} ").expect("a string takes all");
+    }
+    for (number, (name, is_bound)) in numbers[4..].iter().zip(SETTING_WORDS) {
+        if *number != 0 {
+            let number = number - u32::from(is_bound);
+            write!(line, "{name}={number} ").expect("a string takes all");
+        }
     }
 }
 
 impl fmt::Display for Request {
     fn fmt(&self, f: &mut fmt::Formatter) -> fmt::Result {
-        let (word, s) = match self {
-            Request::Read { settings, .. } => ("r", settings),
-            Request::Write { settings, .. } => ("w", settings),
-        };
-        write!(
-            f,
-            "{word} {} {} {} {} ",
-            s.alignment, s.cookie, s.comments, s.instructions
-        )?;
-        let mut rest = String::new();
+        let mut line = String::new();
         match self {
-            Request::Read { stream, .. } => print_octets(&mut rest, stream),
-            Request::Write { list, .. } => {
-                print_events(&mut rest, &list.cells);
-                rest.push(' ');
-                print_store(&mut rest, &list.store);
+            Request::Read {
+                settings,
+                short,
+                stream,
+            } => {
+                line.push_str("r ");
+                print_settings(&mut line, *settings);
+                print_short(&mut line, *short, &READER_PARTS);
+                print_octets(&mut line, stream);
+            }
+            Request::Write {
+                settings,
+                short,
+                list,
+            } => {
+                line.push_str("w ");
+                print_settings(&mut line, *settings);
+                print_short(&mut line, *short, &WRITER_PARTS);
+                print_events(&mut line, &list.cells);
+                line.push(' ');
+                print_store(&mut line, &list.store);
             }
         }
-        f.write_str(&rest)
+        f.write_str(&line)
     }
 }
 
@@ -114,14 +258,27 @@ impl Asker {
 
     pub fn answer(&mut self, request: &Request) -> String {
         match request {
-            Request::Read { settings, stream } => {
-                let reply = self.reader.read(self.codec, *settings, stream);
+            Request::Read {
+                settings,
+                short,
+                stream,
+            } => {
+                let sizes = short.map_or_else(ReaderSizes::usual, ReaderSizes::short);
+                let reply = self.reader.read_with(sizes, |events, text, work| {
+                    self.codec.read(*settings, stream, events, text, work)
+                });
                 print_read(&reply, &self.reader)
             }
-            Request::Write { settings, list } => {
-                let reply = self
-                    .writer
-                    .write(self.codec, *settings, &list.cells, &list.store);
+            Request::Write {
+                settings,
+                short,
+                list,
+            } => {
+                let sizes = short.map_or_else(WriterSizes::usual, WriterSizes::short);
+                let reply = self.writer.write_with(sizes, |octets, work| {
+                    self.codec
+                        .write(*settings, octets, &list.cells, &list.store, work)
+                });
                 print_write(&reply, &self.writer)
             }
         }
@@ -207,13 +364,16 @@ fn parse_events(word: &str) -> Result<Vec<u32>, String> {
         let Some(&(_, number)) = KINDS.iter().find(|(name, _)| *name == kind) else {
             return Err(format!("no kind: {kind:?}"));
         };
-        if Some(numbers.len()) != strings_of(number).map(|strings| 2 * strings) {
+        let strings = strings_of(number).unwrap_or(&[]);
+        if numbers.len() != 2 * strings.len() {
             return Err(format!("not the strings of {kind}: {event:?}"));
         }
-        let end = cells.len() + CELLS;
-        cells.push(number);
-        cells.extend(numbers);
-        cells.resize(end, 0);
+        let mut event = [0; CELLS];
+        event[0] = number;
+        for (at, string) in strings.iter().zip(numbers.chunks(2)) {
+            event[*at..at + 2].copy_from_slice(string);
+        }
+        cells.extend(event);
     }
     Ok(cells)
 }
@@ -254,8 +414,8 @@ fn print_events(line: &mut String, cells: &[u32]) {
         };
         let kind = KINDS.iter().find(|(_, number)| *number == event[0]);
         line.push_str(kind.map_or("", |(name, _)| name));
-        for number in &event[1..1 + 2 * strings] {
-            write!(line, ":{number}").expect("a string takes all");
+        for &at in strings {
+            write!(line, ":{}:{}", event[at], event[at + 1]).expect("a string takes all");
         }
     }
 }

@@ -42,7 +42,13 @@ fn answers_in_order() {
         w 1 0 0 0 SD,SE:0:0:0:1,BAD2,ED 61\n\
         w 1 0 0 0 SD,SE:0:0:0:1,CH:18446744073709551615:0,EE,ED 61\n\
         w 1 0 1 1 SD,CM:0:1,PI:0:1:1:0,SE:0:0:0:1,AT:0:0:0:1:0:1,EE,ED 61\n\
-        w 1 0 0 0 - -";
+        w 1 0 0 0 - -\n\
+        r 1 0 0 0 short=text -\n\
+        r 2 0 0 0 fragment=1 vmax=0 vcap=0 loose=1 prefixes=1 cap=0 short=work -\n\
+        r 1 0 0 0 short=events 8001026100\n\
+        w 1 0 0 0 short=octets SD,SE:0:0:0:1,EE,ED 61\n\
+        w 1 0 0 0 cap=7 short=work BAD -\n\
+        r 1 0 0 0 fragment=0 8001026104";
     let expected = vec![
         format!("0 0 SD,SE:0:0:99:1,CH:100:1,EE,ED {INITIAL},61,62"),
         "6 2 - -".to_string(),
@@ -56,6 +62,12 @@ fn answers_in_order() {
         "15 2 -".to_string(),
         "0 0 80010001610101016100000102610101000361010000".to_string(),
         "14 0 -".to_string(),
+        "1 0 - -".to_string(),
+        "1 0 - -".to_string(),
+        "1 0 - -".to_string(),
+        "1 0 -".to_string(),
+        "1 0 -".to_string(),
+        "6 2 - -".to_string(),
     ];
     for arguments in [&[][..], &["--ordinary"]] {
         let got = answers(arguments, requests.as_bytes());
@@ -64,6 +76,71 @@ fn answers_in_order() {
         }
         assert_eq!(got.len(), expected.len());
     }
+}
+
+/// Each setting at the first number without a meaning, and at the largest ones: a bound does not
+/// come round to none. One after the other, behind ROOM and before LONG.
+#[test]
+fn settings_by_words() {
+    let long = "00".repeat(16_385);
+    let mut requests = Vec::new();
+    let words = ["fragment", "vmax", "vcap", "loose", "prefixes", "cap"];
+    let numbers = [
+        "4294967294",
+        "4294967295",
+        "4294967296",
+        "18446744073709551615",
+    ];
+    for word in words {
+        let first = if word.starts_with('v') || word == "cap" {
+            "0"
+        } else {
+            "1"
+        };
+        for number in [first, "2", "2049"].into_iter().chain(numbers) {
+            for stream in ["8001026100", &long, "-"] {
+                requests.push(format!("r 1 0 0 0 {word}={number} {stream}"));
+            }
+            requests.push(format!("w 1 0 0 0 {word}={number} SD,SE:0:0:0:1,EE,ED 61"));
+        }
+    }
+    for four in ["2 0 0 0", "1 2 0 0", "1 0 2 0", "1 0 0 2"] {
+        requests.push(format!("r {four} {long}"));
+        requests.push(format!("w {four} SD,SE:0:0:0:1,EE,ED 61"));
+    }
+    requests.push("r 1 0 0 0 fragment=1 vmax=4 vcap=2 loose=1 prefixes=1 cap=3 -".to_string());
+    for arguments in [&[][..], &["--ordinary"]] {
+        let got = answers(arguments, requests.join("\n").as_bytes());
+        assert_eq!(got.len(), requests.len());
+        for (request, got) in requests.iter().zip(&got) {
+            let nothing = if request.starts_with('r') { "- -" } else { "-" };
+            assert_eq!(
+                got,
+                &format!("2 0 {nothing}"),
+                "{}",
+                &request[..40.min(request.len())]
+            );
+        }
+    }
+}
+
+/// The words stand for the settings' numbers, bounds as one more.
+#[test]
+fn words_as_numbers() {
+    let settings = |line: &str| match Request::parse(line) {
+        Ok(Request::Read { settings, .. }) => settings.numbers(),
+        other => panic!("not understood: {other:?}"),
+    };
+    assert_eq!(settings("r 1 0 1 0 -"), [1, 0, 1, 0, 0, 0, 0, 0, 0, 0]);
+    assert_eq!(
+        settings("r 5 6 7 8 fragment=1 vmax=0 vcap=9 loose=2 prefixes=3 cap=63 -"),
+        [5, 6, 7, 8, 1, 1, 10, 2, 3, 64]
+    );
+    let most = u32::MAX;
+    assert_eq!(
+        settings("r 1 0 0 0 fragment=4294967296 vcap=4294967294 cap=4294967295 short=text -"),
+        [1, 0, 0, 0, most, 0, most, 0, 0, most]
+    );
 }
 
 #[test]
@@ -82,6 +159,27 @@ fn requests_that_are_not_understood() {
         "r -1 0 0 0 80",
         "r +1 0 0 0 80",
         "r 1 0 0 0 name=1 80",
+        "r 1 0 0 0 fragment= 80",
+        "r 1 0 0 0 fragment=x 80",
+        "r 1 0 0 0 fragment=-1 80",
+        "r 1 0 0 0 fragment=1 fragment=1 80",
+        "r 1 0 0 0 loose=1 fragment=1 80",
+        "r 1 0 0 0 vcap=1 vmax=1 80",
+        "r 1 0 0 0 short=text cap=1 80",
+        "r 1 0 0 0 fragment=1",
+        "r 1 0 0 fragment=1 0 80",
+        "r fragment=1 1 0 0 0 80",
+        "r 1 0 0 0 80 fragment=1",
+        "r 1 0 0 0 short= 80",
+        "r 1 0 0 0 short=octets 80",
+        "r 1 0 0 0 short=readings 80",
+        "r 1 0 0 0 short=text short=text 80",
+        "w 1 0 0 0 short=events SD 61",
+        "w 1 0 0 0 short=text SD 61",
+        "w 1 0 0 0 short=work SD",
+        "w 1 0 0 0 prefixes=1 SD,SE:0:0:0:1:0:0,EE,ED 61",
+        "f 1 0 0 0 80,.",
+        "x 1 0 0 0 SD,ED -",
         "w 1 0 0 0 SD",
         "w 1 0 0 0 SD ",
         "w 1 0 0 0 SD,SE:0:0:0,EE,ED 61",
@@ -129,13 +227,14 @@ fn events_that_are_none() {
         panic!("not understood");
     };
     assert_eq!(list.cells, [BAD, BAD2].concat());
-    let cells = vec![5, 0, 0, 0, 0, 0, 9, 0, 0, 0, 0, 0, 0, 0, 5, 0];
-    let request = Request::Write {
-        settings: compare::lent::Settings::BIT_PACKED,
-        list: compare::event::Stored {
-            cells,
-            store: vec![],
-        },
+    let mut cells = vec![5, 0, 0, 0, 0, 0, 0, 0, 9];
+    cells.extend([3, 0, 0, 0, 0, 0, 1, 0, 0]); // a prefix
+    cells.extend([0; 9]);
+    cells.extend([5, 0]);
+    let list = compare::event::Stored {
+        cells,
+        store: vec![],
     };
-    assert_eq!(request.to_string(), "w 0 0 0 0 BAD2,BAD,BAD -");
+    let request = Request::write(compare::lent::Settings::BIT_PACKED, &list);
+    assert_eq!(request.to_string(), "w 0 0 0 0 BAD2,BAD2,BAD,BAD -");
 }

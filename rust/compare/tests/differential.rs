@@ -20,10 +20,14 @@ use compare::event::{Event, Stored};
 use compare::generate::{self, Profile};
 use compare::lent::{
     ReadReply, ReaderSizes, Settings, WriteReply, WriterSizes, HEADER, LIMIT, LONG, ROOM, SETTINGS,
-    SHAPE, STREAM_OCTETS, TEXT_CELLS,
+    SHAPE,
 };
 use compare::prng::Prng;
 use compare::protocol::Request;
+use compare::sizes::{
+    MAX_EVENTS, MAX_GRAMMARS, MAX_LEARNED, MAX_NAMES, MAX_OPEN, MAX_STORE, MAX_STREAM, MAX_STRING,
+    MAX_URIS, MAX_VALUES,
+};
 
 const PARTS: usize = 8;
 
@@ -108,8 +112,7 @@ impl Run {
         if got == answer {
             return Ok(());
         }
-        let stream = stream.to_vec();
-        let request = Request::Read { settings, stream };
+        let request = Request::read(settings, stream);
         Err(format!("{request}\nanswered {got:?} and not {answer:?}"))
     }
 
@@ -119,8 +122,7 @@ impl Run {
         if got == answer {
             return Ok(());
         }
-        let list = list.clone();
-        let request = Request::Write { settings, list };
+        let request = Request::write(settings, list);
         Err(format!("{request}\nanswered {got:?} and not {answer:?}"))
     }
 
@@ -167,10 +169,10 @@ impl Run {
         list: &Stored,
     ) -> Result<u32, String> {
         let inside = inside_the_limits(events, strict);
-        let long = octets.len() > STREAM_OCTETS;
+        let long = octets.len() > MAX_STREAM;
         let failed = |what: &str| {
-            let list = list.clone();
-            Err(format!("{}\n{what}", Request::Write { settings, list }))
+            let request = Request::write(settings, list);
+            Err(format!("{request}\n{what}"))
         };
         let reply = self.write(settings, list)?;
         let number = if !inside {
@@ -263,21 +265,17 @@ impl Run {
     /// Other settings, settings without a meaning, too little memory, too long a stream.
     fn misused(&mut self, settings: Settings, octets: &[u8], list: &Stored) -> Checked {
         let other = generate::settings(&mut self.rng);
-        if other.cookie != settings.cookie && octets.len() <= STREAM_OCTETS {
+        if other.cookie != settings.cookie && octets.len() <= MAX_STREAM {
             self.read_has(other, octets, (HEADER, 0))?;
         } else {
             self.read(other, octets)?;
         }
         self.write(other, list)?;
 
-        let mut bad = settings;
-        let number = *self.rng.pick(&[2, 3, 256, 1 << 16, u32::MAX]);
-        match self.rng.below(4) {
-            0 => bad.alignment = number,
-            1 => bad.cookie = number,
-            2 => bad.comments = number,
-            _ => bad.instructions = number,
-        }
+        let place = self.rng.below(10);
+        let first = Settings::FIRST_WITHOUT_MEANING[place];
+        let number = *self.rng.pick(&[first, 2, 3, 256, 1 << 16, u32::MAX]);
+        let bad = settings.with(place, number);
         self.read_has(bad, octets, (SETTINGS, 0))?;
         self.write_has(bad, list, (SETTINGS, 0))?;
 
@@ -296,7 +294,7 @@ impl Run {
 
         if self.rng.one_in(8) {
             let mut long = octets.to_vec();
-            long.resize(STREAM_OCTETS + self.rng.between(1, 20), self.rng.octet());
+            long.resize(MAX_STREAM + self.rng.between(1, 20), self.rng.octet());
             self.read_has(settings, &long, (LONG, 0))?;
         }
         Ok(())
@@ -311,20 +309,20 @@ impl Run {
     }
 
     fn short_reader_sizes(&mut self) -> ReaderSizes {
-        let mut sizes = ReaderSizes::USUAL;
+        let mut sizes = ReaderSizes::usual();
         match self.rng.below(3) {
-            0 => sizes.events = self.short(ReaderSizes::STATED.events),
-            1 => sizes.text = self.short(ReaderSizes::STATED.text),
-            _ => sizes.work = self.short(ReaderSizes::STATED.work),
+            0 => sizes.events = self.short(ReaderSizes::stated().events),
+            1 => sizes.text = self.short(ReaderSizes::stated().text),
+            _ => sizes.work = self.short(ReaderSizes::stated().work),
         }
         sizes
     }
 
     fn short_writer_sizes(&mut self) -> WriterSizes {
-        let mut sizes = WriterSizes::USUAL;
+        let mut sizes = WriterSizes::usual();
         match self.rng.below(2) {
-            0 => sizes.octets = self.short(WriterSizes::STATED.octets),
-            _ => sizes.work = self.short(WriterSizes::STATED.work),
+            0 => sizes.octets = self.short(WriterSizes::stated().octets),
+            _ => sizes.work = self.short(WriterSizes::stated().work),
         }
         sizes
     }
@@ -333,17 +331,16 @@ impl Run {
 /// The sizes that LIMIT names, over a list and its strict form.
 fn inside_the_limits(events: &[Event], strict: &Encoded) -> bool {
     let counts = &strict.counts;
-    events.len() <= 4_096
-        && counts.open <= 100
-        && counts.uris <= 16
-        && counts.names <= 128
-        && counts.values <= 512
-        && counts.grammars <= 64
-        && counts.productions <= 512
-        && counts.code_points <= TEXT_CELLS
-        && events
-            .iter()
-            .all(|event| event.strings().iter().all(|string| string.len() <= 1_024))
+    let fits = |event: &Event| event.strings().iter().all(|it| it.len() <= MAX_STRING);
+    events.len() <= MAX_EVENTS
+        && counts.open <= MAX_OPEN
+        && counts.uris <= MAX_URIS
+        && counts.names <= MAX_NAMES
+        && counts.values <= MAX_VALUES
+        && counts.grammars <= MAX_GRAMMARS
+        && counts.productions <= MAX_LEARNED
+        && counts.code_points <= MAX_STORE
+        && events.iter().all(fits)
 }
 
 fn number_from(name: &str) -> Option<usize> {

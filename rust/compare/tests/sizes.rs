@@ -1,17 +1,22 @@
-//! Both sides of every size, in both alignments. The numbers and indices are those of the scope.
+//! Both sides of every size, in both alignments. The indices are those of the scope, and the sizes
+//! are held to it by a test of their own.
 
 #![forbid(unsafe_code)]
 
 use compare::check::{
     hex, is_strict_form, list_is_accepted, list_is_refused, read_is_refused, write_is_refused,
 };
-use compare::encode::{encode, encode_loosely, Encoded, Loose, Role, Shape};
+use compare::encode::{encode, encode_loosely, unsigned_octets, Encoded, Loose, Role, Shape};
 use compare::event::{
     attribute, characters, comment, document, element, text, Event, Stored, Text, CELLS,
 };
 use compare::lent::{
     ReaderMemory, ReaderSizes, Settings, WriterMemory, WriterSizes, BOTH, CHARACTER, ENDED, HEADER,
     LIMIT, LONG, LOOSE, NAME, ROOM, SETTINGS, SHAPE, TAIL,
+};
+use compare::sizes::{
+    CELLS_PER_EVENT, MAX_EVENTS, MAX_GRAMMARS, MAX_LEARNED, MAX_NAMES, MAX_OPEN, MAX_STORE,
+    MAX_STREAM, MAX_STRING, MAX_URIS, MAX_VALUES,
 };
 
 const END: Event = Event::EndElement;
@@ -37,12 +42,13 @@ fn in_root(inner: Vec<Event>) -> Vec<Event> {
 }
 
 /// Both implementations answer these counts of events and code points.
-fn counts_are(settings: Settings, list: &[Event], events: u32, code_points: u32) {
+fn counts_are(settings: Settings, list: &[Event], events: usize, code_points: usize) {
     let octets = encode(settings, list).octets();
     for codec in BOTH {
         let reply = ReaderMemory::new().read(codec, settings, &octets);
         assert_eq!(reply.number, 0, "{codec:?}");
-        assert_eq!((reply.events, reply.code_points), (events, code_points));
+        let counts = (reply.events as usize, reply.code_points as usize);
+        assert_eq!(counts, (events, code_points));
     }
 }
 
@@ -62,6 +68,28 @@ fn cut_after(mut strict: Encoded, role: Role, event: usize) -> Vec<u8> {
 }
 
 #[test]
+fn sizes_are_the_scopes() {
+    let streams = [MAX_STREAM, MAX_EVENTS, MAX_OPEN, MAX_STRING, MAX_STORE];
+    assert_eq!(streams, [16_384, 4_096, 100, 1_024, 16_384]);
+    let tables = [MAX_URIS, MAX_NAMES, MAX_VALUES, MAX_GRAMMARS, MAX_LEARNED];
+    assert_eq!(tables, [16, 128, 512, 64, 512]);
+    assert_eq!(CELLS, CELLS_PER_EVENT);
+}
+
+/// The library asks for what the scope says, and for work memory that it may choose up to 1,048,576
+/// octets.
+#[test]
+fn lent_sizes_follow_from_the_scopes() {
+    let stated = ReaderSizes::stated();
+    assert_eq!(stated.events, CELLS * MAX_EVENTS);
+    assert_eq!(stated.text, MAX_STORE);
+    assert!(4 * stated.work <= 1_048_576);
+    let stated = WriterSizes::stated();
+    assert_eq!(stated.octets, MAX_STREAM);
+    assert!(4 * stated.work <= 1_048_576);
+}
+
+#[test]
 fn open_elements() {
     let nested = |depth: usize| {
         let mut inner = vec![element("", "a"); depth];
@@ -69,11 +97,11 @@ fn open_elements() {
         document(inner)
     };
     for settings in all_settings() {
-        list_is_accepted(settings, &nested(100));
-        counts_are(settings, &nested(100), 202, 100);
-        list_is_refused(settings, &nested(101), LIMIT, 101);
-        let mut again = nested(100);
-        again.splice(101..101, [END, element("", "a")]);
+        list_is_accepted(settings, &nested(MAX_OPEN));
+        counts_are(settings, &nested(MAX_OPEN), 2 * MAX_OPEN + 2, 100);
+        list_is_refused(settings, &nested(MAX_OPEN + 1), LIMIT, MAX_OPEN as u32 + 1);
+        let mut again = nested(MAX_OPEN);
+        again.splice(MAX_OPEN + 1..MAX_OPEN + 1, [END, element("", "a")]);
         list_is_accepted(settings, &again);
     }
 }
@@ -135,31 +163,29 @@ fn with_string(string: &[u32]) -> Vec<(&'static str, Vec<Event>)> {
 fn string_lengths() {
     for settings in ALIGNMENTS.map(Settings::keeping) {
         for code_point in [97, 128, 1_114_111] {
-            for (place, list) in with_string(&vec![code_point; 1_024]) {
+            for (place, list) in with_string(&vec![code_point; MAX_STRING]) {
                 println!("{place}");
                 list_is_accepted(settings, &list);
             }
-            for (place, list) in with_string(&vec![code_point; 1_025]) {
+            for (place, list) in with_string(&vec![code_point; MAX_STRING + 1]) {
                 println!("{place}");
                 list_is_refused(settings, &list, LIMIT, 2);
             }
         }
         // The length is judged before any character.
-        for (place, list) in with_string(&[0; 1_025]) {
+        for (place, list) in with_string(&[0; MAX_STRING + 1]) {
             println!("{place}");
             list_is_refused(settings, &list, LIMIT, 2);
         }
     }
-    // 1,025 and 1,026 are the lengths of names of 1,024 and 1,025, plus 1.
-    read_is_refused(Settings::BYTE_ALIGNED, &hex("80 01 81 08"), ENDED, 1);
-    read_is_refused(Settings::BYTE_ALIGNED, &hex("80 01 82 08"), LIMIT, 1);
-    // The same for values, plus 2, and for URIs.
-    let a = "80 01 02 61";
-    let byte_aligned = Settings::BYTE_ALIGNED;
-    read_is_refused(byte_aligned, &hex(&format!("{a} 03 82 08")), ENDED, 2);
-    read_is_refused(byte_aligned, &hex(&format!("{a} 03 83 08")), LIMIT, 2);
-    read_is_refused(byte_aligned, &hex("80 00 80 08"), ENDED, 1);
-    read_is_refused(byte_aligned, &hex("80 00 81 08"), LIMIT, 1);
+    // A literal's length alone, with what is added for a URI, a name and a value.
+    for (before, added, index) in [("80 00", 0, 1), ("80 01", 1, 1), ("80 01 02 61 03", 2, 2)] {
+        for (length, number) in [(MAX_STRING, ENDED), (MAX_STRING + 1, LIMIT)] {
+            let mut octets = hex(before);
+            octets.extend(unsigned_octets((length + added) as u32));
+            read_is_refused(Settings::BYTE_ALIGNED, &octets, number, index);
+        }
+    }
 }
 
 #[test]
@@ -210,6 +236,8 @@ fn code_points() {
 #[test]
 fn uris() {
     // Three at the start.
+    const NEW: usize = MAX_URIS - 3;
+    const LAST: u32 = NEW as u32;
     let by_elements = |new: usize| {
         let children = (0..new).flat_map(|k| [element(&numbered("u", k), "n"), END]);
         in_root(children.collect())
@@ -219,34 +247,37 @@ fn uris() {
         in_root(all.collect())
     };
     for settings in all_settings() {
-        list_is_accepted(settings, &by_elements(13));
-        list_is_refused(settings, &by_elements(14), LIMIT, 2 + 2 * 13);
-        list_is_accepted(settings, &by_attributes(13));
-        list_is_refused(settings, &by_attributes(14), LIMIT, 2 + 13);
-        let mut again = by_attributes(13);
-        again.splice(15..15, [attribute("u0", "m", "x"), attribute("", "m", "y")]);
+        list_is_accepted(settings, &by_elements(NEW));
+        list_is_refused(settings, &by_elements(NEW + 1), LIMIT, 2 + 2 * LAST);
+        list_is_accepted(settings, &by_attributes(NEW));
+        list_is_refused(settings, &by_attributes(NEW + 1), LIMIT, 2 + LAST);
+        let mut again = by_attributes(NEW);
+        let more = [attribute("u0", "m", "x"), attribute("", "m", "y")];
+        again.splice(2 + NEW..2 + NEW, more);
         list_is_accepted(settings, &again);
         // The limit comes with the URI, before the local name.
-        let strict = encode(settings, &by_elements(14));
-        let cut = cut_after(strict, Role::UriLength, 2 + 2 * 13);
-        read_is_refused(settings, &cut, LIMIT, 2 + 2 * 13);
-        let strict = encode(settings, &by_elements(13));
-        let cut = cut_after(strict, Role::UriLength, 2 + 2 * 12);
+        let strict = encode(settings, &by_elements(NEW + 1));
+        let cut = cut_after(strict, Role::UriLength, 2 + 2 * NEW);
+        read_is_refused(settings, &cut, LIMIT, 2 + 2 * LAST);
+        let strict = encode(settings, &by_elements(NEW));
+        let cut = cut_after(strict, Role::UriLength, 2 * NEW);
         if settings.byte_aligned() {
-            read_is_refused(settings, &cut, ENDED, 2 + 2 * 12);
+            read_is_refused(settings, &cut, ENDED, 2 * LAST);
         }
-        let mut unnamed = by_elements(14);
-        unnamed[2 + 2 * 13] = element("u13", "");
-        write_is_refused(settings, &Stored::plain(&unnamed), LIMIT, 2 + 2 * 13);
-        unnamed = by_elements(13);
-        unnamed[2 + 2 * 12] = element("u12", "");
-        write_is_refused(settings, &Stored::plain(&unnamed), NAME, 2 + 2 * 12);
+        let mut unnamed = by_elements(NEW + 1);
+        unnamed[2 + 2 * NEW] = element(&numbered("u", NEW), "");
+        write_is_refused(settings, &Stored::plain(&unnamed), LIMIT, 2 + 2 * LAST);
+        unnamed = by_elements(NEW);
+        unnamed[2 * NEW] = element(&numbered("u", NEW - 1), "");
+        write_is_refused(settings, &Stored::plain(&unnamed), NAME, 2 * LAST);
     }
 }
 
 #[test]
 fn local_names() {
     // Six at the start, and the root's.
+    const NEW: usize = MAX_NAMES - 7;
+    const LAST: u32 = 2 + NEW as u32;
     let list = |new: usize, uri_of: fn(usize) -> &'static str| {
         let all = (0..new).map(|k| attribute(uri_of(k), &numbered("n", k), "x"));
         in_root(all.collect())
@@ -255,15 +286,15 @@ fn local_names() {
     let three_uris = |k| ["", "u", "v"][k % 3];
     for settings in all_settings() {
         for uri_of in [one_uri, three_uris] {
-            list_is_accepted(settings, &list(121, uri_of));
-            list_is_refused(settings, &list(122, uri_of), LIMIT, 2 + 121);
-            let mut again = list(121, uri_of);
-            again.insert(2 + 121, attribute(uri_of(5), "n5", "y"));
+            list_is_accepted(settings, &list(NEW, uri_of));
+            list_is_refused(settings, &list(NEW + 1, uri_of), LIMIT, LAST);
+            let mut again = list(NEW, uri_of);
+            again.insert(2 + NEW, attribute(uri_of(5), "n5", "y"));
             list_is_accepted(settings, &again);
         }
-        let strict = encode(settings, &list(122, one_uri));
-        let cut = cut_after(strict, Role::NameLength, 2 + 121);
-        read_is_refused(settings, &cut, LIMIT, 2 + 121);
+        let strict = encode(settings, &list(NEW + 1, one_uri));
+        let cut = cut_after(strict, Role::NameLength, 2 + NEW);
+        read_is_refused(settings, &cut, LIMIT, LAST);
     }
 }
 
@@ -275,28 +306,33 @@ fn values(count: usize) -> Vec<Event> {
 
 #[test]
 fn distinct_values() {
+    const LAST: u32 = 2 + MAX_VALUES as u32;
+    let code_points: usize = (0..MAX_VALUES).map(|k| numbered("v", k).len()).sum();
     for settings in all_settings() {
-        list_is_accepted(settings, &values(512));
-        counts_are(settings, &values(512), 516, 100 + 10 * 2 + 90 * 3 + 412 * 4);
-        list_is_refused(settings, &values(513), LIMIT, 2 + 512);
+        list_is_accepted(settings, &values(MAX_VALUES));
+        let full = values(MAX_VALUES);
+        counts_are(settings, &full, MAX_VALUES + 4, 100 + code_points);
+        list_is_refused(settings, &values(MAX_VALUES + 1), LIMIT, LAST);
         // Values that are there already, and empty ones, pass nothing.
-        let mut again = values(512);
-        let more = ["v0", "", "v511", "v258", ""].map(characters);
-        again.splice(2 + 512..2 + 512, more);
+        let mut again = values(MAX_VALUES);
+        let newest = numbered("v", MAX_VALUES - 1);
+        let more = ["v0", "", &newest, "v258", ""].map(characters);
+        again.splice(2 + MAX_VALUES..2 + MAX_VALUES, more);
         list_is_accepted(settings, &again);
         // A value of another name counts the same.
-        let mut other = values(512);
-        other.splice(2 + 512..2 + 512, [element("", "s"), characters("v7"), END]);
+        let mut other = values(MAX_VALUES);
+        let child = [element("", "s"), characters("v7"), END];
+        other.splice(2 + MAX_VALUES..2 + MAX_VALUES, child);
         list_is_accepted(settings, &other);
-        other[2 + 512 + 1] = characters("w");
-        list_is_refused(settings, &other, LIMIT, 2 + 512 + 1);
+        other[2 + MAX_VALUES + 1] = characters("w");
+        list_is_refused(settings, &other, LIMIT, LAST + 1);
         // The full table is judged with the value, before the production.
-        let mut attributes: Vec<Event> = (0..512)
+        let mut attributes: Vec<Event> = (0..MAX_VALUES)
             .map(|k| attribute("", "n", &numbered("v", k)))
             .collect();
         list_is_accepted(settings, &in_root(attributes.clone()));
         attributes.push(attribute("", "n", "w"));
-        list_is_refused(settings, &in_root(attributes), LIMIT, 2 + 512);
+        list_is_refused(settings, &in_root(attributes), LIMIT, LAST);
     }
 }
 
@@ -329,32 +365,34 @@ fn value_numbers_of_two_octets() {
 
 #[test]
 fn element_grammars() {
+    // The root's, and one for each child.
+    const NEW: usize = MAX_GRAMMARS - 1;
+    const LAST: u32 = NEW as u32;
     let children = |count: usize| {
         let all = (0..count).flat_map(|k| [element("", &numbered("e", k)), END]);
         in_root(all.collect())
     };
     for settings in all_settings() {
-        list_is_accepted(settings, &children(63));
-        list_is_refused(settings, &children(64), LIMIT, 2 + 2 * 63);
-        let mut again = children(63);
-        again.splice(
-            2 + 2 * 63..2 + 2 * 63,
-            [element("", "e0"), element("", "r"), END, END],
-        );
+        list_is_accepted(settings, &children(NEW));
+        list_is_refused(settings, &children(NEW + 1), LIMIT, 2 + 2 * LAST);
+        let mut again = children(NEW);
+        let more = [element("", "e0"), element("", "r"), END, END];
+        again.splice(2 + 2 * NEW..2 + 2 * NEW, more);
         list_is_accepted(settings, &again);
         // An attribute's name needs no grammar.
-        let mut named = children(63);
+        let mut named = children(NEW);
         named.insert(3, attribute("", "e99", "x"));
         list_is_accepted(settings, &named);
         // The name is in the table already, as an attribute's: still a grammar more.
-        named.splice(2 + 2 * 63 + 1..2 + 2 * 63 + 1, [element("", "e99"), END]);
-        list_is_refused(settings, &named, LIMIT, 2 + 2 * 63 + 1);
+        named.splice(3 + 2 * NEW..3 + 2 * NEW, [element("", "e99"), END]);
+        list_is_refused(settings, &named, LIMIT, 3 + 2 * LAST);
     }
 }
 
-/// 508 learned productions: 100 attributes of the root; four children, each with 100 attributes, an
-/// SE in the root and an EE.
-fn learned_508() -> Vec<Event> {
+/// Learned productions up to four: 100 attributes of the root; four children, each with 100
+/// attributes, an SE in the root and an EE.
+fn learned_all_but_four() -> Vec<Event> {
+    assert_eq!(MAX_LEARNED, 4 + 100 + 4 * 102);
     let attributes = || (0..100).map(|k| attribute("", &numbered("n", k), "x"));
     let mut inner: Vec<Event> = attributes().collect();
     for child in ["c1", "c2", "c3", "c4"] {
@@ -368,7 +406,7 @@ fn learned_508() -> Vec<Event> {
 #[test]
 fn learned_productions() {
     let with = |more: Vec<Event>| {
-        let mut inner = learned_508();
+        let mut inner = learned_all_but_four();
         inner.extend(more);
         in_root(inner)
     };
@@ -379,11 +417,11 @@ fn learned_productions() {
         all.push(END);
         all
     };
-    let first = 2 + learned_508().len() as u32;
+    let first = 2 + learned_all_but_four().len() as u32;
     for settings in all_settings() {
-        // SE, two AT and EE are the 509th to the 512th.
+        // SE, two AT and EE are the last four.
         list_is_accepted(settings, &with(child(2)));
-        // The 513th is an EE, an AT, an SE, a CH.
+        // One too many is an EE, an AT, an SE, a CH.
         list_is_refused(settings, &with(child(3)), LIMIT, first + 4);
         list_is_refused(settings, &with(child(4)), LIMIT, first + 4);
         let mut another = child(2);
@@ -404,36 +442,41 @@ fn learned_productions() {
 
 #[test]
 fn events() {
+    const LAST: u32 = MAX_EVENTS as u32;
     let texts = |count: usize| document_of_texts(count, "x");
+    // Start and end document, and the root's start and end.
+    let full = MAX_EVENTS - 4;
     for settings in all_settings() {
-        list_is_accepted(settings, &texts(4_092));
-        counts_are(settings, &texts(4_092), 4_096, 101);
-        list_is_refused(settings, &texts(4_093), LIMIT, 4_096);
-        list_is_refused(settings, &texts(4_094), LIMIT, 4_096);
-        list_is_accepted(settings, &document_of_texts(4_092, ""));
-        // An octet behind the 4,096th event.
-        let mut tail = encode(settings, &texts(4_092)).octets();
+        list_is_accepted(settings, &texts(full));
+        counts_are(settings, &texts(full), MAX_EVENTS, 101);
+        list_is_refused(settings, &texts(full + 1), LIMIT, LAST);
+        list_is_refused(settings, &texts(full + 2), LIMIT, LAST);
+        list_is_accepted(settings, &document_of_texts(full, ""));
+        // An octet behind the last event.
+        let mut tail = encode(settings, &texts(full)).octets();
         tail.push(0);
-        read_is_refused(settings, &tail, TAIL, 4_096);
-        // 4,096 events and no end document: the 4,097th is not looked for in the stream.
-        let strict = encode(settings, &texts(4_094));
+        read_is_refused(settings, &tail, TAIL, LAST);
+        // All events and no end document: one more is not looked for in the stream.
+        let strict = encode(settings, &texts(full + 2));
         for cut in strict.octets().len() - 3..strict.octets().len() {
-            if strict.event_at(cut) >= 4_096 {
-                read_is_refused(settings, &strict.octets()[..cut], LIMIT, 4_096);
+            if strict.event_at(cut) >= MAX_EVENTS {
+                read_is_refused(settings, &strict.octets()[..cut], LIMIT, LAST);
             }
         }
-        let mut list = Stored::plain(&texts(4_093));
-        list.cells.truncate(4_096 * CELLS);
-        write_is_refused(settings, &list, SHAPE, 4_096);
+        let mut list = Stored::plain(&texts(full + 1));
+        list.cells.truncate(MAX_EVENTS * CELLS);
+        write_is_refused(settings, &list, SHAPE, LAST);
         // One event more, behind a complete list, of any kind or of none.
-        for more in [[2, 0, 0, 0, 0, 0, 0], [9, 0, 0, 0, 0, 0, 0], [0; 7]] {
-            let mut list = Stored::plain(&texts(4_092));
+        for kind in [2, 9, 0] {
+            let mut more = [0; CELLS];
+            more[0] = kind;
+            let mut list = Stored::plain(&texts(full));
             list.cells.extend(more);
-            write_is_refused(settings, &list, LIMIT, 4_096);
+            write_is_refused(settings, &list, LIMIT, LAST);
         }
-        let mut list = Stored::plain(&texts(4_092));
+        let mut list = Stored::plain(&texts(full));
         list.cells.push(5);
-        write_is_refused(settings, &list, LIMIT, 4_096);
+        write_is_refused(settings, &list, LIMIT, LAST);
     }
 }
 
@@ -454,15 +497,19 @@ fn literals(lengths: &[usize]) -> Vec<Event> {
 
 #[test]
 fn text_store() {
-    let mut lengths = [1_024; 16];
-    lengths[15] = 16_384 - 100 - 15 * 1_024;
+    // As many as fit: all but the last are as long as a string may be.
+    const COUNT: usize = MAX_STORE / MAX_STRING;
+    const REST: usize = MAX_STORE - 100 - (COUNT - 1) * MAX_STRING;
+    const LAST: u32 = COUNT as u32 + 1;
+    let mut lengths = [MAX_STRING; COUNT];
+    lengths[COUNT - 1] = REST;
     let full = literals(&lengths);
-    lengths[15] += 1;
+    lengths[COUNT - 1] += 1;
     let over = literals(&lengths);
     for settings in all_settings() {
         list_is_accepted(settings, &in_root(full.clone()));
-        counts_are(settings, &in_root(full.clone()), 20, 16_384);
-        list_is_refused(settings, &in_root(over.clone()), LIMIT, 2 + 15);
+        counts_are(settings, &in_root(full.clone()), COUNT + 4, MAX_STORE);
+        list_is_refused(settings, &in_root(over.clone()), LIMIT, LAST);
         // A hit and an empty literal need no room; one code point more has none, wherever it
         // stands.
         let mut more = full.clone();
@@ -482,43 +529,42 @@ fn text_store() {
                 inner.push(END);
             }
             inner.push(END);
-            list_is_refused(settings, &in_root(inner), LIMIT, 2 + 17);
+            list_is_refused(settings, &in_root(inner), LIMIT, LAST + 2);
         }
         // A bad character in a literal that does not fit: the store's limit comes first.
         let mut bad = full.clone();
         bad.push(Event::Characters(vec![0]));
-        list_is_refused(settings, &in_root(bad), LIMIT, 2 + 16);
+        list_is_refused(settings, &in_root(bad), LIMIT, LAST + 1);
         // Nor does a loose literal fit.
         let mut hit = full.clone();
         hit.push(characters(""));
         let mut strict = encode(settings, &in_root(hit));
         for field in &mut strict.fields {
-            if field.event == 2 + 16 && field.role == Role::ValueLength {
+            if field.event == 2 + COUNT && field.role == Role::ValueLength {
                 field.shape = Shape::Unsigned(3);
             }
         }
-        read_is_refused(settings, &strict.octets(), LIMIT, 2 + 16);
+        read_is_refused(settings, &strict.octets(), LIMIT, LAST + 1);
     }
     for settings in ALIGNMENTS.map(Settings::keeping) {
-        let last = 16_384 - 100 - 15 * 1_024;
-        let mut commented: Vec<Event> = full[..15].to_vec();
-        commented.push(Event::Comment(vec![97; last]));
+        let mut commented: Vec<Event> = full[..COUNT - 1].to_vec();
+        commented.push(Event::Comment(vec![97; REST]));
         list_is_accepted(settings, &in_root(commented.clone()));
-        counts_are(settings, &in_root(commented.clone()), 20, 16_384);
+        counts_are(settings, &in_root(commented.clone()), COUNT + 4, MAX_STORE);
         // Comments and instructions are literals each time.
         commented.push(comment(""));
         list_is_accepted(settings, &in_root(commented.clone()));
         commented.push(comment("a"));
-        list_is_refused(settings, &in_root(commented), LIMIT, 2 + 17);
-        let mut instructed: Vec<Event> = full[..15].to_vec();
+        list_is_refused(settings, &in_root(commented), LIMIT, LAST + 2);
+        let mut instructed: Vec<Event> = full[..COUNT - 1].to_vec();
         let instruction = |text: usize| Event::Instruction {
             target: vec![97; 10],
             text: vec![97; text],
         };
-        instructed.push(instruction(last - 10));
+        instructed.push(instruction(REST - 10));
         list_is_accepted(settings, &in_root(instructed.clone()));
-        instructed[15] = instruction(last - 9);
-        list_is_refused(settings, &in_root(instructed), LIMIT, 2 + 15);
+        instructed[COUNT - 1] = instruction(REST - 9);
+        list_is_refused(settings, &in_root(instructed), LIMIT, LAST);
     }
 }
 
@@ -543,9 +589,9 @@ fn of_octets(settings: Settings, octets: usize) -> Vec<Event> {
 #[test]
 fn stream_octets() {
     for settings in all_settings() {
-        let full = of_octets(settings, 16_384);
+        let full = of_octets(settings, MAX_STREAM);
         list_is_accepted(settings, &full);
-        let over = of_octets(settings, 16_385);
+        let over = of_octets(settings, MAX_STREAM + 1);
         list_is_refused(settings, &over, LONG, 0);
         // The writer's comes last: an unfinished list is that first.
         let mut open = over.clone();
@@ -553,9 +599,9 @@ fn stream_octets() {
         let index = open.len() as u32;
         write_is_refused(settings, &Stored::plain(&open), SHAPE, index);
         // The reader's comes before the header.
-        read_is_refused(settings, &[0; 16_385], LONG, 0);
-        read_is_refused(settings, &[0; 16_384], HEADER, 0);
-        let mut tail = encode(settings, &of_octets(settings, 16_383)).octets();
+        read_is_refused(settings, &[0; MAX_STREAM + 1], LONG, 0);
+        read_is_refused(settings, &[0; MAX_STREAM], HEADER, 0);
+        let mut tail = encode(settings, &of_octets(settings, MAX_STREAM - 1)).octets();
         tail.push(0);
         read_is_refused(settings, &tail, TAIL, full.len() as u32);
         tail.push(0);
@@ -574,7 +620,7 @@ fn writer_far_past_the_stream() {
 
 #[test]
 fn lent_memory() {
-    let stated = ReaderSizes::STATED;
+    let stated = ReaderSizes::stated();
     let short = [
         ReaderSizes {
             events: stated.events - 1,
@@ -608,7 +654,7 @@ fn lent_memory() {
         assert_eq!(memory.fault(&reply), None);
         for sizes in short {
             for settings in [Settings::BYTE_ALIGNED, no_settings] {
-                for stream in [&a[..], &[0; 16_385]] {
+                for stream in [&a[..], &[0; MAX_STREAM + 1]] {
                     let reply = memory.read_with(sizes, |events, text, work| {
                         codec.read(settings, stream, events, text, work)
                     });
@@ -621,10 +667,10 @@ fn lent_memory() {
                 }
             }
         }
-        let reply = memory.read(codec, no_settings, &[0; 16_385]);
+        let reply = memory.read(codec, no_settings, &[0; MAX_STREAM + 1]);
         assert_eq!((reply.number, reply.index), (SETTINGS, 0));
     }
-    let stated = WriterSizes::STATED;
+    let stated = WriterSizes::stated();
     let short = [
         WriterSizes {
             octets: stated.octets - 1,
@@ -684,23 +730,21 @@ fn with_loose_production(settings: Settings, list: &[Event], event: usize) -> Ve
 #[test]
 fn a_loose_production_comes_between_content_and_limits() {
     for settings in all_settings() {
-        // The 101st open element by SE(*), though a production is learned.
-        let mut deep = vec![element("", "a"); 101];
-        deep.extend(vec![END; 101]);
+        // One open element too many by SE(*), though a production is learned.
+        let count = MAX_OPEN + 1;
+        let mut deep = vec![element("", "a"); count];
+        deep.extend(vec![END; count]);
         let deep = document(deep);
-        read_is_refused(
-            settings,
-            &with_loose_production(settings, &deep, 101),
-            LOOSE,
-            101,
-        );
-        list_is_refused(settings, &deep, LIMIT, 101);
-        // The 513th value in an attribute by AT(*), though a production is learned.
-        let all = (0..513).map(|k| attribute("", "n", &numbered("v", k)));
+        let octets = with_loose_production(settings, &deep, count);
+        read_is_refused(settings, &octets, LOOSE, count as u32);
+        list_is_refused(settings, &deep, LIMIT, count as u32);
+        // One value too many in an attribute by AT(*), though a production is learned.
+        let all = (0..MAX_VALUES + 1).map(|k| attribute("", "n", &numbered("v", k)));
         let values = in_root(all.collect());
-        let octets = with_loose_production(settings, &values, 2 + 512);
-        read_is_refused(settings, &octets, LIMIT, 2 + 512);
-        let octets = with_loose_production(settings, &values, 2 + 511);
-        read_is_refused(settings, &octets, LOOSE, 2 + 511);
+        let last = 2 + MAX_VALUES;
+        let octets = with_loose_production(settings, &values, last);
+        read_is_refused(settings, &octets, LIMIT, last as u32);
+        let octets = with_loose_production(settings, &values, last - 1);
+        read_is_refused(settings, &octets, LOOSE, last as u32 - 1);
     }
 }

@@ -5,8 +5,8 @@
 use compare::check::{hex, is_strict_form, read_is_refused, write_is_refused};
 use compare::encode::encode;
 use compare::event::{
-    attribute, characters, comment, document, element, events, instruction, text, Event, Stored,
-    XML_URI, XSI_URI,
+    attribute, characters, comment, document, element, events, instruction, text, unused_cells,
+    Event, Stored, CELLS, XML_URI, XSI_URI,
 };
 use compare::lent::{
     ReaderMemory, Settings, BOTH, CHARACTER, CODE, ENDED, HEADER, LIMIT, LOOSE, NAME, NUMBER,
@@ -16,6 +16,8 @@ use compare::lent::{
 const BYTES: Settings = Settings::BYTE_ALIGNED;
 const BITS: Settings = Settings::BIT_PACKED;
 const END: Event = Event::EndElement;
+
+type Cells = [u32; CELLS];
 
 fn strict(settings: Settings, octets: &str, inner: Vec<Event>) {
     let list = document(inner);
@@ -370,31 +372,19 @@ fn headers() {
     }
 }
 
+/// Each number in its place, from the first on that has none: behind ROOM, before LONG and anything
+/// of the stream or the list.
 #[test]
 fn settings_without_a_meaning() {
     let list = Stored::plain(&document(vec![element("", "a"), END]));
-    for bad in [2, 3, 255, 256, 1 << 31, u32::MAX] {
-        for settings in [
-            Settings {
-                alignment: bad,
-                ..BYTES
-            },
-            Settings {
-                cookie: bad,
-                ..BYTES
-            },
-            Settings {
-                comments: bad,
-                ..BYTES
-            },
-            Settings {
-                instructions: bad,
-                ..BYTES
-            },
-        ] {
-            refused(settings, "80 01 02 61 00", SETTINGS, 0);
-            read_is_refused(settings, &[0; 16_385], SETTINGS, 0);
-            write_is_refused(settings, &list, SETTINGS, 0);
+    for (place, first) in Settings::FIRST_WITHOUT_MEANING.into_iter().enumerate() {
+        for bad in [first, 2, 3, 255, 256, 513, 2_049, 1 << 31, u32::MAX] {
+            for settings in [BYTES, BITS.keeping()].map(|settings| settings.with(place, bad)) {
+                refused(settings, "80 01 02 61 00", SETTINGS, 0);
+                read_is_refused(settings, &[0; 16_385], SETTINGS, 0);
+                write_is_refused(settings, &list, SETTINGS, 0);
+                write_is_refused(settings, &stored(&[], ""), SETTINGS, 0);
+            }
         }
     }
 }
@@ -406,7 +396,7 @@ fn initial_text() -> Vec<u32> {
 }
 
 /// Both implementations put exactly these cells and code points into the lent memory.
-fn lies_as(settings: Settings, octets: &str, cells: &[[u32; 7]], literals: &str) {
+fn lies_as(settings: Settings, octets: &str, cells: &[Cells], literals: &str) {
     let mut store = initial_text();
     assert_eq!(store.len(), 99);
     store.extend(text(literals));
@@ -427,17 +417,17 @@ fn lies_as(settings: Settings, octets: &str, cells: &[[u32; 7]], literals: &str)
 #[test]
 fn where_strings_lie_in_the_readers_store() {
     let (start, end, close) = (
-        [1, 0, 0, 0, 0, 0, 0],
-        [2, 0, 0, 0, 0, 0, 0],
-        [5, 0, 0, 0, 0, 0, 0],
+        [1, 0, 0, 0, 0, 0, 0, 0, 0],
+        [2, 0, 0, 0, 0, 0, 0, 0, 0],
+        [5, 0, 0, 0, 0, 0, 0, 0, 0],
     );
-    let root = [3, 0, 0, 99, 1, 0, 0];
+    let root = [3, 0, 0, 99, 1, 0, 0, 0, 0];
     lies_as(BYTES, "80 01 02 61 00", &[start, root, close, end], "a");
     // An empty literal lies at the end of the store so far.
     lies_as(
         BYTES,
         "80 01 02 61 03 02 00",
-        &[start, root, [6, 100, 0, 0, 0, 0, 0], close, end],
+        &[start, root, [6, 100, 0, 0, 0, 0, 0, 0, 0], close, end],
         "a",
     );
     // A hit lies where its entry lies, and so does a name that a learned production carries.
@@ -447,11 +437,11 @@ fn where_strings_lie_in_the_readers_store() {
         &[
             start,
             root,
-            [3, 0, 0, 100, 1, 0, 0],
-            [4, 0, 0, 101, 1, 102, 1],
+            [3, 0, 0, 100, 1, 0, 0, 0, 0],
+            [4, 0, 0, 101, 1, 0, 0, 102, 1],
             close,
-            [3, 0, 0, 100, 1, 0, 0],
-            [4, 0, 0, 101, 1, 102, 1],
+            [3, 0, 0, 100, 1, 0, 0, 0, 0],
+            [4, 0, 0, 101, 1, 0, 0, 102, 1],
             close,
             close,
             end,
@@ -463,8 +453,8 @@ fn where_strings_lie_in_the_readers_store() {
         "80 02 00 03 01 03 02 62 02 01 00",
         &[
             start,
-            [3, 0, 36, 87, 5, 0, 0],
-            [4, 36, 41, 99, 1, 100, 0],
+            [3, 0, 36, 87, 5, 0, 0, 0, 0],
+            [4, 36, 41, 99, 1, 0, 0, 100, 0],
             close,
             end,
         ],
@@ -477,9 +467,9 @@ fn where_strings_lie_in_the_readers_store() {
         &[
             start,
             root,
-            [7, 100, 1, 0, 0, 0, 0],
-            [7, 101, 1, 0, 0, 0, 0],
-            [8, 102, 1, 103, 0, 0, 0],
+            [7, 100, 1, 0, 0, 0, 0, 0, 0],
+            [7, 101, 1, 0, 0, 0, 0, 0, 0],
+            [8, 102, 1, 103, 0, 0, 0, 0, 0],
             close,
             end,
         ],
@@ -490,8 +480,8 @@ fn where_strings_lie_in_the_readers_store() {
         "80 00 5D 40 98 68 04 C4 00",
         &[
             start,
-            [3, 99, 1, 100, 1, 0, 0],
-            [3, 99, 1, 101, 1, 0, 0],
+            [3, 99, 1, 100, 1, 0, 0, 0, 0],
+            [3, 99, 1, 101, 1, 0, 0, 0, 0],
             close,
             close,
             end,
@@ -500,25 +490,25 @@ fn where_strings_lie_in_the_readers_store() {
     );
 }
 
-fn stored(cells: &[[u32; 7]], store: &str) -> Stored {
+fn stored(cells: &[Cells], store: &str) -> Stored {
     Stored {
         cells: cells.concat(),
         store: text(store),
     }
 }
 
-const SD: [u32; 7] = [1, 0, 0, 0, 0, 0, 0];
-const ED: [u32; 7] = [2, 0, 0, 0, 0, 0, 0];
-const EE: [u32; 7] = [5, 0, 0, 0, 0, 0, 0];
-const SE: [u32; 7] = [3, 0, 0, 0, 1, 0, 0];
-const AT: [u32; 7] = [4, 0, 0, 0, 1, 0, 1];
-const CH: [u32; 7] = [6, 0, 1, 0, 0, 0, 0];
-const CM: [u32; 7] = [7, 0, 1, 0, 0, 0, 0];
-const PI: [u32; 7] = [8, 0, 1, 0, 1, 0, 0];
+const SD: Cells = [1, 0, 0, 0, 0, 0, 0, 0, 0];
+const ED: Cells = [2, 0, 0, 0, 0, 0, 0, 0, 0];
+const EE: Cells = [5, 0, 0, 0, 0, 0, 0, 0, 0];
+const SE: Cells = [3, 0, 0, 0, 1, 0, 0, 0, 0];
+const AT: Cells = [4, 0, 0, 0, 1, 0, 0, 0, 1];
+const CH: Cells = [6, 0, 1, 0, 0, 0, 0, 0, 0];
+const CM: Cells = [7, 0, 1, 0, 0, 0, 0, 0, 0];
+const PI: Cells = [8, 0, 1, 0, 1, 0, 0, 0, 0];
 
 #[test]
 fn lists_that_break_the_rules_of_order() {
-    let shape = |settings: Settings, cells: &[[u32; 7]], index: u32| {
+    let shape = |settings: Settings, cells: &[Cells], index: u32| {
         write_is_refused(settings, &stored(cells, "a"), SHAPE, index);
     };
     for settings in [BYTES, BITS, BYTES.keeping()] {
@@ -563,28 +553,55 @@ fn lists_that_break_the_rules_of_order() {
 #[test]
 fn stored_events_that_are_no_events() {
     for number in [0, 9, 10, 255, 256, 0x0100_0003, u32::MAX] {
-        let list = stored(&[SD, SE, [number, 0, 0, 0, 0, 0, 0], EE, ED], "a");
+        let list = stored(&[SD, SE, [number, 0, 0, 0, 0, 0, 0, 0, 0], EE, ED], "a");
         write_is_refused(BYTES, &list, SHAPE, 2);
     }
     let good = [SD, CM, SE, AT, CH, PI, EE, ED];
     let all = BYTES.keeping();
     is_written(all, &stored(&good, "a"));
-    for (at, used) in [(0, 1), (1, 3), (2, 5), (4, 3), (5, 5), (6, 1), (7, 1)] {
-        for cell in used..7 {
+    let mut tried = 0;
+    for (at, event) in good.iter().enumerate() {
+        for cell in unused_cells(event[0]).expect("a kind") {
             for data in [1, 1 << 31] {
                 let mut cells = good;
                 cells[at][cell] = data;
                 write_is_refused(all, &stored(&cells, "a"), SHAPE, at as u32);
+                tried += 1;
             }
         }
     }
-    for rest in 1..7 {
+    assert_eq!(tried, 2 * (8 + 6 + 4 + 2 + 6 + 4 + 8 + 8));
+    for rest in 1..CELLS {
         let mut list = stored(&good, "a");
         list.cells.truncate(list.cells.len() - rest);
         write_is_refused(all, &list, SHAPE, 7);
         let mut list = stored(&good, "a");
         list.cells.resize(list.cells.len() + rest, 0);
         write_is_refused(all, &list, SHAPE, 8);
+    }
+}
+
+/// No prefixes are kept, so that any number in a prefix's cells is data in a place which the kind
+/// does not use: before the faults of its strings, and even where the event is out of order.
+#[test]
+fn stored_prefixes_are_no_events() {
+    for settings in [BYTES, BITS, BYTES.keeping()] {
+        for prefix in [[0, 1], [1, 0], [1, 1], [0, 9], [u32::MAX, u32::MAX]] {
+            let with_prefix = |event: Cells| {
+                let mut event = event;
+                event[5..7].copy_from_slice(&prefix);
+                event
+            };
+            let shape = |cells: &[Cells], index: u32| {
+                write_is_refused(settings, &stored(cells, "a"), SHAPE, index);
+            };
+            shape(&[SD, with_prefix(SE), EE, ED], 1);
+            shape(&[SD, SE, with_prefix(AT), EE, ED], 2);
+            shape(&[SD, SE, CH, with_prefix(AT), EE, ED], 3);
+            shape(&[SD, SE, with_prefix(CH), EE, ED], 2);
+            shape(&[SD, SE, with_prefix(EE), ED], 2);
+            shape(&[SD, with_prefix([3, 9, 9, 0, 0, 0, 0, 0, 0]), EE, ED], 1);
+        }
     }
 }
 
@@ -595,35 +612,68 @@ fn is_written(settings: Settings, list: &Stored) {
 
 #[test]
 fn strings_outside_the_store() {
-    let place = |cells: &[[u32; 7]], store: &str, number: u32, index: u32| {
+    let place = |cells: &[Cells], store: &str, number: u32, index: u32| {
         write_is_refused(BYTES, &stored(cells, store), number, index);
     };
-    is_written(BYTES, &stored(&[SD, [3, 1, 0, 0, 1, 0, 0], EE, ED], "a"));
-    place(&[SD, [3, 2, 0, 0, 1, 0, 0], EE, ED], "a", PLACE, 1);
-    place(&[SD, [3, 0, 2, 0, 1, 0, 0], EE, ED], "a", PLACE, 1);
-    place(&[SD, [3, 0, 0, 1, 1, 0, 0], EE, ED], "a", PLACE, 1);
-    place(&[SD, [3, 0, 0, u32::MAX, 1, 0, 0], EE, ED], "a", PLACE, 1);
-    place(&[SD, [3, 0, 0, 1, u32::MAX, 0, 0], EE, ED], "a", PLACE, 1);
+    is_written(
+        BYTES,
+        &stored(&[SD, [3, 1, 0, 0, 1, 0, 0, 0, 0], EE, ED], "a"),
+    );
+    place(&[SD, [3, 2, 0, 0, 1, 0, 0, 0, 0], EE, ED], "a", PLACE, 1);
+    place(&[SD, [3, 0, 2, 0, 1, 0, 0, 0, 0], EE, ED], "a", PLACE, 1);
+    place(&[SD, [3, 0, 0, 1, 1, 0, 0, 0, 0], EE, ED], "a", PLACE, 1);
     place(
-        &[SD, [3, u32::MAX, u32::MAX, 0, 1, 0, 0], EE, ED],
+        &[SD, [3, 0, 0, u32::MAX, 1, 0, 0, 0, 0], EE, ED],
         "a",
         PLACE,
         1,
     );
-    place(&[SD, SE, [4, 0, 0, 0, 1, 1, 1], EE, ED], "a", PLACE, 2);
-    place(&[SD, SE, [4, 0, 0, 0, 1, 2, 0], EE, ED], "a", PLACE, 2);
+    place(
+        &[SD, [3, 0, 0, 1, u32::MAX, 0, 0, 0, 0], EE, ED],
+        "a",
+        PLACE,
+        1,
+    );
+    place(
+        &[SD, [3, u32::MAX, u32::MAX, 0, 1, 0, 0, 0, 0], EE, ED],
+        "a",
+        PLACE,
+        1,
+    );
+    place(
+        &[SD, SE, [4, 0, 0, 0, 1, 0, 0, 1, 1], EE, ED],
+        "a",
+        PLACE,
+        2,
+    );
+    place(
+        &[SD, SE, [4, 0, 0, 0, 1, 0, 0, 2, 0], EE, ED],
+        "a",
+        PLACE,
+        2,
+    );
     place(&[SD, SE, EE, ED], "", PLACE, 1);
     // Before the faults of any of its strings, but behind the event's own.
-    place(&[SD, [3, 0, 0, 0, 0, 0, 0], EE, ED], "a", NAME, 1);
-    place(&[SD, [3, 2, 0, 0, 0, 0, 0], EE, ED], "a", PLACE, 1);
-    place(&[SD, SE, [4, 0, 0, 0, 0, 2, 0], EE, ED], "a", PLACE, 2);
-    place(&[SD, [3, 2, 0, 0, 0, 1, 0], EE, ED], "a", SHAPE, 1);
-    place(&[SD, SE, [7, 5, 5, 0, 0, 0, 0], EE, ED], "a", SHAPE, 2);
+    place(&[SD, [3, 0, 0, 0, 0, 0, 0, 0, 0], EE, ED], "a", NAME, 1);
+    place(&[SD, [3, 2, 0, 0, 0, 0, 0, 0, 0], EE, ED], "a", PLACE, 1);
+    place(
+        &[SD, SE, [4, 0, 0, 0, 0, 0, 0, 2, 0], EE, ED],
+        "a",
+        PLACE,
+        2,
+    );
+    place(&[SD, [3, 2, 0, 0, 0, 1, 0, 0, 0], EE, ED], "a", SHAPE, 1);
+    place(
+        &[SD, SE, [7, 5, 5, 0, 0, 0, 0, 0, 0], EE, ED],
+        "a",
+        SHAPE,
+        2,
+    );
 }
 
 #[test]
 fn strings_are_judged_one_after_the_other() {
-    let refused = |cells: &[[u32; 7]], store: Vec<u32>, number: u32, index: u32| {
+    let refused = |cells: &[Cells], store: Vec<u32>, number: u32, index: u32| {
         let list = Stored {
             cells: cells.concat(),
             store,
@@ -634,31 +684,31 @@ fn strings_are_judged_one_after_the_other() {
     };
     let with_bad = vec![97, 0];
     refused(
-        &[SD, [3, 1, 1, 0, 0, 0, 0], EE, ED],
+        &[SD, [3, 1, 1, 0, 0, 0, 0, 0, 0], EE, ED],
         with_bad.clone(),
         CHARACTER,
         1,
     );
     refused(
-        &[SD, [3, 0, 1, 1, 0, 0, 0], EE, ED],
+        &[SD, [3, 0, 1, 1, 0, 0, 0, 0, 0], EE, ED],
         with_bad.clone(),
         NAME,
         1,
     );
     refused(
-        &[SD, [3, 0, 1, 1, 1, 0, 0], EE, ED],
+        &[SD, [3, 0, 1, 1, 1, 0, 0, 0, 0], EE, ED],
         with_bad.clone(),
         CHARACTER,
         1,
     );
     refused(
-        &[SD, SE, [4, 0, 0, 0, 0, 1, 1], EE, ED],
+        &[SD, SE, [4, 0, 0, 0, 0, 0, 0, 1, 1], EE, ED],
         with_bad.clone(),
         NAME,
         2,
     );
     refused(
-        &[SD, SE, [4, 0, 0, 0, 1, 1, 1], EE, ED],
+        &[SD, SE, [4, 0, 0, 0, 1, 0, 0, 1, 1], EE, ED],
         with_bad.clone(),
         CHARACTER,
         2,
@@ -666,18 +716,23 @@ fn strings_are_judged_one_after_the_other() {
     let mut long = vec![97; 1_025];
     long.push(0);
     refused(
-        &[SD, [3, 0, 1_025, 0, 0, 0, 0], EE, ED],
+        &[SD, [3, 0, 1_025, 0, 0, 0, 0, 0, 0], EE, ED],
         long.clone(),
         LIMIT,
         1,
     );
     refused(
-        &[SD, [3, 1_025, 1, 0, 1_025, 0, 0], EE, ED],
+        &[SD, [3, 1_025, 1, 0, 1_025, 0, 0, 0, 0], EE, ED],
         long.clone(),
         CHARACTER,
         1,
     );
-    refused(&[SD, [3, 1, 1_025, 0, 1, 0, 0], EE, ED], long, LIMIT, 1);
+    refused(
+        &[SD, [3, 1, 1_025, 0, 1, 0, 0, 0, 0], EE, ED],
+        long,
+        LIMIT,
+        1,
+    );
     // Code points of no string are not judged.
     let spare = Stored {
         cells: [SD, SE, EE, ED].concat(),
@@ -689,8 +744,8 @@ fn strings_are_judged_one_after_the_other() {
     store.extend(text("niltype"));
     let uri = XSI_URI.len() as u32;
     for (place, length) in [(uri, 3), (uri + 3, 4)] {
-        let element = [3, 0, uri, place, length, 0, 0];
-        let attribute = [4, 0, uri, place, length, 0, 1];
+        let element = [3, 0, uri, place, length, 0, 0, 0, 0];
+        let attribute = [4, 0, uri, place, length, 0, 0, 0, 1];
         refused(&[SD, element, attribute, EE, ED], store.clone(), NAME, 2);
         let list = Stored {
             cells: [SD, element, EE, ED].concat(),

@@ -1,52 +1,128 @@
-//! Requests with their answers, from files: both sides of every size, and random lists and streams,
-//! good and damaged.
+//! Requests with their answers, from files: both sides of every size, memory that is too short,
+//! settings without a meaning, and random lists and streams, good and damaged.
 
 #![forbid(unsafe_code)]
 
-use compare::lent::{Codec, BOTH};
+use compare::lent::BOTH;
 use compare::protocol::{Asker, Request};
 
-fn run(codec: Codec, file: &str, count: usize) {
-    let mut asker = Asker::new(codec);
+const EDGES: &str = include_str!("../vectors/edges.txt");
+const RANDOM: &str = include_str!("../vectors/random.txt");
+const ROOM: &str = include_str!("../vectors/room.txt");
+const CROSS: &str = include_str!("../vectors/cross.txt");
+
+/// The requests of document 02 that have landed, by their numbers. Each landing adds its own.
+const LANDED: [u32; 0] = [];
+
+/// The lines of a file, each as a request and its answer.
+fn lines(file: &str) -> impl Iterator<Item = (&str, &str)> {
+    file.lines()
+        .map(|line| line.split_once(" => ").expect("a request and its answer"))
+}
+
+/// Both implementations answer these requests as they have to.
+fn run<'a>(lines: impl Iterator<Item = (&'a str, &'a str)>, count: usize) {
+    let mut askers = BOTH.map(Asker::new);
     let mut asked = 0;
-    for (number, line) in file.lines().enumerate() {
-        let (request, answer) = line.split_once(" => ").expect("a request and its answer");
-        let got = asker.answer_line(request);
-        assert!(
-            got == answer,
-            "{codec:?}, line {}: {request}\nanswered {got}\nand not  {answer}",
-            number + 1
-        );
+    for (request, answer) in lines {
+        for (asker, codec) in askers.iter_mut().zip(BOTH) {
+            let got = asker.answer_line(request);
+            assert!(
+                got == answer,
+                "{codec:?}: {request}\nanswered {got}\nand not  {answer}"
+            );
+        }
         asked += 1;
     }
     assert_eq!(asked, count);
 }
 
-const EDGES: &str = include_str!("../vectors/edges.txt");
-const RANDOM: &str = include_str!("../vectors/random.txt");
-
 #[test]
 fn both_sides_of_every_size() {
-    for codec in BOTH {
-        run(codec, EDGES, 400);
-    }
+    run(lines(EDGES), 400);
 }
 
 #[test]
 fn random_lists_and_streams() {
-    for codec in BOTH {
-        run(codec, RANDOM, 1_500);
+    run(lines(RANDOM), 1_500);
+}
+
+/// ROOM and SETTINGS of the base.
+#[test]
+fn too_little_memory_and_settings_without_a_meaning() {
+    run(lines(ROOM), 70);
+}
+
+/// What has to have landed for the answer to a line of `cross.txt` to hold: what its letter and its
+/// words name, and P2, P3 and P6.
+fn asks_for(request: &str) -> Vec<u32> {
+    let mut all = vec![2, 3, 6];
+    let mut words = request.split(' ');
+    all.extend(match words.next() {
+        Some("r" | "w") => None,
+        Some("f") => Some(8),
+        Some("m" | "l") => Some(12),
+        Some("x" | "u") => Some(13),
+        other => panic!("no request: {other:?}"),
+    });
+    for (name, _) in words.filter_map(|word| word.split_once('=')) {
+        all.extend(match name {
+            "fragment" => Some(1),
+            "vmax" | "vcap" => Some(5),
+            "loose" => Some(7),
+            "prefixes" => Some(11),
+            "cap" => Some(14),
+            "short" | "room" | "events" => None,
+            other => panic!("no word: {other:?}"),
+        });
     }
+    all
+}
+
+/// Settings of several requests in one line: each line is put once all that it names has landed.
+#[test]
+fn settings_of_several_requests() {
+    let landed = |request: &str| asks_for(request).iter().all(|it| LANDED.contains(it));
+    let (now, later): (Vec<_>, Vec<_>) = lines(CROSS).partition(|(request, _)| landed(request));
+    assert_eq!((now.len(), later.len()), (0, 790));
+    run(now.into_iter(), 0);
+}
+
+/// The requests of `cross.txt` that are understood, whatever settings they name: those to read, and
+/// those to write events without prefixes.
+fn understood() -> impl Iterator<Item = &'static str> {
+    let requests = lines(CROSS).map(|(request, _)| request);
+    requests.filter(|request| Request::parse(request).is_ok())
 }
 
 #[test]
 fn requests_are_printed_as_they_stand() {
-    for line in EDGES.lines().chain(RANDOM.lines()) {
-        let (request, _) = line.split_once(" => ").expect("a request and its answer");
-        let printed = Request::parse(request).map(|request| request.to_string());
+    let all = lines(EDGES).chain(lines(RANDOM)).chain(lines(ROOM));
+    let mut printed = 0;
+    for request in all.map(|(request, _)| request).chain(understood()) {
         // A number over 32 bits has another in its place.
         if !request.contains("18446744073709551615") {
-            assert_eq!(printed.as_deref(), Ok(request));
+            let parsed = Request::parse(request).map(|request| request.to_string());
+            assert_eq!(parsed.as_deref(), Ok(request));
+            printed += 1;
         }
     }
+    assert_eq!(printed, 2_392);
+}
+
+/// What a setting asks for that has not landed is SETTINGS before anything else; but ROOM comes
+/// first.
+#[test]
+fn settings_that_have_not_landed() {
+    let mut askers = BOTH.map(Asker::new);
+    let mut asked = 0;
+    for request in understood() {
+        let number = if request.contains("short=") { 1 } else { 2 };
+        let nothing = if request.starts_with('r') { "- -" } else { "-" };
+        for asker in &mut askers {
+            assert_eq!(asker.answer_line(request), format!("{number} 0 {nothing}"));
+        }
+        asked += 1;
+    }
+    assert_eq!(asked, 432);
 }

@@ -2,11 +2,8 @@
 
 use crate::refusal::Refusal;
 use crate::settings::Options;
-use crate::tables::{NameId, MAX_NAMES};
-
-const MAX_OPEN: usize = 100;
-const MAX_GRAMMARS: usize = 64;
-const MAX_LEARNED: usize = 512;
+use crate::sizes::{MAX_GRAMMARS, MAX_LEARNED, MAX_NAMES, MAX_OPEN};
+use crate::tables::NameId;
 
 #[derive(Clone, Copy, Debug, PartialEq, Eq)]
 pub enum Terminal {

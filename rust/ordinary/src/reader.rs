@@ -1,11 +1,12 @@
 use crate::bits::BitReader;
-use crate::event::{Event, CELLS_PER_EVENT};
+use crate::event::Event;
 use crate::grammar::{Grammars, Production, Symbol, Terminal};
 use crate::refusal::Refusal;
 use crate::settings::Options;
+use crate::sizes::{CELLS_PER_EVENT, MAX_EVENTS, MAX_STORE, MAX_STREAM, MAX_STRING};
 use crate::tables::{NameId, StringTable, UriId, INITIAL_TEXT};
-use crate::text::{is_char, Span, MAX_STRING};
-use crate::{Failure, MAX_EVENTS, MAX_OCTETS, MAX_TEXT};
+use crate::text::{is_char, Span};
+use crate::Failure;
 
 /// Reads a stream. Gives the number of events and of code points.
 pub fn read(
@@ -14,7 +15,7 @@ pub fn read(
     events: &mut [u32],
     text: &mut [u32],
 ) -> Result<(usize, usize), Failure> {
-    if stream.len() > MAX_OCTETS {
+    if stream.len() > MAX_STREAM {
         return Err((Refusal::Long, 0));
     }
     text[..INITIAL_TEXT.len()].copy_from_slice(&INITIAL_TEXT);
@@ -189,7 +190,7 @@ impl Reader<'_> {
     fn literal(&mut self, length: u32) -> Result<Span, Refusal> {
         let length = length as usize;
         let place = self.text_length;
-        if length > MAX_STRING || place + length > MAX_TEXT {
+        if length > MAX_STRING || place + length > MAX_STORE {
             return Err(Refusal::Limit);
         }
         for cell in &mut self.text[place..place + length] {

@@ -1,7 +1,7 @@
 use crate::refusal::Refusal;
 
-/// The settings as numbers, each 0 or 1.
-#[derive(Clone, Copy, Debug, PartialEq, Eq)]
+/// The settings as numbers. A bound n is n + 1, and 0 is none.
+#[derive(Clone, Copy, Debug, PartialEq, Eq, Default)]
 pub struct Settings {
     /// 0 bit-packed, 1 byte-aligned.
     pub alignment: u32,
@@ -11,6 +11,18 @@ pub struct Settings {
     pub comments: u32,
     /// 1 if processing instructions are kept.
     pub instructions: u32,
+    /// Fragments; this and all below are not done yet, and have to be 0.
+    pub fragment: u32,
+    /// The longest value that joins the tables.
+    pub value_length: u32,
+    /// How many values the tables hold.
+    pub value_capacity: u32,
+    /// Whether forms are taken that are not strict.
+    pub loose: u32,
+    /// Whether prefixes are kept.
+    pub prefixes: u32,
+    /// How many element grammars there may be.
+    pub grammar_cap: u32,
 }
 
 #[derive(Clone, Copy, PartialEq, Eq)]
@@ -44,6 +56,17 @@ impl TryFrom<Settings> for Options {
     type Error = Refusal;
 
     fn try_from(s: Settings) -> Result<Self, Refusal> {
+        let not_done = [
+            s.fragment,
+            s.value_length,
+            s.value_capacity,
+            s.loose,
+            s.prefixes,
+            s.grammar_cap,
+        ];
+        if not_done != [0; 6] {
+            return Err(Refusal::Settings);
+        }
         let alignment = if flag(s.alignment)? {
             Alignment::ByteAligned
         } else {

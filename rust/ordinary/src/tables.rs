@@ -3,11 +3,8 @@
 //! Entries are parts of the text store. The functions that compare texts are handed that store.
 
 use crate::refusal::Refusal;
+use crate::sizes::{MAX_NAMES, MAX_URIS, MAX_VALUES};
 use crate::text::Span;
-
-pub const MAX_NAMES: usize = 128;
-const MAX_URIS: usize = 16;
-const MAX_VALUES: usize = 512;
 
 /// What every text store begins with: the initial URIs, then the initial local names.
 pub const INITIAL_TEXT: [u32; 99] = code_points(

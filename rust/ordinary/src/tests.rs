@@ -1,5 +1,8 @@
+use crate::sizes::{CELLS_PER_EVENT as CELLS, MAX_EVENTS, MAX_STORE, MAX_STREAM};
 use crate::{read, write, ReadReply, Refusal, Settings, WriteReply};
-use crate::{MAX_EVENTS, MAX_OCTETS, MAX_TEXT, READER_WORK, WRITER_WORK};
+
+/// Work memory that is asked for.
+const WORK: usize = 100;
 
 const XSI: &str = "http://www.w3.org/2001/XMLSchema-instance";
 const XML: &str = "http://www.w3.org/XML/1998/namespace";
@@ -47,25 +50,23 @@ fn pi(target: &str, text: &str) -> E {
     E::Pi(target.into(), text.into())
 }
 
-fn settings(alignment: u32, cookie: u32, comments: u32, instructions: u32) -> Settings {
+const fn settings(alignment: u32, cookie: u32, comments: u32, instructions: u32) -> Settings {
     Settings {
         alignment,
         cookie,
         comments,
         instructions,
+        fragment: 0,
+        value_length: 0,
+        value_capacity: 0,
+        loose: 0,
+        prefixes: 0,
+        grammar_cap: 0,
     }
 }
 
-const BITS: Settings = Settings {
-    alignment: 0,
-    cookie: 0,
-    comments: 0,
-    instructions: 0,
-};
-const BYTES: Settings = Settings {
-    alignment: 1,
-    ..BITS
-};
+const BITS: Settings = settings(0, 0, 0, 0);
+const BYTES: Settings = settings(1, 0, 0, 0);
 
 fn octets(hex: &str) -> Vec<u8> {
     hex.split_whitespace()
@@ -77,35 +78,37 @@ fn octets(hex: &str) -> Vec<u8> {
 fn lay(list: &[E]) -> (Vec<u32>, Vec<u32>) {
     let (mut cells, mut store) = (Vec::new(), Vec::new());
     for event in list {
-        let (kind, texts): (u32, Vec<&String>) = match event {
+        // The kind, and each text with the first of its two cells.
+        let (kind, texts): (u32, Vec<(usize, &String)>) = match event {
             Sd => (1, vec![]),
             Ed => (2, vec![]),
-            E::Se(uri, name) => (3, vec![uri, name]),
-            E::At(uri, name, value) => (4, vec![uri, name, value]),
+            E::Se(uri, name) => (3, vec![(1, uri), (3, name)]),
+            E::At(uri, name, value) => (4, vec![(1, uri), (3, name), (7, value)]),
             Ee => (5, vec![]),
-            E::Ch(text) => (6, vec![text]),
-            E::Cm(text) => (7, vec![text]),
-            E::Pi(target, text) => (8, vec![target, text]),
+            E::Ch(text) => (6, vec![(1, text)]),
+            E::Cm(text) => (7, vec![(1, text)]),
+            E::Pi(target, text) => (8, vec![(1, target), (3, text)]),
         };
-        let end = cells.len() + 7;
-        cells.push(kind);
-        for text in texts {
+        let mut event = [0; CELLS];
+        event[0] = kind;
+        for (cell, text) in texts {
             let place = store.len();
             store.extend(text.chars().map(u32::from));
-            cells.extend([place as u32, (store.len() - place) as u32]);
+            event[cell] = place as u32;
+            event[cell + 1] = (store.len() - place) as u32;
         }
-        cells.resize(end, 0);
+        cells.extend(event);
     }
     (cells, store)
 }
 
 fn recover(cells: &[u32], store: &[u32]) -> Vec<E> {
     cells
-        .chunks(7)
+        .chunks(CELLS)
         .map(|cells| {
-            let text = |i: usize| -> String {
-                let place = cells[2 * i + 1] as usize;
-                store[place..place + cells[2 * i + 2] as usize]
+            let text = |cell: usize| -> String {
+                let place = cells[cell] as usize;
+                store[place..place + cells[cell + 1] as usize]
                     .iter()
                     .map(|&code_point| char::from_u32(code_point).unwrap())
                     .collect()
@@ -113,12 +116,12 @@ fn recover(cells: &[u32], store: &[u32]) -> Vec<E> {
             match cells[0] {
                 1 => Sd,
                 2 => Ed,
-                3 => E::Se(text(0), text(1)),
-                4 => E::At(text(0), text(1), text(2)),
+                3 => E::Se(text(1), text(3)),
+                4 => E::At(text(1), text(3), text(7)),
                 5 => Ee,
-                6 => E::Ch(text(0)),
-                7 => E::Cm(text(0)),
-                8 => E::Pi(text(0), text(1)),
+                6 => E::Ch(text(1)),
+                7 => E::Cm(text(1)),
+                8 => E::Pi(text(1), text(3)),
                 kind => panic!("kind {kind}"),
             }
         })
@@ -133,16 +136,16 @@ struct Read {
 
 /// Reads with more memory than asked for, none of it zero, and checks what is left in it.
 fn do_read(s: Settings, stream: &[u8]) -> Read {
-    let mut cells = vec![7; 7 * MAX_EVENTS + 3];
-    let mut store = vec![7; MAX_TEXT + 3];
-    let mut work = vec![7; READER_WORK + 3];
-    let reply = read(s, stream, &mut cells, &mut store, &mut work);
+    let mut cells = vec![7; CELLS * MAX_EVENTS + 3];
+    let mut store = vec![7; MAX_STORE + 3];
+    let mut work = vec![7; WORK + 3];
+    let reply = read(s, stream, &mut cells, &mut store, &mut work, WORK);
     if reply.number == 0 {
         assert_eq!(reply.index, 0);
     } else {
         assert_eq!((reply.events, reply.code_points), (0, 0));
     }
-    let rest = cells.split_off(7 * reply.events as usize);
+    let rest = cells.split_off(CELLS * reply.events as usize);
     assert!(rest.iter().all(|&cell| cell == 0));
     let rest = store.split_off(reply.code_points as usize);
     assert!(rest.iter().all(|&cell| cell == 0));
@@ -155,9 +158,9 @@ fn do_read(s: Settings, stream: &[u8]) -> Read {
 }
 
 fn do_write_cells(s: Settings, cells: &[u32], store: &[u32]) -> (WriteReply, Vec<u8>) {
-    let mut octets = vec![7; MAX_OCTETS + 3];
-    let mut work = vec![7; WRITER_WORK + 3];
-    let reply = write(s, &mut octets, cells, store, &mut work);
+    let mut octets = vec![7; MAX_STREAM + 3];
+    let mut work = vec![7; WORK + 3];
+    let reply = write(s, &mut octets, cells, store, &mut work, WORK);
     if reply.number == 0 {
         assert_eq!(reply.index, 0);
     } else {
@@ -373,17 +376,26 @@ fn refusals_in_their_order() {
 fn where_the_texts_of_a_reader_lie() {
     let k1 = do_read(BYTES, &octets("80 01 02 61 00"));
     assert_eq!((k1.reply.events, k1.reply.code_points), (4, 100));
-    assert_eq!(k1.cells[7..14], [3, 0, 0, 99, 1, 0, 0]);
+    assert_eq!(k1.cells[CELLS..2 * CELLS], [3, 0, 0, 99, 1, 0, 0, 0, 0]);
 
     // An empty value lies at the end of the store.
     let empty = do_read(BYTES, &octets("80 01 02 61 03 02 00"));
-    assert_eq!(empty.cells[14..21], [6, 100, 0, 0, 0, 0, 0]);
+    let third = 2 * CELLS..3 * CELLS;
+    assert_eq!(empty.cells[third.clone()], [6, 100, 0, 0, 0, 0, 0, 0, 0]);
 
     // A hit lies where its entry lies.
     let hit = do_read(BYTES, &octets("80 01 02 61 03 03 78 01 01 00 01"));
-    assert_eq!(hit.cells[14..21], [6, 100, 1, 0, 0, 0, 0]);
-    assert_eq!(hit.cells[21..28], [6, 100, 1, 0, 0, 0, 0]);
+    assert_eq!(hit.cells[third.clone()], [6, 100, 1, 0, 0, 0, 0, 0, 0]);
+    let fourth = &hit.cells[3 * CELLS..4 * CELLS];
+    assert_eq!(fourth, &hit.cells[third.clone()]);
     assert_eq!(hit.reply.code_points, 101);
+
+    // An attribute's value lies behind the place of a prefix, an instruction's text does not.
+    let k5 = do_read(BYTES, &octets("80 01 02 61 01 01 02 6B 03 78 01 00"));
+    assert_eq!(k5.cells[third.clone()], [4, 0, 0, 100, 1, 0, 0, 101, 1]);
+    let kept = settings(1, 0, 0, 1);
+    let pi = do_read(kept, &octets("80 00 01 02 61 04 01 74 01 75 00 00"));
+    assert_eq!(pi.cells[third], [8, 100, 1, 101, 1, 0, 0, 0, 0]);
 }
 
 #[test]
@@ -440,24 +452,39 @@ fn shapes_that_a_writer_refuses() {
         let reply = do_write_cells(kept, cells, &[0x61]).0;
         assert_eq!((reply.number, reply.index), (refusal.number(), index));
     };
-    let start = [1, 0, 0, 0, 0, 0, 0, 3, 0, 0, 0, 1, 0, 0];
+    let start = [1, 0, 0, 0, 0, 0, 0, 0, 0, 3, 0, 0, 0, 1, 0, 0, 0, 0];
     let with = |tail: &[u32]| [&start[..], tail].concat();
-    refused(&with(&[0, 0, 0, 0, 0, 0, 0]), Refusal::Shape, 2);
-    refused(&with(&[9, 0, 0, 0, 0, 0, 0]), Refusal::Shape, 2);
-    refused(&with(&[5, 0, 0, 0, 0, 0, 1]), Refusal::Shape, 2);
-    refused(&with(&[6, 0, 0, 1, 0, 0, 0]), Refusal::Shape, 2);
-    refused(&with(&[5, 0, 0, 0, 0, 0]), Refusal::Shape, 2);
+    refused(&with(&[0, 0, 0, 0, 0, 0, 0, 0, 0]), Refusal::Shape, 2);
+    refused(&with(&[9, 0, 0, 0, 0, 0, 0, 0, 0]), Refusal::Shape, 2);
+    refused(&with(&[5, 0, 0, 0, 0, 0, 0, 0, 1]), Refusal::Shape, 2);
+    refused(&with(&[6, 0, 0, 1, 0, 0, 0, 0, 0]), Refusal::Shape, 2);
+    refused(&with(&[5, 0, 0, 0, 0, 0, 0, 0]), Refusal::Shape, 2);
+    // No prefix is kept, and a start element has no value.
+    for cells in [
+        [4, 0, 0, 0, 1, 1, 0, 0, 1],
+        [4, 0, 0, 0, 1, 0, 1, 0, 1],
+        [3, 0, 0, 0, 1, 1, 0, 0, 0],
+        [3, 0, 0, 0, 1, 0, 1, 0, 0],
+        [3, 0, 0, 0, 1, 0, 0, 1, 0],
+        [3, 0, 0, 0, 1, 0, 0, 0, 1],
+    ] {
+        refused(&with(&cells), Refusal::Shape, 2);
+    }
     // A rest after a complete list.
-    let end = [5, 0, 0, 0, 0, 0, 0, 2, 0, 0, 0, 0, 0, 0];
+    let end = [5, 0, 0, 0, 0, 0, 0, 0, 0, 2, 0, 0, 0, 0, 0, 0, 0, 0];
     refused(&[&with(&end)[..], &[0]].concat(), Refusal::Shape, 4);
 
-    refused(&with(&[6, 1, 1, 0, 0, 0, 0]), Refusal::Place, 2);
-    refused(&with(&[6, 2, 0, 0, 0, 0, 0]), Refusal::Place, 2);
-    refused(&with(&[6, u32::MAX, 2, 0, 0, 0, 0]), Refusal::Place, 2);
+    refused(&with(&[6, 1, 1, 0, 0, 0, 0, 0, 0]), Refusal::Place, 2);
+    refused(&with(&[6, 2, 0, 0, 0, 0, 0, 0, 0]), Refusal::Place, 2);
+    refused(
+        &with(&[6, u32::MAX, 2, 0, 0, 0, 0, 0, 0]),
+        Refusal::Place,
+        2,
+    );
     // PLACE for all strings comes before NAME for the first.
-    refused(&with(&[8, 0, 0, 0, 2, 0, 0]), Refusal::Place, 2);
-    refused(&with(&[8, 0, 0, 0, 1, 0, 0]), Refusal::Name, 2);
-    refused(&with(&[6, 1, 0, 0, 0, 0, 0]), Refusal::Shape, 3);
+    refused(&with(&[8, 0, 0, 0, 2, 0, 0, 0, 0]), Refusal::Place, 2);
+    refused(&with(&[8, 0, 0, 0, 1, 0, 0, 0, 0]), Refusal::Name, 2);
+    refused(&with(&[6, 1, 0, 0, 0, 0, 0, 0, 0]), Refusal::Shape, 3);
 }
 
 #[test]
@@ -489,32 +516,47 @@ fn names_that_a_writer_refuses() {
 
 #[test]
 fn room_settings_and_length_in_this_order() {
-    let long = vec![0x80; MAX_OCTETS + 1];
+    let long = vec![0x80; MAX_STREAM + 1];
     let bad = settings(2, 0, 0, 0);
     for (cells, store, work) in [(1, 0, 0), (0, 1, 0), (0, 0, 1)] {
-        let mut cells = vec![7; 7 * MAX_EVENTS - cells];
-        let mut store = vec![7; MAX_TEXT - store];
-        let mut work = vec![7; READER_WORK - work];
-        let reply = read(bad, &long, &mut cells, &mut store, &mut work);
+        let mut cells = vec![7; CELLS * MAX_EVENTS - cells];
+        let mut store = vec![7; MAX_STORE - store];
+        let mut work = vec![7; WORK - work];
+        let reply = read(bad, &long, &mut cells, &mut store, &mut work, WORK);
         assert_eq!((reply.number, reply.index), (1, 0));
         for memory in [cells, store, work] {
             assert!(memory.iter().all(|&cell| cell == 0));
         }
     }
     for (octets, work) in [(1, 0), (0, 1)] {
-        let mut octets = vec![7; MAX_OCTETS - octets];
-        let mut work = vec![7; WRITER_WORK - work];
-        let reply = write(bad, &mut octets, &[], &[], &mut work);
+        let mut octets = vec![7; MAX_STREAM - octets];
+        let mut work = vec![7; WORK - work];
+        let reply = write(bad, &mut octets, &[], &[], &mut work, WORK);
         assert_eq!((reply.number, reply.index), (1, 0));
         assert!(octets.iter().all(|&octet| octet == 0));
         assert!(work.iter().all(|&cell| cell == 0));
     }
-    for bad in [
+    let mut all = vec![
         bad,
         settings(0, 2, 0, 0),
         settings(0, 0, u32::MAX, 0),
         settings(0, 0, 0, 3),
-    ] {
+    ];
+    for number in [1, 2, 2_049, u32::MAX] {
+        for place in 0..6 {
+            let mut s = BYTES;
+            *[
+                &mut s.fragment,
+                &mut s.value_length,
+                &mut s.value_capacity,
+                &mut s.loose,
+                &mut s.prefixes,
+                &mut s.grammar_cap,
+            ][place] = number;
+            all.push(s);
+        }
+    }
+    for bad in all {
         assert_eq!(do_read(bad, &long).reply.number, 2);
         assert_eq!(do_write(bad, &[]).0.number, 2);
     }
@@ -590,11 +632,11 @@ fn code_points() {
         u32::MAX,
     ];
     let cells = [
-        [1, 0, 0, 0, 0, 0, 0],
-        [3, 0, 0, 0, 1, 0, 0],
-        [6, 1, 1, 0, 0, 0, 0],
-        [5, 0, 0, 0, 0, 0, 0],
-        [2, 0, 0, 0, 0, 0, 0],
+        [1, 0, 0, 0, 0, 0, 0, 0, 0],
+        [3, 0, 0, 0, 1, 0, 0, 0, 0],
+        [6, 1, 1, 0, 0, 0, 0, 0, 0],
+        [5, 0, 0, 0, 0, 0, 0, 0, 0],
+        [2, 0, 0, 0, 0, 0, 0, 0, 0],
     ]
     .concat();
     for s in [BITS, BYTES] {
@@ -727,15 +769,15 @@ fn the_text_store_and_the_length_of_a_stream() {
         list.extend([cm(rest), Ee, Ed]);
         list
     };
-    let rest = MAX_TEXT - 100 - 15 * 1024;
+    let rest = MAX_STORE - 100 - 15 * 1024;
     let stream = round_trip(s, &list(&"x".repeat(rest)));
     assert_eq!(do_read(s, &stream).reply.code_points, 16_384);
     write_refused(s, &list(&"x".repeat(rest + 1)), Refusal::Limit, 17);
 
     // Code points from 128 on take one octet more.
-    let spare = MAX_OCTETS - stream.len();
+    let spare = MAX_STREAM - stream.len();
     let wide = |count: usize| "é".repeat(count) + &"x".repeat(rest - count);
-    assert_eq!(round_trip(s, &list(&wide(spare))).len(), MAX_OCTETS);
+    assert_eq!(round_trip(s, &list(&wide(spare))).len(), MAX_STREAM);
     write_refused(s, &list(&wide(spare + 1)), Refusal::Long, 0);
 }
 

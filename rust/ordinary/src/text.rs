@@ -1,6 +1,3 @@
-/// The longest string, in code points.
-pub const MAX_STRING: usize = 1_024;
-
 /// A string as a part of a text store.
 #[derive(Clone, Copy, Debug, PartialEq, Eq)]
 pub struct Span {

@@ -1,11 +1,12 @@
 use crate::bits::BitWriter;
-use crate::event::{Event, CELLS_PER_EVENT};
+use crate::event::Event;
 use crate::grammar::{Grammars, Production, Symbol, Terminal};
 use crate::refusal::Refusal;
 use crate::settings::Options;
+use crate::sizes::{CELLS_PER_EVENT, MAX_EVENTS, MAX_STORE, MAX_STREAM, MAX_STRING};
 use crate::tables::{NameId, StringTable, UriId, INITIAL_TEXT};
-use crate::text::{is_char, Span, MAX_STRING};
-use crate::{Failure, MAX_EVENTS, MAX_OCTETS, MAX_TEXT};
+use crate::text::{is_char, Span};
+use crate::Failure;
 
 /// Writes a list in strict form. Gives the number of octets.
 pub fn write(
@@ -39,7 +40,7 @@ pub fn write(
         return Err((Refusal::Shape, count));
     }
     match writer.bits.finish() {
-        length if length > MAX_OCTETS => Err((Refusal::Long, 0)),
+        length if length > MAX_STREAM => Err((Refusal::Long, 0)),
         length => Ok(length),
     }
 }
@@ -213,7 +214,7 @@ impl<'a> Writer<'a> {
     /// Writes a text, its length raised by `raise`, and lays it at the end of the store.
     fn literal(&mut self, text: &[u32], raise: u32) -> Result<Span, Refusal> {
         let place = self.store.len();
-        if text.len() > MAX_STRING || place + text.len() > MAX_TEXT {
+        if text.len() > MAX_STRING || place + text.len() > MAX_STORE {
             return Err(Refusal::Limit);
         }
         if !text.iter().all(|&code_point| is_char(code_point)) {

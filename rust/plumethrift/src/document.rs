@@ -44,7 +44,7 @@ impl<'a> Document<'a> {
         self.cells.len() / CELLS_PER_EVENT
     }
 
-    /// Its events as they lie in memory, seven cells each.
+    /// Its events as they lie in memory, nine cells each.
     pub fn cells(&self) -> &'a [u32] {
         self.cells
     }

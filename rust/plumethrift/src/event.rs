@@ -13,8 +13,9 @@ pub(crate) mod kind {
 }
 
 /// An event of a list. Two events are the same when their kinds and the texts of their strings are,
-/// wherever the texts lie.
+/// wherever the texts lie. Later versions may have more kinds.
 #[derive(Clone, Copy, Debug, PartialEq, Eq, Hash)]
+#[non_exhaustive]
 pub enum Event<'a> {
     /// The list's first event.
     StartDocument,
@@ -40,7 +41,7 @@ pub enum Event<'a> {
     EndElement,
     /// Characters.
     Characters {
-        /// They themselves.
+        /// The characters.
         text: Text<'a>,
     },
     /// A comment.
@@ -58,43 +59,44 @@ pub enum Event<'a> {
 }
 
 impl<'a> Event<'a> {
-    /// Takes an event out of its seven cells, with its strings from `store`.
+    /// Takes an event out of its nine cells, with its strings from `store`.
     ///
-    /// Cells are no event where they are not seven, where the first is not 1 to 8, and where one
-    /// that the kind does not use is not 0: what the writer refuses as SHAPE by itself. A string
-    /// that lies outside the store is the empty part at its start.
+    /// Cells are no event where they are not nine, where the first is not 1 to 8, and where one that
+    /// the kind does not use, or one of a prefix, is not 0: what the writer refuses as SHAPE by
+    /// itself. A string that lies outside the store is the empty part at its start.
     ///
     /// ```
     /// use plumethrift::Event;
     ///
     /// let store = [0x62, 0x72];
-    /// let event = Event::from_cells(&[6, 1, 1, 0, 0, 0, 0], &store);
+    /// let event = Event::from_cells(&[6, 1, 1, 0, 0, 0, 0, 0, 0], &store);
     /// assert!(matches!(event, Some(Event::Characters { text }) if text == "r"));
     ///
-    /// let outside = Event::from_cells(&[6, 1, 9, 0, 0, 0, 0], &store);
+    /// let outside = Event::from_cells(&[6, 1, 9, 0, 0, 0, 0, 0, 0], &store);
     /// assert!(matches!(outside, Some(Event::Characters { text }) if text.is_empty()));
     ///
-    /// assert_eq!(Event::from_cells(&[5, 0, 0, 0, 0, 0, 1], &store), None);
-    /// assert_eq!(Event::from_cells(&[0; 7], &store), None);
+    /// assert_eq!(Event::from_cells(&[5, 0, 0, 0, 0, 0, 0, 0, 1], &store), None);
+    /// assert_eq!(Event::from_cells(&[3, 0, 0, 0, 1, 0, 1, 0, 0], &store), None);
+    /// assert_eq!(Event::from_cells(&[0; 9], &store), None);
     /// ```
     pub fn from_cells(cells: &[u32], store: &'a [u32]) -> Option<Event<'a>> {
         let string = |place: u32, length: u32| look_up(store, place, length);
         Some(match *cells {
-            [kind::START_DOCUMENT, 0, 0, 0, 0, 0, 0] => Event::StartDocument,
-            [kind::END_DOCUMENT, 0, 0, 0, 0, 0, 0] => Event::EndDocument,
-            [kind::START_ELEMENT, a, b, c, d, 0, 0] => Event::StartElement {
+            [kind::START_DOCUMENT, 0, 0, 0, 0, 0, 0, 0, 0] => Event::StartDocument,
+            [kind::END_DOCUMENT, 0, 0, 0, 0, 0, 0, 0, 0] => Event::EndDocument,
+            [kind::START_ELEMENT, a, b, c, d, 0, 0, 0, 0] => Event::StartElement {
                 uri: string(a, b),
                 name: string(c, d),
             },
-            [kind::ATTRIBUTE, a, b, c, d, e, f] => Event::Attribute {
+            [kind::ATTRIBUTE, a, b, c, d, 0, 0, e, f] => Event::Attribute {
                 uri: string(a, b),
                 name: string(c, d),
                 value: string(e, f),
             },
-            [kind::END_ELEMENT, 0, 0, 0, 0, 0, 0] => Event::EndElement,
-            [kind::CHARACTERS, a, b, 0, 0, 0, 0] => Event::Characters { text: string(a, b) },
-            [kind::COMMENT, a, b, 0, 0, 0, 0] => Event::Comment { text: string(a, b) },
-            [kind::INSTRUCTION, a, b, c, d, 0, 0] => Event::Instruction {
+            [kind::END_ELEMENT, 0, 0, 0, 0, 0, 0, 0, 0] => Event::EndElement,
+            [kind::CHARACTERS, a, b, 0, 0, 0, 0, 0, 0] => Event::Characters { text: string(a, b) },
+            [kind::COMMENT, a, b, 0, 0, 0, 0, 0, 0] => Event::Comment { text: string(a, b) },
+            [kind::INSTRUCTION, a, b, c, d, 0, 0, 0, 0] => Event::Instruction {
                 target: string(a, b),
                 text: string(c, d),
             },

@@ -21,17 +21,21 @@
 //! let reply = lent::read(bit_packed, &stream, &mut events, &mut text, &mut work);
 //! assert_eq!((reply.number, reply.index, reply.events, reply.code_points), (0, 0, 4, 100));
 //!
-//! let second = Event::from_cells(&events[7..14], &text);
+//! let second = Event::from_cells(&events[9..18], &text);
 //! assert!(matches!(second, Some(Event::StartElement { name, .. }) if name == "a"));
 //! ```
 
 use crate::boundary;
 
-/// Cells of one event.
-pub const CELLS_PER_EVENT: usize = 7;
+/// Cells of one event: its kind, then four pairs, each the place and the length of a string. An
+/// element or an attribute has its URI in the first pair, its local name in the second, and an
+/// attribute its value in the fourth; the third is for a prefix, of which none are kept, and is 0.
+/// Characters and comments have their text in the first pair, an instruction has its target there
+/// and its text in the second. Cells that a kind does not use are 0.
+pub const CELLS_PER_EVENT: usize = 9;
 
 /// Event cells to lend to the reader, at least: for 4,096 events.
-pub const EVENT_CELLS: usize = 28_672;
+pub const EVENT_CELLS: usize = 36_864;
 
 /// Text store to lend to the reader, at least: one code point a cell.
 pub const TEXT_CELLS: usize = 16_384;
@@ -47,8 +51,9 @@ pub const WRITER_WORK_CELLS: usize = 20_480;
 
 /// Settings of a stream, as numbers. A number other than those named is refused as SETTINGS.
 ///
-/// The default, all zero, is bit-packed, no cookie, nothing kept. [`Settings`](crate::Settings) are
-/// the same in types.
+/// The default, all zero, is bit-packed, no cookie, nothing kept; of the last six numbers no other
+/// than 0 has a meaning yet. Value length, value capacity and grammar cap are bounds: 0 is none, and
+/// a bound n is n + 1. [`Settings`](crate::Settings) are the same in types.
 #[repr(C)]
 #[derive(Clone, Copy, Debug, PartialEq, Eq, Default)]
 pub struct SettingNumbers {
@@ -60,6 +65,18 @@ pub struct SettingNumbers {
     pub comments: u32,
     /// 1 where processing instructions are kept, 0 where they are dropped.
     pub instructions: u32,
+    /// 0, a document with one root.
+    pub fragment: u32,
+    /// 0, values of any length join the tables.
+    pub value_length: u32,
+    /// 0, no value in the tables is replaced.
+    pub value_capacity: u32,
+    /// 0, the reader takes strict forms alone.
+    pub loose: u32,
+    /// 0, prefixes are not kept.
+    pub prefixes: u32,
+    /// 0, element grammars are not capped.
+    pub grammar_cap: u32,
 }
 
 /// The reader's answer.
@@ -106,7 +123,7 @@ pub struct Sizes {
 
 /// Reads a stream.
 ///
-/// The list is the first `7 * reply.events` of `events`, its text store the first
+/// The list is the first `9 * reply.events` of `events`, its text store the first
 /// `reply.code_points` of `text`. [`Event::from_cells`](crate::Event::from_cells) takes an event
 /// out of its cells.
 pub fn read(
@@ -121,7 +138,7 @@ pub fn read(
 
 /// Writes the list that is all of `events`, with its strings in all of `text`.
 ///
-/// The stream is the first `reply.octets` of `octets`. Where `events` is no multiple of 7, the rest
+/// The stream is the first `reply.octets` of `octets`. Where `events` is no multiple of 9, the rest
 /// is one more event, which is SHAPE.
 pub fn write(
     s: SettingNumbers,

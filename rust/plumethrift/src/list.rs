@@ -5,6 +5,9 @@ use crate::event::{kind, Event};
 use crate::lent::CELLS_PER_EVENT;
 use crate::text::Text;
 
+/// The pair of a prefix, of which none are kept.
+const NO_PREFIX: [u32; 2] = [0, 0];
+
 /// A list of events to be written, in memory of its own.
 ///
 /// A well-formed list is: start document; comments and instructions; one element, balanced;
@@ -68,8 +71,8 @@ impl EventList {
 
     /// Adds an attribute. The URI is empty for a name in no namespace.
     pub fn attribute(&mut self, uri: &str, name: &str, value: &str) -> &mut Self {
-        let strings = [uri, name, value].map(|string| self.lay_str(string));
-        self.add(kind::ATTRIBUTE, &strings)
+        let [uri, name, value] = [uri, name, value].map(|string| self.lay_str(string));
+        self.add(kind::ATTRIBUTE, &[uri, name, NO_PREFIX, value])
     }
 
     /// Adds an end element.
@@ -106,8 +109,8 @@ impl EventList {
                 self.add(kind::START_ELEMENT, &strings)
             }
             Event::Attribute { uri, name, value } => {
-                let strings = [uri, name, value].map(lay);
-                self.add(kind::ATTRIBUTE, &strings)
+                let [uri, name, value] = [uri, name, value].map(lay);
+                self.add(kind::ATTRIBUTE, &[uri, name, NO_PREFIX, value])
             }
             Event::EndElement => self.add(kind::END_ELEMENT, &[]),
             Event::Characters { text } => {
@@ -146,7 +149,7 @@ impl EventList {
         self.store.clear();
     }
 
-    /// Its events as they lie in memory, seven cells each.
+    /// Its events as they lie in memory, nine cells each.
     pub fn cells(&self) -> &[u32] {
         &self.cells
     }
@@ -156,12 +159,12 @@ impl EventList {
         &self.store
     }
 
-    /// Adds an event of a kind, with the places and lengths of its strings.
-    fn add(&mut self, kind: u32, strings: &[[u32; 2]]) -> &mut Self {
+    /// Adds an event of a kind, with its first pairs: places and lengths of strings.
+    fn add(&mut self, kind: u32, pairs: &[[u32; 2]]) -> &mut Self {
         let mut cells = [0; CELLS_PER_EVENT];
         cells[0] = kind;
-        for (pair, string) in cells[1..].chunks_exact_mut(2).zip(strings) {
-            pair.copy_from_slice(string);
+        for (cells, pair) in cells[1..].chunks_exact_mut(2).zip(pairs) {
+            cells.copy_from_slice(pair);
         }
         self.cells.extend(cells);
         self

@@ -5,7 +5,7 @@ use crate::lent::{self, CELLS_PER_EVENT, EVENT_CELLS, READER_WORK_CELLS, TEXT_CE
 use crate::refusal::{judge, Refused};
 use crate::settings::Settings;
 
-/// Reads streams, in memory of its own: 208 KiB, allocated once and used for each stream.
+/// Reads streams, in memory of its own: 224 KiB, allocated once and used for each stream.
 ///
 /// ```
 /// use plumethrift::{Reader, Refusal, Settings};
@@ -38,7 +38,7 @@ impl Reader {
     ///
     /// # Errors
     ///
-    /// Refusals 3 to 13.
+    /// Refusals 2 to 13.
     pub fn read(&mut self, settings: &Settings, stream: &[u8]) -> Result<Document<'_>, Refused> {
         let reply = lent::read(
             settings.numbers(),

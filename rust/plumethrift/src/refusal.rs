@@ -1,14 +1,16 @@
 use std::error::Error;
 use std::fmt;
 
-/// Why a stream or a list was refused.
+/// Why a stream or a list was refused. Later versions may have more refusals.
 #[derive(Clone, Copy, Debug, PartialEq, Eq, Hash)]
+#[non_exhaustive]
 #[repr(u32)]
 pub enum Refusal {
     /// A lent part is too short. [`Reader`](crate::Reader) and [`Writer`](crate::Writer) lend
     /// enough.
     Room = 1,
-    /// A settings number has no meaning. [`Settings`](crate::Settings) have none such.
+    /// A settings number has no meaning: of [`Settings`](crate::Settings), what this version does not
+    /// do.
     Settings = 2,
     /// Reader: the input is over 16,384 octets. Writer: the result would be.
     Long = 3,
@@ -46,7 +48,7 @@ pub enum Refusal {
 
 impl Refusal {
     /// All refusals, by number.
-    pub const ALL: [Refusal; 15] = [
+    pub const ALL: &'static [Refusal] = &[
         Refusal::Room,
         Refusal::Settings,
         Refusal::Long,
@@ -74,7 +76,8 @@ impl Refusal {
     /// ```
     pub fn from_number(number: u32) -> Option<Refusal> {
         Refusal::ALL
-            .into_iter()
+            .iter()
+            .copied()
             .find(|refusal| refusal.number() == number)
     }
 

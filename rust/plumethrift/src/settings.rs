@@ -12,7 +12,8 @@ pub enum Alignment {
 
 /// Settings of a stream. They travel outside it: reader and writer have to be given the same.
 ///
-/// The default is bit-packed, no cookie, nothing kept.
+/// The default is bit-packed, no cookie, nothing kept. Name the fields that differ, and take the
+/// others from it:
 ///
 /// ```
 /// use plumethrift::{Alignment, Settings};
@@ -21,6 +22,9 @@ pub enum Alignment {
 /// assert_eq!(settings.alignment, Alignment::BitPacked);
 /// assert_eq!(settings.numbers().comments, 1);
 /// ```
+///
+/// The last six fields are for what this version does not do: reader and writer refuse any other
+/// than the default as [`Refusal::Settings`](crate::Refusal::Settings).
 #[derive(Clone, Copy, Debug, Default, PartialEq, Eq, Hash)]
 pub struct Settings {
     /// How fields lie in octets.
@@ -31,17 +35,54 @@ pub struct Settings {
     pub comments: bool,
     /// Processing instructions are kept. Where they are not, no list or stream has any.
     pub instructions: bool,
+    /// A fragment: any number of elements, and not one root. Not in this version.
+    pub fragment: bool,
+    /// Values with more code points than this join no table. Not in this version.
+    pub value_length: Option<u32>,
+    /// How many values the tables hold; the oldest are replaced. Not in this version.
+    pub value_capacity: Option<u32>,
+    /// The reader also takes forms that are not strict. Not in this version.
+    pub loose: bool,
+    /// Prefixes are kept. Not in this version.
+    pub prefixes: bool,
+    /// How many element grammars there may be, as the EXI Profile caps them. Not in this version.
+    pub grammar_cap: Option<u32>,
 }
 
 impl Settings {
     /// The numbers that cross the boundary.
+    ///
+    /// A bound n is n + 1 there, since 0 is none; the largest stays as it is.
+    ///
+    /// ```
+    /// use plumethrift::Settings;
+    ///
+    /// let bounded = |n| Settings { value_capacity: Some(n), ..Settings::default() };
+    /// assert_eq!(Settings::default().numbers().value_capacity, 0);
+    /// assert_eq!(bounded(0).numbers().value_capacity, 1);
+    /// assert_eq!(bounded(u32::MAX).numbers().value_capacity, u32::MAX);
+    /// ```
     pub const fn numbers(&self) -> SettingNumbers {
         SettingNumbers {
             alignment: self.alignment as u32,
             cookie: self.cookie as u32,
             comments: self.comments as u32,
             instructions: self.instructions as u32,
+            fragment: self.fragment as u32,
+            value_length: bound(self.value_length),
+            value_capacity: bound(self.value_capacity),
+            loose: self.loose as u32,
+            prefixes: self.prefixes as u32,
+            grammar_cap: bound(self.grammar_cap),
         }
+    }
+}
+
+/// The number of a bound.
+const fn bound(bound: Option<u32>) -> u32 {
+    match bound {
+        None => 0,
+        Some(n) => n.saturating_add(1),
     }
 }
 

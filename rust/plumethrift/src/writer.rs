@@ -5,7 +5,7 @@ use crate::list::EventList;
 use crate::refusal::{judge, Refused};
 use crate::settings::Settings;
 
-/// Writes lists, in memory of its own: 112 KiB, allocated once and used for each list.
+/// Writes lists, in memory of its own: 96 KiB, allocated once and used for each list.
 ///
 /// ```
 /// use plumethrift::{EventList, Refusal, Settings, Writer};
@@ -38,7 +38,7 @@ impl Writer {
     ///
     /// # Errors
     ///
-    /// Refusals 3, 8, 11, 12 and 14.
+    /// Refusals 2, 3, 8, 11, 12 and 14.
     pub fn write(&mut self, settings: &Settings, list: &EventList) -> Result<&[u8], Refused> {
         let reply = lent::write(
             settings.numbers(),

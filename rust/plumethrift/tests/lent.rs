@@ -1,25 +1,41 @@
 //! The calls over lent memory: sizes, what is left in every cell, and every argument in its place.
 
-use plumethrift::lent::{self, ReadReply, SettingNumbers, Sizes, WriteReply};
+use plumethrift::lent::{self, ReadReply, SettingNumbers, Sizes, WriteReply, CELLS_PER_EVENT};
+use plumethrift::Event;
 
-const BYTE_ALIGNED: SettingNumbers = SettingNumbers {
-    alignment: 1,
-    cookie: 0,
-    comments: 0,
-    instructions: 0,
-};
+/// The ten numbers in their order.
+fn settings(numbers: [u32; 10]) -> SettingNumbers {
+    let [alignment, cookie, comments, instructions, fragment, value_length, value_capacity, loose, prefixes, grammar_cap] =
+        numbers;
+    SettingNumbers {
+        alignment,
+        cookie,
+        comments,
+        instructions,
+        fragment,
+        value_length,
+        value_capacity,
+        loose,
+        prefixes,
+        grammar_cap,
+    }
+}
+
+fn byte_aligned() -> SettingNumbers {
+    settings([1, 0, 0, 0, 0, 0, 0, 0, 0, 0])
+}
 
 /// K3, `<a>b</a>`, byte-aligned.
 const STREAM: [u8; 8] = [0x80, 0x01, 0x02, 0x61, 0x03, 0x03, 0x62, 0x00];
 
 /// Its events: the name lies behind the 99 code points of the initial entries, the characters
 /// behind the name.
-const EVENTS: [u32; 35] = [
-    1, 0, 0, 0, 0, 0, 0, //
-    3, 0, 0, 99, 1, 0, 0, //
-    6, 100, 1, 0, 0, 0, 0, //
-    5, 0, 0, 0, 0, 0, 0, //
-    2, 0, 0, 0, 0, 0, 0,
+const EVENTS: [u32; 45] = [
+    1, 0, 0, 0, 0, 0, 0, 0, 0, //
+    3, 0, 0, 99, 1, 0, 0, 0, 0, //
+    6, 100, 1, 0, 0, 0, 0, 0, 0, //
+    5, 0, 0, 0, 0, 0, 0, 0, 0, //
+    2, 0, 0, 0, 0, 0, 0, 0, 0,
 ];
 
 fn read_reply(number: u32, index: u32, events: u32, code_points: u32) -> ReadReply {
@@ -80,17 +96,17 @@ fn sizes_are_the_librarys() {
         writer_work_cells: lent::WRITER_WORK_CELLS,
     };
     assert_eq!(lent::sizes(), constants);
-    assert_eq!(lent::EVENT_CELLS, 4_096 * lent::CELLS_PER_EVENT);
+    assert_eq!(lent::EVENT_CELLS, 4_096 * CELLS_PER_EVENT);
 }
 
 /// After success every cell is said; also where more is lent than asked for.
 #[test]
 fn what_reading_leaves() {
     for lengths in [READER, READER.map(|length| length + 5)] {
-        let (reply, [events, text, work]) = read(BYTE_ALIGNED, &STREAM, lengths);
+        let (reply, [events, text, work]) = read(byte_aligned(), &STREAM, lengths);
         assert_eq!(reply, read_reply(0, 0, 5, 101));
-        assert_eq!(events[..35], EVENTS);
-        assert!(all_zero(&events[35..]));
+        assert_eq!(events[..45], EVENTS);
+        assert!(all_zero(&events[45..]));
         let initial = "http://www.w3.org/XML/1998/namespace\
                        http://www.w3.org/2001/XMLSchema-instance\
                        baseidlangspaceniltype";
@@ -108,10 +124,10 @@ fn what_reading_leaves() {
 fn what_writing_leaves() {
     // the same texts elsewhere, in a store that has more
     let mut events = EVENTS;
-    (events[10], events[15]) = (1, 0);
+    (events[12], events[19]) = (1, 0);
     let store = [0x62, 0x61, 0, u32::MAX];
     for lengths in [WRITER, WRITER.map(|length| length + 5)] {
-        let (reply, octets, work) = write(BYTE_ALIGNED, &events, &store, lengths);
+        let (reply, octets, work) = write(byte_aligned(), &events, &store, lengths);
         assert_eq!(reply, write_reply(0, 0, 8));
         assert_eq!(octets[..8], STREAM);
         assert!(all_zero(&octets[8..]));
@@ -119,28 +135,29 @@ fn what_writing_leaves() {
     }
 }
 
-/// Slices that are only read may be the same. The name lies in the cell that says its place, 10,
-/// and is a line feed.
+/// Slices that are only read may be the same. The name is the cell that says where the empty
+/// characters lie, a line feed.
 #[test]
 fn a_list_that_is_its_own_store() {
     let events = [
-        1, 0, 0, 0, 0, 0, 0, //
-        3, 0, 0, 10, 1, 0, 0, //
-        5, 0, 0, 0, 0, 0, 0, //
-        2, 0, 0, 0, 0, 0, 0,
+        1, 0, 0, 0, 0, 0, 0, 0, 0, //
+        3, 0, 0, 19, 1, 0, 0, 0, 0, //
+        6, 10, 0, 0, 0, 0, 0, 0, 0, //
+        5, 0, 0, 0, 0, 0, 0, 0, 0, //
+        2, 0, 0, 0, 0, 0, 0, 0, 0,
     ];
-    let (reply, octets, _) = write(BYTE_ALIGNED, &events, &events, WRITER);
-    assert_eq!((reply.number, reply.octets), (0, 5));
-    assert_eq!(octets[..5], [0x80, 0x01, 0x02, 0x0A, 0x00]);
+    let (reply, octets, _) = write(byte_aligned(), &events, &events, WRITER);
+    assert_eq!((reply.number, reply.octets), (0, 7));
+    assert_eq!(octets[..7], [0x80, 0x01, 0x02, 0x0A, 0x03, 0x02, 0x00]);
 }
 
 #[test]
 fn a_refusal_leaves_zeros() {
-    let (reply, memory) = read(BYTE_ALIGNED, &STREAM[..7], READER);
+    let (reply, memory) = read(byte_aligned(), &STREAM[..7], READER);
     assert_eq!(reply, read_reply(5, 3, 0, 0));
     assert!(memory.iter().all(|part| all_zero(part)));
 
-    let (reply, octets, work) = write(BYTE_ALIGNED, &EVENTS[..28], &[0x62; 101], WRITER);
+    let (reply, octets, work) = write(byte_aligned(), &EVENTS[..36], &[0x62; 101], WRITER);
     assert_eq!(reply, write_reply(14, 4, 0));
     assert!(all_zero(&octets) && all_zero(&work));
 }
@@ -153,7 +170,7 @@ fn room_is_judged_part_by_part() {
         for short in [READER[part] - 1, 0] {
             let mut lengths = READER;
             lengths[part] = short;
-            let (reply, memory) = read(BYTE_ALIGNED, &STREAM, lengths);
+            let (reply, memory) = read(byte_aligned(), &STREAM, lengths);
             assert_eq!(reply, read_reply(1, 0, 0, 0));
             assert!(memory.iter().all(|part| all_zero(part)));
         }
@@ -162,28 +179,26 @@ fn room_is_judged_part_by_part() {
         for short in [WRITER[part] - 1, 0] {
             let mut lengths = WRITER;
             lengths[part] = short;
-            let (reply, octets, work) = write(BYTE_ALIGNED, &EVENTS, &[0x61; 101], lengths);
+            let (reply, octets, work) = write(byte_aligned(), &EVENTS, &[0x61; 101], lengths);
             assert_eq!(reply, write_reply(1, 0, 0));
             assert!(all_zero(&octets) && all_zero(&work));
         }
     }
 }
 
-/// Each settings number is judged in its place.
+/// Each settings number is judged in its place, before the length of the stream: the first four
+/// are at most 1, the others 0.
 #[test]
 fn settings_without_a_meaning() {
-    for bad in [2, 3, 256, 65_536, u32::MAX] {
-        for place in 0..4 {
-            let mut numbers = [1, 0, 0, 0];
+    for place in 0..10 {
+        let first = if place < 4 { 2 } else { 1 };
+        for bad in [first, 2, 3, 256, 65_536, u32::MAX] {
+            let mut numbers = [1, 0, 0, 0, 0, 0, 0, 0, 0, 0];
             numbers[place] = bad;
-            let [alignment, cookie, comments, instructions] = numbers;
-            let s = SettingNumbers {
-                alignment,
-                cookie,
-                comments,
-                instructions,
-            };
-            assert_eq!(read(s, &STREAM, READER).0, read_reply(2, 0, 0, 0));
+            let s = settings(numbers);
+            for stream in [&STREAM[..], &[0x80; lent::STREAM_OCTETS + 1]] {
+                assert_eq!(read(s, stream, READER).0, read_reply(2, 0, 0, 0));
+            }
             assert_eq!(
                 write(s, &EVENTS, &[0x61; 101], WRITER).0,
                 write_reply(2, 0, 0)
@@ -196,18 +211,13 @@ fn settings_without_a_meaning() {
 #[test]
 fn settings_in_their_places() {
     let events: Vec<u32> = EVENTS
-        .chunks(7)
+        .chunks(CELLS_PER_EVENT)
         .filter(|event| event[0] != 6)
         .flatten()
         .copied()
         .collect();
-    let stream = |alignment, cookie, comments, instructions| {
-        let s = SettingNumbers {
-            alignment,
-            cookie,
-            comments,
-            instructions,
-        };
+    let stream = |a, k, c, p| {
+        let s = settings([a, k, c, p, 0, 0, 0, 0, 0, 0]);
         let (reply, octets, _) = write(s, &events, &[0x61; 100], WRITER);
         assert_eq!(reply.number, 0);
         octets[..reply.octets as usize].to_vec()
@@ -233,7 +243,7 @@ fn settings_in_their_places() {
 #[test]
 fn stored_events_that_are_refused() {
     let refused = |events: &[u32], store: &[u32]| {
-        let (reply, octets, work) = write(BYTE_ALIGNED, events, store, WRITER);
+        let (reply, octets, work) = write(byte_aligned(), events, store, WRITER);
         assert!(reply.octets == 0 && all_zero(&octets) && all_zero(&work));
         (reply.number, reply.index)
     };
@@ -243,12 +253,39 @@ fn stored_events_that_are_refused() {
         events
     };
     assert_eq!(refused(&EVENTS, &[0x61; 100]), (15, 2)); // the characters pass the store's end
-    assert_eq!(refused(&with(8, 102), &[0x61; 101]), (15, 1)); // an empty URI does
-    assert_eq!(refused(&with(16, u32::MAX), &[0x61; 101]), (15, 2)); // place and length do not wrap
+    assert_eq!(refused(&with(10, 102), &[0x61; 101]), (15, 1)); // an empty URI does
+    assert_eq!(refused(&with(20, u32::MAX), &[0x61; 101]), (15, 2)); // place and length do not wrap
     assert_eq!(refused(&EVENTS, &[]), (15, 1));
-    assert_eq!(refused(&with(14, 0), &[0x61; 101]), (14, 2));
-    assert_eq!(refused(&with(14, 9), &[0x61; 101]), (14, 2));
-    assert_eq!(refused(&with(20, 1), &[0x61; 101]), (14, 2));
-    assert_eq!(refused(&EVENTS[..20], &[0x61; 101]), (14, 2));
+    assert_eq!(refused(&with(18, 0), &[0x61; 101]), (14, 2));
+    assert_eq!(refused(&with(18, 9), &[0x61; 101]), (14, 2));
+    assert_eq!(refused(&with(26, 1), &[0x61; 101]), (14, 2));
+    assert_eq!(refused(&EVENTS[..26], &[0x61; 101]), (14, 2));
     assert_eq!(refused(&[], &[]), (14, 0));
+}
+
+/// No prefixes are kept: a prefix's cells that are not 0 are no event, wherever it would lie. Nor
+/// does a start element have a value.
+#[test]
+fn stored_prefixes_are_refused() {
+    let attribute = [4, 0, 0, 0, 1, 0, 0, 0, 1];
+    let list = [&EVENTS[..18], &attribute, &EVENTS[27..]].concat();
+    let store = [0x61; 101];
+    assert_eq!(
+        write(byte_aligned(), &list, &store, WRITER).0,
+        write_reply(0, 0, 11)
+    );
+    for (event, cells) in [(1, 5..9), (2, 5..7)] {
+        for cell in cells {
+            for data in [1, u32::MAX] {
+                let mut list = list.clone();
+                list[CELLS_PER_EVENT * event + cell] = data;
+                let cells = &list[CELLS_PER_EVENT * event..CELLS_PER_EVENT * (event + 1)];
+                assert_eq!(Event::from_cells(cells, &store), None);
+                assert_eq!(
+                    write(byte_aligned(), &list, &store, WRITER).0,
+                    write_reply(14, event as u32, 0)
+                );
+            }
+        }
+    }
 }

@@ -9,6 +9,12 @@ const BIT_PACKED: Settings = Settings {
     cookie: false,
     comments: false,
     instructions: false,
+    fragment: false,
+    value_length: None,
+    value_capacity: None,
+    loose: false,
+    prefixes: false,
+    grammar_cap: None,
 };
 const BYTE_ALIGNED: Settings = Settings {
     alignment: Alignment::ByteAligned,
@@ -81,6 +87,48 @@ fn streams_that_are_too_long_or_have_a_bad_character() {
         Refusal::Limit,
         1,
     );
+}
+
+/// What this version does not do is refused, by itself and before anything else, whatever the bound.
+#[test]
+fn settings_that_are_not_done() {
+    let mut all = vec![
+        Settings {
+            fragment: true,
+            ..BYTE_ALIGNED
+        },
+        Settings {
+            loose: true,
+            ..BYTE_ALIGNED
+        },
+        Settings {
+            prefixes: true,
+            ..BYTE_ALIGNED
+        },
+    ];
+    for bound in [0, 1, 2_048, u32::MAX - 1, u32::MAX].map(Some) {
+        all.extend([
+            Settings {
+                value_length: bound,
+                ..BYTE_ALIGNED
+            },
+            Settings {
+                value_capacity: bound,
+                ..BYTE_ALIGNED
+            },
+            Settings {
+                grammar_cap: bound,
+                ..BYTE_ALIGNED
+            },
+        ]);
+    }
+    for settings in all {
+        for stream in [&[0x80, 0x01, 0x02, 0x61, 0x00][..], &[], &[0x80; 16_385]] {
+            not_read(settings, stream, Refusal::Settings, 0);
+        }
+        not_written(settings, &inside_a(|_| {}), Refusal::Settings, 0);
+        not_written(settings, &EventList::new(), Refusal::Settings, 0);
+    }
 }
 
 #[test]
@@ -209,7 +257,8 @@ fn a_list_whose_stream_would_be_too_long() {
 
 #[test]
 fn numbers_and_names_are_the_librarys() {
-    for (refusal, number) in Refusal::ALL.into_iter().zip(1..) {
+    assert_eq!(Refusal::ALL.len(), 15);
+    for (&refusal, number) in Refusal::ALL.iter().zip(1..) {
         assert_eq!(refusal.number(), number);
         assert_eq!(Refusal::from_number(number), Some(refusal));
 

@@ -8,6 +8,12 @@ const BIT_PACKED: Settings = Settings {
     cookie: false,
     comments: false,
     instructions: false,
+    fragment: false,
+    value_length: None,
+    value_capacity: None,
+    loose: false,
+    prefixes: false,
+    grammar_cap: None,
 };
 const BYTE_ALIGNED: Settings = Settings {
     alignment: Alignment::ByteAligned,
@@ -204,7 +210,7 @@ fn memory_is_used_again() {
     assert_eq!(short, [0x80, 0x40, 0x98, 0x40]);
     let document = reader.read(&BIT_PACKED, short).unwrap();
     assert_eq!(document, list);
-    assert_eq!((document.cells().len(), document.store().len()), (28, 100));
+    assert_eq!((document.cells().len(), document.store().len()), (36, 100));
 }
 
 #[test]

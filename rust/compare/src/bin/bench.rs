@@ -15,10 +15,9 @@ use std::time::Instant;
 
 use compare::encode::encode;
 use compare::event::{document, element, events, text, Event, Stored, Text, CELLS};
-use compare::lent::{
-    Codec, Settings, EVENT_CELLS, READER_WORK_CELLS, STREAM_OCTETS, TEXT_CELLS, WRITER_WORK_CELLS,
-};
+use compare::lent::{Codec, ReaderSizes, Settings, WriterSizes};
 use compare::prng::Prng;
+use compare::sizes::MAX_STREAM;
 
 const END: Event = Event::EndElement;
 
@@ -118,7 +117,7 @@ fn long_documents(count: usize, settings: Settings) -> Vec<Vec<Event>> {
         inner.push(END);
         let list = document(inner);
         let octets = encode(settings, &list).octets().len();
-        assert!((13_000..=STREAM_OCTETS).contains(&octets), "{octets}");
+        assert!((13_000..=MAX_STREAM).contains(&octets), "{octets}");
         list
     };
     (0..count).map(|_| one()).collect()
@@ -411,12 +410,13 @@ fn main() {
         Case::new("128 names, byte-aligned", bytes, many_names(20), 2, 15, 2.0),
         Case::new("128 names, bit-packed", bits, many_names(20), 2, 15, 2.0),
     ];
+    let (reader, writer) = (ReaderSizes::stated(), WriterSizes::stated());
     let mut memory = Memory {
-        events: vec![0; EVENT_CELLS],
-        text: vec![0; TEXT_CELLS],
-        reader_work: vec![0; READER_WORK_CELLS],
-        octets: vec![0; STREAM_OCTETS],
-        writer_work: vec![0; WRITER_WORK_CELLS],
+        events: vec![0; reader.events],
+        text: vec![0; reader.text],
+        reader_work: vec![0; reader.work],
+        octets: vec![0; writer.octets],
+        writer_work: vec![0; writer.work],
     };
     println!("Nanoseconds for a stream, medians; ratios of the medians and of the fastest slices;");
     println!(

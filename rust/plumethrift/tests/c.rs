@@ -1,0 +1,123 @@
+//! The header and the programs in C, compiled and linked with the archive.
+
+use std::fs;
+use std::io::Write;
+use std::path::{Path, PathBuf};
+use std::process::{Command, Output, Stdio};
+
+/// K3, `<a>b</a>`, byte-aligned.
+const STREAM: [u8; 8] = [0x80, 0x01, 0x02, 0x61, 0x03, 0x03, 0x62, 0x00];
+
+fn root() -> PathBuf {
+    Path::new(env!("CARGO_MANIFEST_DIR")).join("../..")
+}
+
+/// The C compiler, with the header in its path and no patience.
+fn compiler(standard: &str) -> Command {
+    let mut command = Command::new("cc");
+    command
+        .args([standard, "-Wall", "-Wextra", "-Werror", "-pedantic", "-I"])
+        .arg(root().join("include"));
+    command
+}
+
+/// Compiles a program and links it with the archive.
+fn program(source: &Path) -> PathBuf {
+    let name = source.file_stem().expect("a source has a name");
+    let program = Path::new(env!("CARGO_TARGET_TMPDIR")).join(name);
+    let status = compiler("-std=c99")
+        .args([source, Path::new(env!("PLUMETHRIFT_ARCHIVE"))])
+        .arg("-o")
+        .arg(&program)
+        .status()
+        .expect("a C compiler");
+    assert!(status.success(), "{}", source.display());
+    program
+}
+
+fn run(command: &mut Command, input: &[u8]) -> Output {
+    let mut child = command
+        .stdin(Stdio::piped())
+        .stdout(Stdio::piped())
+        .stderr(Stdio::piped())
+        .spawn()
+        .expect("a program that runs");
+    let mut stdin = child.stdin.take().expect("its input");
+    // a program that refuses its words takes no input
+    let _ = stdin.write_all(input);
+    drop(stdin);
+    child.wait_with_output().expect("its output")
+}
+
+fn text(octets: &[u8]) -> &str {
+    std::str::from_utf8(octets).expect("text")
+}
+
+#[test]
+fn the_example_decodes() {
+    let decode = program(&root().join("examples/decode.c"));
+    let output = run(Command::new(&decode).args(["1", "-"]), &STREAM);
+    assert_eq!(
+        text(&output.stdout),
+        "start document\n  start element \"\" \"a\"\n    characters \"b\"\n  end element\nend document\n"
+    );
+    assert_eq!(output.status.code(), Some(0));
+
+    let attribute = [
+        0x80, 0x01, 0x02, 0x61, 0x01, 0x01, 0x02, 0x6B, 0x03, 0x78, 0x01, 0x00,
+    ];
+    let output = run(Command::new(&decode).args(["1000000000", "-"]), &attribute);
+    assert!(text(&output.stdout).contains("    attribute \"\" \"k\" \"x\"\n"));
+
+    for words in [&["10000000000", "-"][..], &["", "-"], &["1"]] {
+        let output = run(Command::new(&decode).args(words), &STREAM);
+        assert_eq!(output.status.code(), Some(2));
+    }
+
+    // each settings number at the first that has no meaning
+    for place in 0..10 {
+        let mut digits = *b"1000000000";
+        digits[place] = if place < 4 { b'2' } else { b'1' };
+        let output = run(Command::new(&decode).args([text(&digits), "-"]), &STREAM);
+        assert_eq!(text(&output.stderr), "refused: 2 SETTINGS at event 0\n");
+        assert_eq!(output.status.code(), Some(1));
+    }
+}
+
+/// The program of README.md does what it says there.
+#[test]
+fn the_program_of_the_readme() {
+    let readme = fs::read_to_string(root().join("README.md")).unwrap();
+    let (_, rest) = readme.split_once("```c\n").expect("a program in C");
+    let (source, rest) = rest.split_once("```").expect("its end");
+    let says = rest.split('`').nth(1).expect("what it prints");
+
+    let file = Path::new(env!("CARGO_TARGET_TMPDIR")).join("count.c");
+    fs::write(&file, source).unwrap();
+    let output = run(&mut Command::new(program(&file)), &[]);
+    assert_eq!(text(&output.stdout), format!("{says}\n"));
+    assert_eq!(output.status.code(), Some(0));
+}
+
+/// Bounds are one more, the largest but for that; the struct is ten numbers; all zero is no bound.
+#[test]
+fn bounds_and_settings() {
+    let facts = [
+        "PLUMETHRIFT_BOUND(0) == 1",
+        "PLUMETHRIFT_BOUND(2048) == 2049",
+        "PLUMETHRIFT_BOUND(UINT32_MAX - 1) == UINT32_MAX",
+        "PLUMETHRIFT_BOUND(UINT32_MAX) == UINT32_MAX",
+        "PLUMETHRIFT_UNBOUNDED == 0",
+        "sizeof(plumethrift_settings) == 10 * sizeof(uint32_t)",
+        "offsetof(plumethrift_settings, grammar_cap) == 9 * sizeof(uint32_t)",
+        "PLUMETHRIFT_EVENT_CELLS == 4096 * PLUMETHRIFT_CELLS_PER_EVENT",
+        "2 + 2 * PLUMETHRIFT_VALUE == PLUMETHRIFT_CELLS_PER_EVENT - 1",
+    ];
+    let mut source = String::from("#include \"plumethrift.h\"\n");
+    for fact in facts {
+        source += &format!("_Static_assert({fact}, \"{fact}\");\n");
+    }
+    let words = ["-fsyntax-only", "-x", "c", "-"];
+    let output = run(compiler("-std=c11").args(words), source.as_bytes());
+    assert!(output.status.success(), "{}", text(&output.stderr));
+}
