@@ -46,11 +46,11 @@ writerRoom k w = record { octets = k; work = w }
 -- Lent lengths: just enough, then each part one short.
 unfoldable pub readerRooms : List ReaderRoom
 readerRooms =
-    readerRoom 36864 16384 4096 ∷ readerRoom 36863 16384 4096 ∷ readerRoom 36864 16383 4096
-    ∷ readerRoom 36864 16384 4095 ∷ []
+    readerRoom 36864 16384 18432 ∷ readerRoom 36863 16384 18432 ∷ readerRoom 36864 16383 18432
+    ∷ readerRoom 36864 16384 18431 ∷ []
 
 unfoldable pub writerRooms : List WriterRoom
-writerRooms = writerRoom 16384 20480 ∷ writerRoom 16383 20480 ∷ writerRoom 16384 20479 ∷ []
+writerRooms = writerRoom 16384 34816 ∷ writerRoom 16383 34816 ∷ writerRoom 16384 34815 ∷ []
 
 pub record Pinned : Type 0 where
   pub refusals : map numberOf
@@ -58,10 +58,10 @@ pub record Pinned : Type 0 where
       ∷ name ∷ limit ∷ tail ∷ shape ∷ place ∷ [])
       ≡ 1 ∷ 2 ∷ 3 ∷ 4 ∷ 5 ∷ 6 ∷ 7 ∷ 8 ∷ 9 ∷ 10 ∷ 11 ∷ 12 ∷ 13 ∷ 14 ∷ 15 ∷ []
   pub sizesAre : sizes
-      ≡ sizesAs (16384 ∷ 4096 ∷ 100 ∷ 16 ∷ 128 ∷ 512 ∷ 64 ∷ 512 ∷ 1024 ∷ 16384 ∷ 4096 ∷ [])
+      ≡ sizesAs (16384 ∷ 4096 ∷ 100 ∷ 16 ∷ 128 ∷ 2048 ∷ 64 ∷ 512 ∷ 4096 ∷ 16384 ∷ 18432 ∷ [])
   -- Of a stream, and of a list, without octets and events: SETTINGS. ROOM comes before it.
   pub readerSettings : map (λ o. readReply (read full o []) .number) meaningless ≡ replicate 10 2
-  pub writerSettings : map (λ o. writeReply (write (writerRoom 16384 20480) o [] []) .number)
+  pub writerSettings : map (λ o. writeReply (write (writerRoom 16384 34816) o [] []) .number)
       meaningless
       ≡ replicate 10 2
   pub readerLent : map (λ r. readReply (read r (setting 0 2) []) .number) readerRooms
