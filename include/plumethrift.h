@@ -50,8 +50,8 @@ extern "C" {
 #define PLUMETHRIFT_EVENT_CELLS 36864       /* reader: events, 9 cells for each of 4,096 */
 #define PLUMETHRIFT_TEXT_CELLS 16384        /* reader: text store, one code point a cell */
 #define PLUMETHRIFT_STREAM_OCTETS 16384     /* writer: octets; the reader takes no longer stream */
-#define PLUMETHRIFT_READER_WORK_CELLS 4096  /* reader: work memory */
-#define PLUMETHRIFT_WRITER_WORK_CELLS 20480 /* writer: work memory */
+#define PLUMETHRIFT_READER_WORK_CELLS 18432 /* reader: work memory */
+#define PLUMETHRIFT_WRITER_WORK_CELLS 34816 /* writer: work memory */
 
 /* Cells of one event. */
 #define PLUMETHRIFT_CELLS_PER_EVENT 9
@@ -121,8 +121,8 @@ enum plumethrift_string_of_an_event {
  * is 0 for ROOM, SETTINGS, LONG and HEADER, and counts all events for TAIL.
  *
  * LIMIT speaks of these sizes: 4,096 events; 100 elements open at once; 16 URIs and 128 local names
- * over all URIs, with those that every stream begins with (3 and 6); 512 distinct values that are
- * not empty; 64 element grammars; 512 learned productions; 1,024 code points in a string; 16,384 in
+ * over all URIs, with those that every stream begins with (3 and 6); 2,048 distinct values that are
+ * not empty; 64 element grammars; 512 learned productions; 4,096 code points in a string; 16,384 in
  * the reader's text store.
  */
 enum plumethrift_refusal {

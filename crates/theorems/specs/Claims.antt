@@ -103,5 +103,7 @@ pub record Theorems : Type 0 where
   pub lookup : (r : ReaderRoom) (o : SettingNumbers) (stream : List ℕ) (x : Reading)
       → read r o stream ≡ accepted x → Lookup (settingsOf o) x
   pub larger-sizes : (y z : Sizes) → NoLarger y z → LargerSizes y z
+  -- from the scope's own sizes to ours
+  pub scope-sizes : LargerSizes baseSizes sizes
   -- K1 to K12, their replies in numbers, each number pinned, and examples by topic.
   pub worked-examples : WorkedExamples

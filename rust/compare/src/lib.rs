@@ -22,5 +22,5 @@ pub mod lent;
 pub mod prng;
 pub mod protocol;
 
-/// The sizes of the scope; what is to be lent the library says, see [`lent::sizes`].
+/// The sizes; what is to be lent the library says, see [`lent::sizes`].
 pub use ordinary::sizes;
