@@ -230,18 +230,18 @@ module _ {stream : List ℕ} {at : ℕ} {text : List ℕ} {stored n : ℕ} (fit 
           waits = λ z. absurd (omega arith);
         }
 
-  pub literal-long : 1024 < n → LiteralRead stream at text stored n text (record { number = 12; next = at; left = 0 })
+  pub literal-long : 4096 < n → LiteralRead stream at text stored n text (record { number = 12; next = at; left = 0 })
   unfolding readLiteral maxString numberOf
-  literal-long h = over-limit (λ s t e. need-failed (leb n 1024) limit _ (lt-leb n 1024 h))
+  literal-long h = over-limit (λ s t e. need-failed (leb n 4096) limit _ (lt-leb n 4096 h))
 
-  pub literal-full : n ≤ 1024 → 16384 < stored + n → LiteralRead stream at text stored n text (record { number = 12; next = at; left = 0 })
+  pub literal-full : n ≤ 4096 → 16384 < stored + n → LiteralRead stream at text stored n text (record { number = 12; next = at; left = 0 })
   unfolding readLiteral maxString maxStore numberOf
   literal-full l h =
       over-limit (λ s t e.
-      need-passed (leb n 1024) limit (le-leb n 1024 l)
+      need-passed (leb n 4096) limit (le-leb n 4096 l)
       (need-failed (leb (length (t .store) + n) 16384) limit _ (lt-leb (length (t .store) + n) 16384 (omega arith))))
 
-  module _ (l : n ≤ 1024) (h : stored + n ≤ 16384) {text′ : List ℕ} {r : declared.Literal} (c : CharactersRead stream at text stored n text′ r) where
+  module _ (l : n ≤ 4096) (h : stored + n ≤ 16384) {text′ : List ℕ} {r : declared.Literal} (c : CharactersRead stream at text stored n text′ r) where
     characters-wait : 0 < r .left → (s : Settings) (t : Tables) → length (t .store) ≡ stored → Waits (readCharacter s) (readLiteral sizes s t n) stream at (r .next) (r .left)
     unfolding readLiteral readCharacter maxString maxStore
     characters-wait z s t e =
@@ -249,7 +249,7 @@ module _ {stream : List ℕ} {at : ℕ} {text : List ℕ} {stored n : ℕ} (fit 
         record {
           after = w .after;
           inside = w .inside;
-          comes = awaits-need (leb n 1024) limit (le-leb n 1024 l)
+          comes = awaits-need (leb n 4096) limit (le-leb n 4096 l)
               (awaits-need (leb (length (t .store) + n) 16384) limit (le-leb (length (t .store) + n) 16384 (omega arith))
               (awaits-then (λ x. return (literal, laid t x)) (w .comes)));
         }
@@ -259,7 +259,7 @@ module _ {stream : List ℕ} {at : ℕ} {text : List ℕ} {stored n : ℕ} (fit 
     literal-read =
         record {
           outcome = λ s t e.
-              need-passed (leb n 1024) limit (le-leb n 1024 l)
+              need-passed (leb n 4096) limit (le-leb n 4096 l)
               (need-passed (leb (length (t .store) + n) 16384) limit (le-leb (length (t .store) + n) 16384 (omega arith))
               (outcome-map (λ x. (literal, laid t x)) (c .outcome)
               (λ z x y. record { form = refl; place = e; size = y .1; text-is = y .0 })));
