@@ -376,21 +376,28 @@ fn names(rng: &mut Prng) -> Vec<Event> {
     whole(inner)
 }
 
+/// Some ten values an element, and one in eight looked up again: more of either is too many events
+/// or too long a stream.
 fn values(rng: &mut Prng) -> Vec<Event> {
     let count = rng.between(MAX_VALUES - 12, MAX_VALUES + 6);
     let names = rng.between(1, 3);
     let mut inner = Vec::new();
     for k in 0..count {
-        let name = numbered("n", rng.below(names));
-        inner.push(Event::StartElement {
-            uri: text(""),
-            name,
-        });
-        for number in [k, rng.below(k + 1)] {
-            inner.push(Event::Characters(numbered("v", number)));
+        if k == 0 || rng.one_in(10) {
+            if k > 0 {
+                inner.push(Event::EndElement);
+            }
+            inner.push(Event::StartElement {
+                uri: text(""),
+                name: numbered("n", rng.below(names)),
+            });
         }
-        inner.push(Event::EndElement);
+        inner.push(Event::Characters(numbered("v", k)));
+        if rng.one_in(8) {
+            inner.push(Event::Characters(numbered("v", rng.below(k + 1))));
+        }
     }
+    inner.push(Event::EndElement);
     whole(inner)
 }
 
@@ -458,7 +465,7 @@ fn store(rng: &mut Prng, settings: Settings) -> Vec<Event> {
     let mut count = 99 + 1;
     let mut number = 0;
     while count < target {
-        let length = (target - count).min(rng.between(700, MAX_STRING.min(1_024)));
+        let length = (target - count).min(rng.between(700, MAX_STRING));
         let mut value = numbered("", number);
         value.resize(length.max(value.len()), 97);
         if length < value.len() {

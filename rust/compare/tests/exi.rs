@@ -44,6 +44,7 @@ fn samples_that_are_accepted() {
         "check day-bit-packed.exi",
         "check --bit-packed day-bit-packed.exi",
         "check --byte-aligned day-byte-aligned.exi",
+        "check day-of-500.exi",
         "check kinds.exi --cookie --comments --instructions",
     ] {
         let (status, stdout, stderr) = exi(words, b"");

@@ -713,22 +713,22 @@ fn strings_are_judged_one_after_the_other() {
         CHARACTER,
         2,
     );
-    let mut long = vec![97; 1_025];
+    let mut long = vec![97; 4_097];
     long.push(0);
     refused(
-        &[SD, [3, 0, 1_025, 0, 0, 0, 0, 0, 0], EE, ED],
+        &[SD, [3, 0, 4_097, 0, 0, 0, 0, 0, 0], EE, ED],
         long.clone(),
         LIMIT,
         1,
     );
     refused(
-        &[SD, [3, 1_025, 1, 0, 1_025, 0, 0, 0, 0], EE, ED],
+        &[SD, [3, 4_097, 1, 0, 4_097, 0, 0, 0, 0], EE, ED],
         long.clone(),
         CHARACTER,
         1,
     );
     refused(
-        &[SD, [3, 1, 1_025, 0, 1, 0, 0, 0, 0], EE, ED],
+        &[SD, [3, 1, 4_097, 0, 1, 0, 0, 0, 0], EE, ED],
         long,
         LIMIT,
         1,

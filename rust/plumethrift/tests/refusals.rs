@@ -213,8 +213,8 @@ fn both_sides_of_a_size() {
             list.characters(&"x".repeat(length));
         })
     };
-    assert!(Writer::new().write(&BIT_PACKED, &string(1_024)).is_ok());
-    not_written(BIT_PACKED, &string(1_025), Refusal::Limit, 2);
+    assert!(Writer::new().write(&BIT_PACKED, &string(4_096)).is_ok());
+    not_written(BIT_PACKED, &string(4_097), Refusal::Limit, 2);
 
     let point = |point: u32| {
         inside_a(|list| {
