@@ -25,11 +25,18 @@ use Rattle.spec_exi.proofs.Step.{StepRead, step-reads, Sane, step-next,
 use Rattle.spec_exi.proofs.Step.{sane-next}
 use Rattle.spec_exi.proofs.Writes.{is-finished, finished-is, finished-no-fit}
 
+-- A refusal is no acceptance.
 pub not-accepted : {A X : Type 0} {k : Refusal} {i : ℕ} {a : A} → _≡_ {A = Answer A} (refused k i) (accepted a) → X
 not-accepted e = let z : _≡_ {A = ℕ} 0 1 = cc in absurd (omega arith)
 
+-- What is accepted is one reading.
 pub accepted-same : {A : Type 0} {a b : A} → _≡_ {A = Answer A} (accepted a) (accepted b) → a ≡ b
 accepted-same e = cc
+
+-- What is refused is one refusal, at one index.
+pub refused-same : {A : Type 0} {j k : Refusal} {m i : ℕ} → _≡_ {A = Answer A} (refused j m) (refused k i)
+    → (j ≡ k) × (m ≡ i)
+refused-same e = (cc, cc)
 
 -- One accepted event, and what is accepted after it.
 record Followed (e : Event Placed) (a : Answer Reading) (r : Reading) : Type 0 where
@@ -37,7 +44,8 @@ record Followed (e : Event Placed) (a : Answer Reading) (r : Reading) : Type 0 w
   inner : a ≡ accepted rest
   is : r ≡ record { events = e ∷ rest .events; store = rest .store }
 
-followed : (e : Event Placed) (a : Answer Reading) (r : Reading) → following e a ≡ accepted r → Followed e a r
+followed : (e : Event Placed) (a : Answer Reading) (r : Reading) → following e a ≡ accepted r
+    → Followed e a r
 unfolding following
 followed e (refused k i) r q = not-accepted q
 followed e (accepted x) r q = record { rest = x; inner = refl; is = cc }
@@ -57,39 +65,47 @@ Afterwards n z s c rest = cond (isFinished (c .state)) (ending s c rest) (readEv
 pub data Run (z : Sizes) (s : Settings) : ℕ → Context → Bits → Reading → Type 0 where
   ends : {n : ℕ} {c : Context} {bs : Bits} → T (isFinished (c .state)) → T (isPadding bs)
       → Run z s n c bs (record { events = []; store = c .tables .store })
-  goes : {n : ℕ} {c : Context} {bs : Bits} {r : Reading} (y : Event Placed × Context) (w : Bits) → StepRead z s c y w
+  goes : {n : ℕ} {c : Context} {bs : Bits} {r : Reading} (y : Event Placed × Context) (w : Bits)
+      → StepRead z s c y w
       → Run z s n (y .1) bs r → Run z s (suc n) c (w ++ bs) (record { events = y .0 ∷ r .events; store = r .store })
 
 module _ (z : Sizes) (s : Settings) where
-  then-runs : (n : ℕ) (c : Context) (bs : Bits) (r : Reading) → (readEvents n z s c bs ≡ accepted r → Run z s n c bs r)
+  then-runs : (n : ℕ) (c : Context) (bs : Bits) (r : Reading)
+      → (readEvents n z s c bs ≡ accepted r → Run z s n c bs r)
       → Afterwards n z s c bs ≡ accepted r → Run z s n c bs r
   then-runs n c bs r f q =
       split (isFinished (c .state)) (λ t. let (p, m) = ended s c bs r (rw t at q) in rw m (ends (is-T (isFinished (c .state)) t) p))
       (λ t. f (rw t at q))
 
-  pub read-runs : (n : ℕ) (c : Context) (bs : Bits) (r : Reading) → readEvents n z s c bs ≡ accepted r → Run z s n c bs r
+  -- What is accepted is a run of events that were read, one after the other.
+  pub read-runs : (n : ℕ) (c : Context) (bs : Bits) (r : Reading)
+      → readEvents n z s c bs ≡ accepted r → Run z s n c bs r
   unfolding readEvents onward
   read-runs zero c bs r q = not-accepted q
   read-runs (suc n) c bs r q = go (λ d b x. read-runs n d b x) (step z s c bs) refl q
     where
-      go : ((d : Context) (b : Bits) (x : Reading) → readEvents n z s d b ≡ accepted x → Run z s n d b x)
+      go : ((d : Context) (b : Bits) (x : Reading) → readEvents n z s d b ≡ accepted x
+          → Run z s n d b x)
           → (x : Result (Event Placed × Context)) → step z s c bs ≡ x → onward s (λ d b. readEvents n z s d b) x ≡ accepted r
           → Run z s (suc n) c bs r
       go rec (bad k) i q = not-accepted q
       go rec (got (e, d) rest) i q =
           let f = followed e (Afterwards n z s d rest) r q in
           let (w, h, j) = step-reads z s c .sound bs (e, d) rest i in
-          rw (f .is, j) (goes (e, d) w h (then-runs n d rest (f .rest) (rec d rest (f .rest)) (f .inner)))
+          rw (f .is, j) (goes (e, d) w h (then-runs n d rest (f .rest) (rec d rest (f .rest))
+          (f .inner)))
 
 -- What stands in accepted bits.
-pub record Accepted (s : Settings) (c : Context) (n : ℕ) (bs : Bits) (l : List (Event Text)) : Type 0 where
+pub record Accepted (s : Settings) (c : Context) (n : ℕ) (bs : Bits)
+    (l : List (Event Text)) : Type 0 where
   pub fit : ListFit s c l
   pub few : length l ≤ n
   pub padding : Bits
   pub bits : bs ≡ listBits s c l ++ padding
   pub padded : T (isPadding padding)
 
-run-fit : {s : Settings} {n : ℕ} {c : Context} {bs : Bits} {r : Reading} → Sane c → Run sizes s n c bs r
+run-fit : {s : Settings} {n : ℕ} {c : Context} {bs : Bits} {r : Reading} → Sane c
+    → Run sizes s n c bs r
     → Accepted s c n bs (map eventText (r .events))
 unfolding listBits
 run-fit {c} {bs} g (ends f p) =
@@ -109,7 +125,10 @@ run-fit {s} {n} {c} g (goes {n = m} {bs = bs} {r = r} y w h k) =
       padded = a .padded;
     }
 
-pub read-fit : (n : ℕ) (s : Settings) (c : Context) (bs : Bits) (r : Reading) → Sane c → readEvents n sizes s c bs ≡ accepted r
+-- What is accepted may come next, and its bits are those of its strict form and padding (demand 3,
+-- half of it).
+pub read-fit : (n : ℕ) (s : Settings) (c : Context) (bs : Bits) (r : Reading) → Sane c
+    → readEvents n sizes s c bs ≡ accepted r
     → Accepted s c n bs (map eventText (r .events))
 read-fit n s c bs r g q = run-fit g (read-runs sizes s n c bs r q)
 
@@ -120,8 +139,10 @@ pub record ListFound (a : Answer Reading) (l : List (Event Text)) : Type 0 where
   pub is : map eventText (reading .events) ≡ l
 
 -- An event that is read, before others.
-then-found : (n : ℕ) (s : Settings) (c : Context) (e : Event Text) (rest : Bits) (l : List (Event Text)) → EventFit s c e
-    → ListFound (Afterwards n sizes s (next s c e) rest) l → ListFound (readEvents (suc n) sizes s c (eventBits s c e ++ rest)) (e ∷ l)
+then-found : (n : ℕ) (s : Settings) (c : Context) (e : Event Text) (rest : Bits)
+    (l : List (Event Text)) → EventFit s c e
+    → ListFound (Afterwards n sizes s (next s c e) rest) l
+    → ListFound (readEvents (suc n) sizes s c (eventBits s c e ++ rest)) (e ∷ l)
 unfolding readEvents onward following
 then-found n s c e rest l fit h =
     let m = step-found s c e fit in
@@ -134,12 +155,16 @@ then-found n s c e rest l fit h =
       is = cc (m .is, h .is);
     }
 
-more : (s : Settings) (c : Context) (e : Event Text) (rest : Bits) (l : List (Event Text)) (n : ℕ) → suc (length l) ≤ n → EventFit s c e
-    → ((k : ℕ) → length l ≤ k → ListFound (Afterwards k sizes s (next s c e) rest) l) → ListFound (readEvents n sizes s c (eventBits s c e ++ rest)) (e ∷ l)
+more : (s : Settings) (c : Context) (e : Event Text) (rest : Bits) (l : List (Event Text)) (n : ℕ)
+    → suc (length l) ≤ n → EventFit s c e
+    → ((k : ℕ) → length l ≤ k → ListFound (Afterwards k sizes s (next s c e) rest) l)
+    → ListFound (readEvents n sizes s c (eventBits s c e ++ rest)) (e ∷ l)
 more s c e rest l zero m fit f = absurd (omega arith)
 more s c e rest l (suc k) m fit f = then-found k s c e rest l fit (f k (omega arith))
 
-pub read-found : (n : ℕ) (s : Settings) (c : Context) (l : List (Event Text)) (padding : Bits) → ListFit s c l → length l ≤ n → T (isPadding padding)
+-- A list that may come next is read from the bits of its strict form (the other half).
+pub read-found : (n : ℕ) (s : Settings) (c : Context) (l : List (Event Text)) (padding : Bits)
+    → ListFit s c l → length l ≤ n → T (isPadding padding)
     → ListFound (Afterwards n sizes s c (listBits s c l ++ padding)) l
 unfolding listBits ending
 read-found n s c l padding (done f) m p =

@@ -11,8 +11,8 @@ use Rattle.spec_fields.specs.Bits.{Bits}
 use Rattle.spec_fields.specs.Refusal.{code}
 use Rattle.spec_fields.specs.Field.{Alignment, choiceBits}
 use Rattle.spec_fields.proofs.Tests.{is-T, both, left, right, split}
-use Rattle.spec_fields.proofs.Exact.{Reads, Returned, Then, Every, reads-as, reads-return, reads-fail}
-use Rattle.spec_fields.proofs.Exact.{reads-then, reads-map}
+use Rattle.spec_fields.proofs.Exact.{Reads, Returned, Then, Every, reads-as, reads-return}
+use Rattle.spec_fields.proofs.Exact.{reads-fail, reads-then, reads-map}
 use Rattle.spec_fields.proofs.Number.{Chosen, choice-reads}
 use Rattle.text.specs.Text.{Text, eqText}
 use Rattle.text.proofs.Equal.{eqText-refl, eqText-eq}
@@ -43,10 +43,12 @@ module _ {A : Type 0} where
 
 -- ---- names and kinds
 
+-- A name is the same as itself.
 pub eqName-refl : (q : QName Text) → T (eqName q q)
 unfolding eqName
 eqName-refl q = both (eqText (q .uri) (q .uri)) (eqText (q .local) (q .local)) (eqText-refl (q .uri)) (eqText-refl (q .local))
 
+-- Names that the test finds the same are equal.
 pub eqName-eq : (p q : QName Text) → T (eqName p q) → p ≡ q
 unfolding eqName
 eqName-eq p q t =
@@ -62,9 +64,11 @@ kind-at : (k : Kind) → kindAt (kindNumber k) ≡ k
 unfolding kindAt kindNumber
 kind-at = elim [ SD ↦ refl | ED ↦ refl | SE ↦ refl | AT ↦ refl | EE ↦ refl | CH ↦ refl | CM ↦ refl | PI ↦ refl ]
 
+-- Kinds that the test finds the same are equal.
 pub same-kind : (k l : Kind) → T (eqb (kindNumber k) (kindNumber l)) → k ≡ l
 same-kind k l t = cc (kind-at k, kind-at l, eqb→eq (kindNumber k) (kindNumber l) t)
 
+-- A production fits events of its kind.
 pub fits-kind : (p : Production) (e : Event Text) → T (fits p e) → p .kind ≡ kindOf e
 unfolding fits
 fits-kind p e t =
@@ -91,6 +95,7 @@ named [] vs = none
 named (l ∷ ls) [] = none
 named (l ∷ ls) (v ∷ vs) = follow (getElem? (choices l ls) v) vs (named ls vs)
 
+-- A code whose parts lead to its production.
 pub Valid : List (List Production) → Code → Type 0
 Valid ls x = named ls (x .parts) ≡ some (x .production)
 
@@ -176,17 +181,21 @@ coded (l ∷ ls) e = go (firstFit l e) (found l e) (codeOf ls e) (coded ls e)
 coded-as : (ls : List (List Production)) (e : Event Text) (x : Code) → codeOf ls e ≡ some x → Coded ls e x
 coded-as ls e x h = rw h at (coded ls e)
 
+-- The code of an event in the strict form is one of the levels'.
 pub code-of-valid : (ls : List (List Production)) (e : Event Text) (x : Code) → codeOf ls e ≡ some x → Valid ls x
 code-of-valid ls e x h = coded-as ls e x h .valid
 
+-- Its production fits the event.
 pub code-of-fits : (ls : List (List Production)) (e : Event Text) (x : Code) → codeOf ls e ≡ some x → T (fits (x .production) e)
 code-of-fits ls e x h = coded-as ls e x h .fit
 
+-- Parts that the test finds the strict form's are those of a code.
 pub same-code : (vs : List ℕ) (o : Option Code) → T (sameCode vs o) → (x : Code) × (o ≡ some x) × (x .parts ≡ vs)
 unfolding sameCode
 same-code vs none t = absurd t
 same-code vs (some x) t = (x, refl, sym (eqText-eq vs (x .parts) t))
 
+-- The parts of the strict form's code pass the test.
 pub code-same : (vs : List ℕ) (o : Option Code) (x : Code) → o ≡ some x → x .parts ≡ vs → T (sameCode vs o)
 unfolding sameCode
 code-same vs o x h e = rw (h, e) (eqText-refl vs)
@@ -228,6 +237,7 @@ module _ (a : Alignment) (ls : List (List Production)) where
           record { is = λ i. record { parts = e i; production = q i }; empty = b ∙ no-parts }
       last x w (u ∷ vs) e n b = absurd (Option·none-ne-some (x .production) n)
 
+-- Reading a code gives exactly the codes of the levels (EXI 6.2).
 pub code-reads : (a : Alignment) (ls : List (List Production)) → Reads (readCode a ls) (λ x w. Valid ls x × (w ≡ codeBits a ls (x .parts)))
 unfolding readCode Valid named codeBits
 code-reads a [] = reads-as (reads-fail code) (λ x w h. absurd h) (λ x w h. Option·none-ne-some (x .production) (h .0))
@@ -352,6 +362,7 @@ coded-allowed s ls finished = agree (simp coding)
 coded-allowed s ls (startTag q outer) = agree (simp coding)
 coded-allowed s ls (elementContent q outer) = agree (simp coding)
 
+-- An event that the shape allows has a code.
 pub code-of-allowed : (s : Settings) (ls : List Learned) (st : State) (e : Event Text) → T (allowed s st e)
     → (x : Code) × (codeOf (levels s ls st) e ≡ some x)
 code-of-allowed s ls st e t =
@@ -365,6 +376,7 @@ LearnedOk s ls =
     (st : State) (e : Event Text) → T (oneFits (learnedAt (siteOf st) ls) e (allowed s st e))
     → T (allowed s st e)
 
+-- At the start nothing is learned.
 pub learned-ok-start : (s : Settings) → LearnedOk s []
 unfolding LearnedOk learnedAt learnedIn oneFits
 learned-ok-start s st e t = go (siteOf st) t
@@ -373,6 +385,7 @@ learned-ok-start s st e t = go (siteOf st) t
     go none t = t
     go (some k) t = t
 
+-- An event that has a code is one that the shape allows.
 pub allowed-of-code : (s : Settings) (ls : List Learned) (st : State) (e : Event Text) (x : Code)
     → LearnedOk s ls → codeOf (levels s ls st) e ≡ some x → T (allowed s st e)
 unfolding LearnedOk
@@ -430,6 +443,7 @@ permits-same s (tagOf p) (contentOf q) x t = absurd t
 permits-same s (contentOf p) (tagOf q) x t = absurd t
 permits-same s (contentOf p) (contentOf q) x t = refl
 
+-- What an event teaches fits only events that the shape allows.
 pub learned-ok-after : (s : Settings) (ls : List Learned) (st : State) (x : Code) (e : Event Text)
     (n : Option (QName Placed)) → T (allowed s st e) → LearnedOk s ls
     → LearnedOk s (learn (siteOf st) (taught (learnedAt (siteOf st) ls) x (kindOf e) n) ls)

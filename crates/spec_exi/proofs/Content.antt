@@ -7,8 +7,8 @@ use mathlib.Core.Option.{Option, none, some, Option·map}
 use lib.Dec.{T, eqb}
 use Rattle.spec_fields.specs.Bits.{Bits}
 use Rattle.spec_fields.proofs.Tests.{split, is-T, left, right}
-use Rattle.spec_fields.proofs.Exact.{Reads, Returned, Then, Mapped, reads-as, reads-return, reads-then}
-use Rattle.spec_fields.proofs.Exact.{reads-map}
+use Rattle.spec_fields.proofs.Exact.{Reads, Returned, Then, Mapped, reads-as, reads-return}
+use Rattle.spec_fields.proofs.Exact.{reads-then, reads-map}
 use Rattle.text.specs.Text.{Text, eqText, allChars}
 use Rattle.text.proofs.Equal.{eqText-eq}
 use Rattle.spec_exi.specs.Settings.{Settings}
@@ -17,8 +17,8 @@ use Rattle.spec_exi.specs.Event.{QName, Event, startDocument, endDocumen
 use Rattle.spec_exi.specs.Event.{startElement, attribute, characters, comment, instruction}
 use Rattle.spec_exi.specs.Event.{Kind, SD, ED, SE, AT, EE, CH, CM, PI, mapName, mapEvent}
 use Rattle.spec_exi.specs.Event.{kindOf, nameOf}
-use Rattle.spec_exi.specs.Tables.{Placed, nameText, eventText, Tables, Role, uri, local, value}
-use Rattle.spec_exi.specs.Tables.{target, plain, namesOf, nameAllowed}
+use Rattle.spec_exi.specs.Tables.{Placed, nameText, eventText, Tables, Role, uri, local}
+use Rattle.spec_exi.specs.Tables.{value, target, plain, namesOf, nameAllowed}
 use Rattle.spec_exi.specs.Grammar.{Production, State, kindNumber, isWildcard, fitsName, fits}
 use Rattle.spec_exi.specs.Context.{Item, item, characterRole, nameItems, items, afterItem}
 use Rattle.spec_exi.specs.Context.{afterItems, entryOf, entriesOf}
@@ -92,6 +92,7 @@ module _ (z : Sizes) (s : Settings) (t : Tables) where
     abbrev Content : Kind → Event Placed × Tables → Bits → Type 0
     Content k c w = ContentRead z s t st n c w k
 
+    -- Reading the content of an event gives exactly what ContentRead says, for any sizes.
     pub content-reads : (k : Kind) → Reads (readContent z s t st k n) (Content k)
     unfolding readContent
     content-reads SD = reads-as (reads-return (startDocument, t)) (λ c w h. anSD (h .is) (h .empty)) from
@@ -162,10 +163,12 @@ pub record NameOk (attr : Bool) (q : QName Text) : Type 0 where
   pub localSmall : T (short sizes (q .local))
   pub named : T (nameAllowed (local attr (q .uri)) (q .local))
 
+-- A carried name is good.
 abbrev pub NamedOk : Bool → Option (QName Placed) → Type 0
 NamedOk attr none = Unit {0}
 NamedOk attr (some q) = NameOk attr (nameText q)
 
+-- A production carries a name only where its kind has one, and a good one.
 abbrev pub ProductionOk : Kind → Option (QName Placed) → Type 0
 ProductionOk SD n = n ≡ none
 ProductionOk ED n = n ≡ none
@@ -185,6 +188,7 @@ entry-text [] x = refl
 entry-text (e ∷ es) x =
     split (eqText (e .text) x) (λ t. rw t (eqText-eq (e .text) x (is-T (eqText (e .text) x) t))) (λ t. rw t (entry-text es x))
 
+-- The entries of a name have its texts.
 pub entries-texts : (t : Tables) (q : QName Text) → nameText (entriesOf t q) ≡ q
 unfolding nameText mapName entriesOf
 entries-texts t q = rw (entry-text (t .uris) (q .uri), entry-text (namesOf t (q .uri)) (q .local))
@@ -246,6 +250,7 @@ of-items : (s : Settings) (t : Tables) (st : State) (p : Production) (e : Event 
     → FitItems s t (items st p e) t′ (w ++ []) → ContentFit s t st p e t′ w
 of-items s t st p e t′ w f m = record { fitting = f; strings = m .fit; bits = sym (append-nil w) ∙ m .bits; after = m .after }
 
+-- Content that is read is fit, has the strict form's bits, and leaves the strict form's tables.
 pub content-fit : (s : Settings) (t : Tables) (st : State) (k : Kind) (n : Option (QName Placed))
     (c : Event Placed × Tables) (w : Bits) → GoodTables t → T (withinTables sizes t) → ProductionOk k n
     → ContentRead sizes s t st n c w k
@@ -290,6 +295,7 @@ module _ {z : Sizes} {s : Settings} {t : Tables} where
   name-first {attr} (writtenName x y u v h l i j) b =
       rw i (pair-first h (same-form _ _ (h .strictly)) refl l (same-form _ _ (l .strictly)))
 
+  -- A written name lies at its first entries.
   pub content-first : {st : State} {n : Option (QName Placed)} {c : Event Placed × Tables} {w : Bits} {k : Kind}
       → ContentRead z s t st n c w k → T (isWildcard n)
       → nameOf (c .0) ≡ Option·map (entriesOf (c .1)) (nameOf (eventText (c .0)))
@@ -415,6 +421,7 @@ found s t st n (instruction v w) f h =
       read = aPI (x .string, t₁) y (itemBits (s .alignment) t (item target v)) (itemBits (s .alignment) t₁ (item plain w) ++ []) (x .read) r refl refl;
     }
 
+-- Content that is fit is read from the strict form's bits.
 pub content-found : (s : Settings) (t : Tables) (st : State) (k : Kind) (n : Option (QName Placed)) (e : Event Text)
     → T (fits (record { kind = k; qname = n }) e) → ItemsFit t (items st (record { kind = k; qname = n }) e) → ContentFound s t st k n e
 unfolding fits

@@ -40,9 +40,10 @@ use Rattle.spec_exi.specs.Writer.{asOctets, writeList, enoughToWrite, wr
 use Rattle.spec_exi.specs.Packets.{nothingYet, withFirst, firstThen, firstEvents, afterHeader}
 use Rattle.spec_exi.specs.Packets.{complete, soFar, receive}
 use Rattle.spec_exi.specs.Meaning.{storedOf, meantOne, together, meant}
-use Rattle.spec_exi.specs.Examples.{full, answerFor, strictFor, reply, numbers, inBits}
-use Rattle.spec_exi.specs.Examples.{inOctets, digit, hex, octets, twoLines, example, beginIn}
-use Rattle.spec_exi.specs.Examples.{begin, attrIn, attr, chars, remark, instruct, end, whole}
+use Rattle.spec_exi.specs.Examples.{fullToWrite, full, answerFor, strictFor, reply, numbers}
+use Rattle.spec_exi.specs.Examples.{inBits, inOctets, digit, hex, octets, twoLines, example}
+use Rattle.spec_exi.specs.Examples.{beginIn, begin, attrIn, attr, chars, remark, instruct}
+use Rattle.spec_exi.specs.Examples.{end, whole}
 
 -- To unfold this is to unfold what its line names.
 unfoldable pub definitions : Unit {0}
@@ -66,6 +67,6 @@ unfolding bitsOf valueOf each unpack octetsFrom octetsFor pack allZero isPadding
     readStream enoughToRead readSized read listOf readReply firstFailed placeTests stringTests
     contentTests eventTests faultOf prepended unless writeEvents asOctets writeList enoughToWrite
     write writeReply nothingYet withFirst firstThen firstEvents afterHeader complete soFar receive
-    storedOf meantOne together meant full answerFor strictFor reply numbers inBits inOctets digit
+    storedOf meantOne together meant full fullToWrite answerFor strictFor reply numbers inBits inOctets digit
     hex octets twoLines example beginIn begin attrIn attr chars remark instruct end whole
 definitions = tt

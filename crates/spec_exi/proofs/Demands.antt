@@ -9,14 +9,14 @@ use lib.ListN.{length, length-append}
 use lib.Dec.{T, leb, ltb, leb→le, le→leb, ltb→lt, lt→ltb}
 use Rattle.spec_fields.specs.Bits.{Bits, unpack, pack, isPadding, allZero}
 use Rattle.spec_fields.specs.Parser.{Result, bad, got}
-use Rattle.spec_fields.specs.Refusal.{Refusal, numberOf, room, settings, long, header, ended, code}
-use Rattle.spec_fields.specs.Refusal.{number, character, reference, loose, name, limit, tail, shape}
-use Rattle.spec_fields.specs.Refusal.{place, Answer, refused, accepted}
+use Rattle.spec_fields.specs.Refusal.{Answer, refused, accepted}
+use Rattle.spec_fields.proofs.Refusal.{refusal-number}
 use Rattle.spec_fields.proofs.Tests.{T-is, is-T, both, left, right, split}
 use Rattle.spec_fields.proofs.Pack.{Octets, unpack-append, length-unpack, unpack-pack}
 use Rattle.text.specs.Text.{Text}
 use Rattle.spec_exi.specs.Event.{Event}
-use Rattle.spec_exi.specs.Settings.{Settings, SettingNumbers, meaningful, settingsOf, headerOf}
+use Rattle.spec_exi.specs.Settings.{Settings, SettingNumbers, meaningful, settingsOf}
+use Rattle.spec_exi.specs.Settings.{headerOf}
 use Rattle.spec_exi.specs.Sizes.{sizes, maxStream, maxEvents}
 use Rattle.spec_exi.specs.Tables.{eventText}
 use Rattle.spec_exi.specs.Context.{start, contextAfter}
@@ -47,7 +47,8 @@ unfolding every
 are-octets [] h = tt
 are-octets (b ∷ bs) h = both (ltb b 256) (every (λ x. ltb x 256) bs) (lt→ltb b 256 (h .0)) (are-octets bs (h .1))
 
-good-of : (s : Settings) (l : List (Event Text)) → ListFit s (start s) l → length l ≤ maxEvents → length (strict s l) ≤ maxStream → Good s l
+good-of : (s : Settings) (l : List (Event Text)) → ListFit s (start s) l → length l ≤ maxEvents
+    → length (strict s l) ≤ maxStream → Good s l
 good-of s l h m o =
     let g = good-of-fit s l h in
     record {
@@ -69,13 +70,15 @@ fit-of s l g =
 -- ---- the reader
 
 -- What an accepting answer rests on.
-record Accepting (r : ReaderRoom) (o : SettingNumbers) (stream : List ℕ) (x : Reading) : Type 0 where
+record Accepting (r : ReaderRoom) (o : SettingNumbers) (stream : List ℕ)
+    (x : Reading) : Type 0 where
   enough : T (enoughToRead sizes r)
   means : T (meaningful o)
   short : length stream ≤ maxStream
   answer : readStream sizes (settingsOf o) stream ≡ accepted x
 
-accepting : (r : ReaderRoom) (o : SettingNumbers) (stream : List ℕ) (x : Reading) → read r o stream ≡ accepted x → Accepting r o stream x
+accepting : (r : ReaderRoom) (o : SettingNumbers) (stream : List ℕ) (x : Reading)
+    → read r o stream ≡ accepted x → Accepting r o stream x
 unfolding read readSized
 accepting r o stream x q =
     split (enoughToRead sizes r)
@@ -91,70 +94,60 @@ accepting r o stream x q =
     (λ m. not-accepted (rw (e, m) at q)))
     (λ e. not-accepted (rw e at q))
 
-read-accepts : (r : ReaderRoom) (o : SettingNumbers) (stream : List ℕ) → T (enoughToRead sizes r) → T (meaningful o) → length stream ≤ maxStream
+read-accepts : (r : ReaderRoom) (o : SettingNumbers) (stream : List ℕ) → T (enoughToRead sizes r)
+    → T (meaningful o) → length stream ≤ maxStream
     → read r o stream ≡ readStream sizes (settingsOf o) stream
 unfolding read readSized
 read-accepts r o stream e m h = rw (T-is (enoughToRead sizes r) e, T-is (meaningful o) m, T-is (leb (length stream) maxStream) (le→leb (length stream) maxStream h))
 
 -- ---- where the strings lie
 
-stream-places : (s : Settings) (stream : List ℕ) (r : Reading) → readStream sizes s stream ≡ accepted r
+stream-places : (s : Settings) (stream : List ℕ) (r : Reading)
+    → readStream sizes s stream ≡ accepted r
     → meant (r .store) (map storedOf (r .events)) ≡ some (map eventText (r .events))
 unfolding readStream readBody
 stream-places s stream r q = go (readHeader (headerOf s) (unpack stream)) q
   where
-    go : (x : Result (Unit {0})) → readBody sizes s x ≡ accepted r → meant (r .store) (map storedOf (r .events)) ≡ some (map eventText (r .events))
+    go : (x : Result (Unit {0})) → readBody sizes s x ≡ accepted r
+        → meant (r .store) (map storedOf (r .events)) ≡ some (map eventText (r .events))
     go (bad k) q = not-accepted q
     go (got u bs) q = read-places sizes s maxEvents (start s) bs r (settled-start s) q
 
-stream-store : (s : Settings) (stream : List ℕ) (r : Reading) → readStream sizes s stream ≡ accepted r
+stream-store : (s : Settings) (stream : List ℕ) (r : Reading)
+    → readStream sizes s stream ≡ accepted r
     → r .store ≡ contextAfter s (start s) (map eventText (r .events)) .tables .store
 unfolding readStream readBody
 stream-store s stream r q = go (readHeader (headerOf s) (unpack stream)) q
   where
-    go : (x : Result (Unit {0})) → readBody sizes s x ≡ accepted r → r .store ≡ contextAfter s (start s) (map eventText (r .events)) .tables .store
+    go : (x : Result (Unit {0})) → readBody sizes s x ≡ accepted r
+        → r .store ≡ contextAfter s (start s) (map eventText (r .events)) .tables .store
     go (bad k) q = not-accepted q
     go (got u bs) q = read-store maxEvents s (start s) bs r (sane-start s) q
 
-module _ (r : ReaderRoom) (o : SettingNumbers) (stream : List ℕ) (x : Reading) (q : read r o stream ≡ accepted x) where
+module _ (r : ReaderRoom) (o : SettingNumbers) (stream : List ℕ) (x : Reading) (q : read r o stream
+    ≡ accepted x) where
   -- Each string, looked up in the store, is that string.
   pub texts : meant (x .store) (map storedOf (x .events)) ≡ some (map eventText (x .events))
   texts = stream-places (settingsOf o) stream x (accepting r o stream x q .answer)
 
   -- The store is the initial entries and the literals of the strict form, and nothing else.
-  pub store : x .store ≡ contextAfter (settingsOf o) (start (settingsOf o)) (map eventText (x .events)) .tables .store
+  pub store : x .store ≡ contextAfter (settingsOf o) (start (settingsOf o))
+      (map eventText (x .events)) .tables .store
   store = stream-store (settingsOf o) stream x (accepting r o stream x q .answer)
 
 -- The reading behind a list has its texts.
-listed : (r : ReaderRoom) (o : SettingNumbers) (stream : List ℕ) (l : List (Event Text)) (q : Accepts r o stream l) → map eventText (q .0 .events) ≡ l
+listed : (r : ReaderRoom) (o : SettingNumbers) (stream : List ℕ) (l : List (Event Text))
+    (q : Accepts r o stream l) → map eventText (q .0 .events) ≡ l
 listed r o stream l q = Option·some-injective (map eventText (q .0 .events)) l (sym (texts r o stream (q .0) (q .1)) ∙ q .2)
 
-number-positive : (k : Refusal) → numberOf k ≡ 0 → ⊥
-unfolding numberOf
-number-positive = elim [
-  | room ↦ λ e. omega arith
-  | settings ↦ λ e. omega arith
-  | long ↦ λ e. omega arith
-  | header ↦ λ e. omega arith
-  | ended ↦ λ e. omega arith
-  | code ↦ λ e. omega arith
-  | number ↦ λ e. omega arith
-  | character ↦ λ e. omega arith
-  | reference ↦ λ e. omega arith
-  | loose ↦ λ e. omega arith
-  | name ↦ λ e. omega arith
-  | limit ↦ λ e. omega arith
-  | tail ↦ λ e. omega arith
-  | shape ↦ λ e. omega arith
-  | place ↦ λ e. omega arith
-]
-
-zero-accepted : (a : Answer Reading) → (readReply a .number ≡ 0) ↔ ((x : Reading) × (a ≡ accepted x))
+zero-accepted : (a : Answer Reading) → (readReply a .number ≡ 0)
+    ↔ ((x : Reading) × (a ≡ accepted x))
 unfolding readReply
-zero-accepted (refused k i) = (λ e. absurd (number-positive k e), λ h. not-accepted (h .1))
+zero-accepted (refused k i) = (λ e. absurd (omega (arith, refusal-number k)), λ h. not-accepted (h .1))
 zero-accepted (accepted x) = (λ e. (x, refl), λ h. refl)
 
-accepts-good : (r : ReaderRoom) (o : SettingNumbers) (stream : List ℕ) (l : List (Event Text)) → AreOctets stream → Accepts r o stream l
+accepts-good : (r : ReaderRoom) (o : SettingNumbers) (stream : List ℕ) (l : List (Event Text))
+    → AreOctets stream → Accepts r o stream l
     → Good (settingsOf o) l × (stream ≡ strict (settingsOf o) l)
 accepts-good r o stream l h q =
     let x = q .0 in
@@ -166,7 +159,8 @@ accepts-good r o stream l h q =
     let i = f .is in
     subst (λ k. Good s k × (stream ≡ strict s k)) e (good-of s (map eventText (x .events)) (f .fit) (f .few) (subst (λ b. length b ≤ maxStream) i (m .short)), i)
 
-good-accepted : (r : ReaderRoom) (o : SettingNumbers) (l : List (Event Text)) → T (enoughToRead sizes r) → T (meaningful o) → Good (settingsOf o) l
+good-accepted : (r : ReaderRoom) (o : SettingNumbers) (l : List (Event Text))
+    → T (enoughToRead sizes r) → T (meaningful o) → Good (settingsOf o) l
     → Accepts r o (strict (settingsOf o) l) l
 good-accepted r o l e m g =
     let s = settingsOf o in
@@ -175,7 +169,8 @@ good-accepted r o l e m g =
     (f .reading, q, texts r o (strict s l) (f .reading) q ∙ ap some (f .is))
 
 -- A stream is the strict form of one list.
-pub one-list : (s : Settings) (l m : List (Event Text)) → Good s l → Good s m → strict s l ≡ strict s m → l ≡ m
+pub one-list : (s : Settings) (l m : List (Event Text)) → Good s l → Good s m
+    → strict s l ≡ strict s m → l ≡ m
 one-list s l m g h e =
     let f = stream-found s l (fit-of s l g) (g .limits .list .events) in
     let k = stream-found s m (fit-of s m h) (h .limits .list .events) in
@@ -187,7 +182,8 @@ front-octets [] b h = tt
 front-octets (x ∷ a) b h = (h .0, front-octets a b (h .1))
 
 -- Two strict forms of which one begins the other are the same.
-begins : (s : Settings) (l m : List (Event Text)) (b : List ℕ) → Good s l → Good s m → strict s l ++ b ≡ strict s m → b ≡ []
+begins : (s : Settings) (l m : List (Event Text)) (b : List ℕ) → Good s l → Good s m
+    → strict s l ++ b ≡ strict s m → b ≡ []
 unfolding strict isPadding
 begins s l m b g h e =
     let hs = unpack (headerOf s) in
@@ -198,7 +194,14 @@ begins s l m b g h e =
     let j : hs ++ (listBits s (start s) l ++ (y ++ unpack b)) ≡ hs ++ (listBits s (start s) m ++ z) = simp append-assoc at i in
     let k = append-cancel-left hs (listBits s (start s) l ++ (y ++ unpack b)) (listBits s (start s) m ++ z) j in
     let rests : y ++ unpack b ≡ z = prefix-free s (start s) l m (y ++ unpack b) z (fit-of s l g) (fit-of s m h) k .rests in
-    empty b (omega (arith, ap length rests, length-append y (unpack b), length-unpack b, leb→le (length z) 7 (left (leb (length z) 7) (allZero z) pz)))
+    empty b (omega (
+      arith,
+      ap length rests,
+      length-append y (unpack b),
+      length-unpack b,
+      leb→le
+          (length z) 7 (left (leb (length z) 7) (allZero z) pz),
+    ))
   where
     empty : (b : List ℕ) → length b ≤ 0 → b ≡ []
     empty [] h = refl
@@ -213,20 +216,25 @@ accepted-when-zero r o stream = (
 )
 
 -- Accepted are exactly the strict forms of good lists.
-pub exact : (r : ReaderRoom) (o : SettingNumbers) (stream : List ℕ) (l : List (Event Text)) → AreOctets stream
-    → Accepts r o stream l ↔ (T (enoughToRead sizes r) × T (meaningful o) × Good (settingsOf o) l × (stream ≡ strict (settingsOf o) l))
+pub exact : (r : ReaderRoom) (o : SettingNumbers) (stream : List ℕ) (l : List (Event Text))
+    → AreOctets stream
+    → Accepts r o stream l
+    ↔ (T (enoughToRead sizes r) × T (meaningful o) × Good (settingsOf o) l
+    × (stream ≡ strict (settingsOf o) l))
 exact r o stream l h = (
   λ q. let a = accepting r o stream (q .0) (q .1) in let g = accepts-good r o stream l h q in (a .enough, a .means, g .0, g .1),
   λ g. rw (g .3) (good-accepted r o l (g .0) (g .1) (g .2)),
 )
 
 -- A list is answered to one stream.
-pub one-stream : (r : ReaderRoom) (o : SettingNumbers) (a b : List ℕ) (l : List (Event Text)) → AreOctets a → AreOctets b
+pub one-stream : (r : ReaderRoom) (o : SettingNumbers) (a b : List ℕ) (l : List (Event Text))
+    → AreOctets a → AreOctets b
     → Accepts r o a l → Accepts r o b l → a ≡ b
 one-stream r o a b l ha hb qa qb = accepts-good r o a l ha qa .1 ∙ sym (accepts-good r o b l hb qb .1)
 
 -- No accepted stream begins a longer one.
-pub no-prefix : (r : ReaderRoom) (o : SettingNumbers) (a b : List ℕ) (l m : List (Event Text)) → AreOctets (a ++ b)
+pub no-prefix : (r : ReaderRoom) (o : SettingNumbers) (a b : List ℕ) (l m : List (Event Text))
+    → AreOctets (a ++ b)
     → Accepts r o a l → Accepts r o (a ++ b) m → b ≡ []
 no-prefix r o a b l m h qa qb =
     let (g, i) = accepts-good r o a l (are-octets a (front-octets a b (octets-of (a ++ b) h))) qa in
@@ -236,12 +244,14 @@ no-prefix r o a b l m h qa qb =
 -- ---- the writer
 
 -- What an accepting answer rests on.
-record Writing (r : WriterRoom) (o : SettingNumbers) (xs : List Stored) (store : Text) (stream : List ℕ) : Type 0 where
+record Writing (r : WriterRoom) (o : SettingNumbers) (xs : List Stored) (store : Text)
+    (stream : List ℕ) : Type 0 where
   enough : T (enoughToWrite sizes r)
   means : T (meaningful o)
   answer : writeList sizes (settingsOf o) xs store ≡ accepted stream
 
-writing : (r : WriterRoom) (o : SettingNumbers) (xs : List Stored) (store : Text) (stream : List ℕ) → write r o xs store ≡ accepted stream
+writing : (r : WriterRoom) (o : SettingNumbers) (xs : List Stored) (store : Text) (stream : List ℕ)
+    → write r o xs store ≡ accepted stream
     → Writing r o xs store stream
 unfolding write
 writing r o xs store stream q =
@@ -250,7 +260,8 @@ writing r o xs store stream q =
     (λ m. not-accepted (rw (e, m) at q)))
     (λ e. not-accepted (rw e at q))
 
-write-accepts : (r : WriterRoom) (o : SettingNumbers) (xs : List Stored) (store : Text) → T (enoughToWrite sizes r) → T (meaningful o)
+write-accepts : (r : WriterRoom) (o : SettingNumbers) (xs : List Stored) (store : Text)
+    → T (enoughToWrite sizes r) → T (meaningful o)
     → write r o xs store ≡ writeList sizes (settingsOf o) xs store
 unfolding write
 write-accepts r o xs store e m = rw (T-is (enoughToWrite sizes r) e, T-is (meaningful o) m)
@@ -262,11 +273,13 @@ record Behind (s : Settings) (xs : List Stored) (store : Text) (stream : List �
   good : Good s list
   is : stream ≡ strict s list
 
-written-list : (s : Settings) (xs : List Stored) (store : Text) (stream : List ℕ) → writeList sizes s xs store ≡ accepted stream → Behind s xs store stream
+written-list : (s : Settings) (xs : List Stored) (store : Text) (stream : List ℕ)
+    → writeList sizes s xs store ≡ accepted stream → Behind s xs store stream
 unfolding writeList asOctets strict
 written-list s xs store stream q = go (writeEvents maxEvents sizes s (start s) store xs) refl q
   where
-    go : (a : Answer Bits) → writeEvents maxEvents sizes s (start s) store xs ≡ a → asOctets sizes s a ≡ accepted stream → Behind s xs store stream
+    go : (a : Answer Bits) → writeEvents maxEvents sizes s (start s) store xs ≡ a
+        → asOctets sizes s a ≡ accepted stream → Behind s xs store stream
     go (refused k i) w q = not-accepted q
     go (accepted bs) w q =
         let (l, m, f, n, e) = write-sound maxEvents s (start s) store xs bs w in
@@ -281,22 +294,27 @@ written-list s xs store stream q = go (writeEvents maxEvents sizes s (start s) s
         })
         (λ t. not-accepted (rw t at q))
 
-list-written : (s : Settings) (xs : List Stored) (store : Text) (l : List (Event Text)) → meant store xs ≡ some l → Good s l
+list-written : (s : Settings) (xs : List Stored) (store : Text) (l : List (Event Text))
+    → meant store xs ≡ some l → Good s l
     → writeList sizes s xs store ≡ accepted (strict s l)
 unfolding writeList asOctets strict
 list-written s xs store l m g =
     rw (
       write-complete maxEvents s (start s) store xs l m (fit-of s l g) (g .limits .list .events),
-      T-is (leb (length (strict s l)) maxStream) (le→leb (length (strict s l)) maxStream (g .limits .octets)),
+      T-is (leb (length (strict s l)) maxStream)
+          (le→leb (length (strict s l)) maxStream (g .limits .octets)),
     )
 
-behind : (r : WriterRoom) (o : SettingNumbers) (xs : List Stored) (store : Text) (stream : List ℕ) → write r o xs store ≡ accepted stream
+behind : (r : WriterRoom) (o : SettingNumbers) (xs : List Stored) (store : Text) (stream : List ℕ)
+    → write r o xs store ≡ accepted stream
     → Behind (settingsOf o) xs store stream
 behind r o xs store stream q = written-list (settingsOf o) xs store stream (writing r o xs store stream q .answer)
 
 -- What the reader accepts the writer gives back, octet for octet.
-pub written-back : (r : WriterRoom) (p : ReaderRoom) (o : SettingNumbers) (stream : List ℕ) (x : Reading) → T (enoughToWrite sizes r) → AreOctets stream
-    → read p o stream ≡ accepted x → write r o (map storedOf (x .events)) (x .store) ≡ accepted stream
+pub written-back : (r : WriterRoom) (p : ReaderRoom) (o : SettingNumbers) (stream : List ℕ)
+    (x : Reading) → T (enoughToWrite sizes r) → AreOctets stream
+    → read p o stream ≡ accepted x
+    → write r o (map storedOf (x .events)) (x .store) ≡ accepted stream
 written-back r p o stream x e h q =
     let l = map eventText (x .events) in
     let (g, i) = accepts-good p o stream l h (x, q, texts p o stream x q) in
@@ -305,32 +323,39 @@ written-back r p o stream x e h q =
     ∙ list-written (settingsOf o) (map storedOf (x .events)) (x .store) l (texts p o stream x q) g
     ∙ ap accepted (sym i)
 
-zero-written : (a : Answer (List ℕ)) → (writeReply a .number ≡ 0) ↔ ((stream : List ℕ) × (a ≡ accepted stream))
+zero-written : (a : Answer (List ℕ)) → (writeReply a .number ≡ 0)
+    ↔ ((stream : List ℕ) × (a ≡ accepted stream))
 unfolding writeReply
-zero-written (refused k i) = (λ e. absurd (number-positive k e), λ h. not-accepted (h .1))
+zero-written (refused k i) = (λ e. absurd (omega (arith, refusal-number k)), λ h. not-accepted (h .1))
 zero-written (accepted os) = (λ e. (os, refl), λ h. refl)
 
 -- A list is written where the number is 0.
 pub written-when-zero : (r : WriterRoom) (o : SettingNumbers) (xs : List Stored) (store : Text)
-    → (writeReply (write r o xs store) .number ≡ 0) ↔ ((stream : List ℕ) × (write r o xs store ≡ accepted stream))
+    → (writeReply (write r o xs store) .number ≡ 0)
+    ↔ ((stream : List ℕ) × (write r o xs store ≡ accepted stream))
 written-when-zero r o xs store = zero-written (write r o xs store)
 
 -- Written are exactly the good lists, in their strict forms.
-pub written : (r : WriterRoom) (o : SettingNumbers) (xs : List Stored) (store : Text) (stream : List ℕ)
+pub written : (r : WriterRoom) (o : SettingNumbers) (xs : List Stored) (store : Text)
+    (stream : List ℕ)
     → (write r o xs store ≡ accepted stream)
     ↔ ((T (enoughToWrite sizes r) × T (meaningful o))
-    × ((l : List (Event Text)) × (meant store xs ≡ some l) × Good (settingsOf o) l × (stream ≡ strict (settingsOf o) l)))
+    × ((l : List (Event Text)) × (meant store xs ≡ some l) × Good (settingsOf o) l
+    × (stream ≡ strict (settingsOf o) l)))
 written r o xs store stream = (
   λ q. let b = behind r o xs store stream q in
       let w = writing r o xs store stream q in
       ((w .enough, w .means), (b .list, b .meaning, b .good, b .is)),
   λ h. let g = h .1 in
-      write-accepts r o xs store (h .0 .0) (h .0 .1) ∙ list-written (settingsOf o) xs store (g .0) (g .1) (g .2) ∙ ap accepted (sym (g .3)),
+      write-accepts r o xs store (h .0 .0) (h .0 .1)
+      ∙ list-written (settingsOf o) xs store (g .0) (g .1) (g .2) ∙ ap accepted (sym (g .3)),
 )
 
 -- Reading what was written returns the list.
-pub read-back : (r : WriterRoom) (p : ReaderRoom) (o : SettingNumbers) (xs : List Stored) (store : Text) (l : List (Event Text)) (stream : List ℕ)
-    → T (enoughToRead sizes p) → meant store xs ≡ some l → write r o xs store ≡ accepted stream → Accepts p o stream l
+pub read-back : (r : WriterRoom) (p : ReaderRoom) (o : SettingNumbers) (xs : List Stored)
+    (store : Text) (l : List (Event Text)) (stream : List ℕ)
+    → T (enoughToRead sizes p) → meant store xs ≡ some l → write r o xs store ≡ accepted stream
+    → Accepts p o stream l
 read-back r p o xs store l stream e h q =
     let b = behind r o xs store stream q in
     let same : b .list ≡ l = Option·some-injective (b .list) l (sym (b .meaning) ∙ h) in

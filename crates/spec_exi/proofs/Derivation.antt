@@ -15,6 +15,7 @@ use Rattle.spec_exi.specs.Tables.{Placed, Slot, Tables, Partitions, comp
 use Rattle.spec_exi.specs.Tables.{hit, literal, laid}
 
 module _ (s : Settings) where
+  -- The code points of a text, each as an Unsigned Integer (EXI 7.1.10).
   pub data Characters : Text → Bits → Type 0 where
     nothing : Characters [] []
     more : {p : ℕ} {x : Text} {u w : Bits} → Unsigned p u → Characters x w

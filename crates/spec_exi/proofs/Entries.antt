@@ -13,13 +13,12 @@ use Rattle.spec_fields.proofs.Tests.{split, right}
 use Rattle.spec_fields.proofs.Exact.{Every}
 use Rattle.text.specs.Text.{Text, eqText, isEmpty, allChars}
 use Rattle.spec_exi.specs.Settings.{Settings}
-use Rattle.spec_exi.specs.Sizes.{sizes, maxUris, maxNames, maxValues, maxStore}
-use Rattle.spec_exi.specs.Sizes.{maxString}
+use Rattle.spec_exi.specs.Sizes.{Sizes, sizes, maxStore, maxString}
 use Rattle.spec_exi.specs.Tables.{Placed, Entry, Tables, partition, namesOf, valuesOf}
-use Rattle.spec_exi.specs.Tables.{allValues, Role, uri, local, value, target}
-use Rattle.spec_exi.specs.Tables.{plain, Partitions, compact, literals, partitionsOf, Form, hit}
-use Rattle.spec_exi.specs.Tables.{literal, formOf, formBits, newUri, newName}
-use Rattle.spec_exi.specs.Tables.{newEntry, newValue, laid, added, tablesAfter}
+use Rattle.spec_exi.specs.Tables.{allValues, Role, uri, local, value, target, plain}
+use Rattle.spec_exi.specs.Tables.{Partitions, compact, literals, partitionsOf, Form, hit}
+use Rattle.spec_exi.specs.Tables.{literal, formOf, formBits, newUri, newName, newEntry}
+use Rattle.spec_exi.specs.Tables.{newValue, laid, added, tablesAfter}
 use Rattle.spec_exi.specs.Event.{eqName}
 use Rattle.spec_exi.specs.Context.{Item, item, afterItem, afterItems}
 use Rattle.spec_exi.specs.Strict.{itemBits}
@@ -34,10 +33,12 @@ use Rattle.spec_exi.proofs.Spelling.{same-form, form-same, spelled-bits
 -- ---- members of lists
 
 module _ {A : Type 0} (P : A → Type 0) where
+  -- What holds of all of two lists holds of all of both together.
   pub every-append : (a b : List A) → Every P a → Every P b → Every P (a ++ b)
   every-append [] b h k = k
   every-append (x ∷ a) b h k = (h .0, every-append a b (h .1) k)
 
+  -- What holds of all holds of each.
   pub every-member : (l : List A) (i : ℕ) (x : A) → Every P l → getElem? l i ≡ some x → P x
   every-member [] i x h e = absurd (Option·none-ne-some x e)
   every-member (a ∷ l) zero x h e = let same : a ≡ x = cc in subst P same (h .0)
@@ -52,6 +53,7 @@ module _ (P : Placed → Type 0) where
     pub names : Every P (map (λ x. x .string) (t .names))
     pub values : Every P (map (λ x. x .string) (t .values))
 
+  -- What holds of all entries holds of a partition's.
   pub partition-all : {K : Type 0} (has : K → Bool) (l : List (Entry K)) → Every P (map (λ x. x .string) l) → Every P (partition has l)
   unfolding partition
   partition-all has [] h = tt
@@ -72,6 +74,7 @@ module _ (P : Placed → Type 0) where
   AllSlots (compact es) = Every (If-some P) es
   AllSlots (literals ess) = Every (Every (If-some P)) ess
 
+  -- What holds of all entries holds of every slot of a role's partitions.
   pub partitions-all : (t : Tables) (r : Role) → AllEntries t → AllSlots (partitionsOf t r)
   unfolding partitionsOf namesOf valuesOf allValues
   partitions-all t uri g = slots-all (t .uris) (g .uris)
@@ -99,6 +102,7 @@ module _ (P : Placed → Type 0) where
   string-append [] b h k = k
   string-append (x ∷ a) b h k = (h .0, string-append a b (h .1) k)
 
+  -- What holds of all entries and of a literal holds once the literal is added.
   pub added-all : (t : Tables) (r : Role) (y : Text) → AllEntries t → P (laid t y) → AllEntries (added t r y)
   unfolding added laid newUri newName newEntry newValue
   added-all t r y g p =
@@ -129,10 +133,12 @@ module _ (P : Placed → Type 0) where
       values target = tt
       values plain = tt
 
+-- Only Chars, and short.
 pub record GoodString (x : Placed) : Type 0 where
   pub chars : T (allChars (x .text))
   pub small : T (short sizes (x .text))
 
+-- All entries are good strings.
 abbrev pub GoodTables : Tables → Type 0
 GoodTables = AllEntries GoodString
 
@@ -156,6 +162,7 @@ pub record ReadItem (s : Settings) (t : Tables) (r : Role) (x : Placed) (t′ : 
   pub bits : w ≡ itemBits (s .alignment) t (item r (x .text))
   pub after : t′ ≡ afterItem t (item r (x .text))
 
+-- A string that is read is fit, has the strict form's bits, and leaves the strict form's tables.
 pub item-of-read : (s : Settings) (t : Tables) (r : Role) (x : Placed) (t′ : Tables) (w : Bits)
     → GoodTables t → StringRead sizes s t r (x, t′) w → ReadItem s t r x t′ w
 unfolding item afterItem itemBits
@@ -169,15 +176,17 @@ item-of-read s t r x t′ w g h =
       after = after;
     }
 
-pub store-within : (t : Tables) → T (withinTables sizes t) → length (t .store) ≤ maxStore
+-- Tables within the sizes have a store that is within them.
+pub store-within : (z : Sizes) (t : Tables) → T (withinTables z t) → length (t .store) ≤ z .store
 unfolding withinTables
-store-within t h =
-    leb→le (length (t .store)) maxStore
-    (right (leb (length (t .uris)) maxUris && leb (length (t .names)) maxNames && leb (length (t .values)) maxValues) (leb (length (t .store)) maxStore) h)
+store-within z t h =
+    leb→le (length (t .store)) (z .store)
+    (right (leb (length (t .uris)) (z .uris) && leb (length (t .names)) (z .names) && leb (length (t .values)) (z .values))
+    (leb (length (t .store)) (z .store)) h)
 
 literal-fits : (t : Tables) (r : Role) (y : Text) → T (withinTables sizes (added t r y)) → length (t .store) + length y ≤ maxStore
 unfolding added
-literal-fits t r y h = rw (← length-append (t .store) y) (store-within (added t r y) h)
+literal-fits t r y h = rw (← length-append (t .store) y) (store-within sizes (added t r y) h)
 
 -- A fit item is read.
 pub record ItemRead (s : Settings) (t : Tables) (r : Role) (y : Text) : Type 0 where
@@ -186,6 +195,7 @@ pub record ItemRead (s : Settings) (t : Tables) (r : Role) (y : Text) : Type 0 w
   pub read : StringRead sizes s t r (string, afterItem t (item r y)) (itemBits (s .alignment) t (item r y))
   pub strictly : read .form ≡ formIn t r (string .text)
 
+-- A string that is fit is read from the strict form's bits.
 pub read-of-item : (s : Settings) (t : Tables) (r : Role) (y : Text) → ItemFit t (item r y) → ItemRead s t r y
 unfolding item afterItem itemBits short tablesAfter
 read-of-item s t r y h =
@@ -213,6 +223,7 @@ read-of-item s t r y h =
 
 -- ---- the tables stay good
 
+-- A fit string leaves good tables.
 pub item-good : (t : Tables) (i : Item) → GoodTables t → ItemFit t i → GoodTables (afterItem t i)
 unfolding afterItem tablesAfter laid
 item-good t i g h = split (i .written) (λ e. rw e (form (formIn t (i .role) (i .text)))) (λ e. rw e g)
@@ -221,6 +232,7 @@ item-good t i g h = split (i .written) (λ e. rw e (form (formIn t (i .role) (i 
     form (hit j k) = g
     form literal = added-all GoodString t (i .role) (i .text) g (record { chars = h .chars; small = h .small })
 
+-- Fit strings leave good tables.
 pub items-good : (t : Tables) (is : List Item) → GoodTables t → ItemsFit t is → GoodTables (afterItems t is)
 unfolding afterItems
 items-good t [] g h = g

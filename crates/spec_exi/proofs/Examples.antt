@@ -2,25 +2,24 @@
 use mathlib.Core.Path.{_≡_, refl}
 use mathlib.Core.List.{List, [], _∷_, map}
 use lib.Dec.{T}
+use Rattle.spec_fields.proofs.Refusal.{numbered}
 use Rattle.spec_fields.proofs.Tests.{left, right}
 use Rattle.text.specs.Text.{eqText}
 use Rattle.text.proofs.Equal.{eqText-eq}
 use Rattle.spec_exi.specs.Lists.{every}
 use Rattle.spec_exi.specs.Examples.{Example, strictFor, Hold, Replied}
 use Rattle.spec_exi.specs.Examples.Scope.{K, KReplies}
-use Rattle.spec_exi.specs.Examples.Mistakes.{mistakes}
-use Rattle.spec_exi.specs.Examples.Kept.{kept}
-use Rattle.spec_exi.specs.Examples.Places.{layoutOf, storeWith, Lie, at, inUri, named, laidOut}
-use Rattle.spec_exi.specs.Examples.Orders.{orders}
-use Rattle.spec_exi.specs.Examples.Refusals.{refusals}
+use Rattle.spec_exi.specs.Examples.Streams.{mistakes, kept}
+use Rattle.spec_exi.specs.Examples.Places.{layoutOf, storeWith, Lie, at, inUri, named}
+use Rattle.spec_exi.specs.Examples.Places.{laidOut}
+use Rattle.spec_exi.specs.Examples.Refusals.{orders, refusals}
 use Rattle.spec_exi.specs.Examples.Numbers.{sizesAs, setting, meaningless, readerRoom}
 use Rattle.spec_exi.specs.Examples.Numbers.{writerRoom, readerRooms, writerRooms, Pinned}
-use Rattle.spec_exi.specs.Examples.Bounds.{bound, under, rewritten, numbersUnder, Bounded}
-use Rattle.spec_exi.specs.Examples.Bounds.{bounds}
-use Rattle.spec_exi.specs.Examples.Written.{fullToWrite, writtenFor, Written, WriteReplied}
-use Rattle.spec_exi.specs.Examples.Written.{wrote, listed, writes, writeReplies, nested}
-use Rattle.spec_exi.specs.Examples.Written.{counting, withAttribute, inUris, aRow, atSizes}
-use Rattle.spec_exi.specs.Examples.Pieces.{told, Tell, pieces}
+use Rattle.spec_exi.specs.Examples.Bounds.{bound, under, rewritten, sumUnder, Bounded, bounds}
+use Rattle.spec_exi.specs.Examples.Written.{writtenFor, Written, WriteReplied, wrote, listed}
+use Rattle.spec_exi.specs.Examples.Written.{writes, writeReplies, nested, upTo, inUris}
+use Rattle.spec_exi.specs.Examples.Written.{withAttribute, aRow, atSizes}
+use Rattle.spec_exi.specs.Examples.Pieces.{Tell, pieces}
 use Rattle.spec_exi.specs.Examples.All.{WorkedExamples}
 use Rattle.spec_exi.proofs.Definitions.{definitions}
 
@@ -31,7 +30,11 @@ same-streams [] t = refl
 same-streams (x ∷ xs) t =
     let test = eqText (strictFor x) (x .stream) in
     let others = every (λ y. eqText (strictFor y) (y .stream)) xs in
-    cc (eqText-eq (strictFor x) (x .stream) (left test others t), same-streams xs (right test others t))
+    cc (
+      eqText-eq (strictFor x) (x .stream) (left test others t),
+      same-streams xs
+          (right test others t),
+    )
 
 scope : Hold K
 unfolding definitions K
@@ -65,7 +68,7 @@ pinned : Pinned
 unfolding definitions sizesAs setting meaningless readerRoom writerRoom readerRooms writerRooms
 pinned =
     record {
-      refusals = refl;
+      refusals = numbered;
       sizesAre = refl;
       readerSettings = refl;
       writerSettings = refl;
@@ -74,25 +77,26 @@ pinned =
     }
 
 bounds-hold : Bounded bounds
-unfolding definitions sizesAs bound under rewritten numbersUnder bounds
+unfolding definitions sizesAs bound under rewritten sumUnder bounds
 bounds-hold = record { reader = refl; writer = refl; above = refl }
 
 writes-hold : Written writes
-unfolding definitions at inUri named fullToWrite writtenFor listed writes
+unfolding definitions at inUri named writtenFor listed writes
 writes-hold = record { answers = refl }
 
 writes-replied : WriteReplied writes writeReplies
-unfolding definitions at inUri named fullToWrite writtenFor wrote listed writes writeReplies
+unfolding definitions at inUri named writtenFor wrote listed writes writeReplies
 writes-replied = record { replies = refl }
 
 at-sizes : Written atSizes
-unfolding definitions at inUri named fullToWrite writtenFor listed counting nested withAttribute inUris aRow atSizes
+unfolding definitions at inUri named writtenFor listed upTo nested inUris withAttribute aRow atSizes
 at-sizes = record { answers = refl }
 
 pieces-told : Tell pieces
-unfolding definitions told pieces
+unfolding definitions pieces
 pieces-told = record { replies = refl }
 
+-- All of them.
 pub worked-examples : WorkedExamples
 worked-examples =
     record {

@@ -14,11 +14,10 @@ use Rattle.text.proofs.Equal.{eqText-refl}
 use Rattle.spec_exi.specs.Event.{QName}
 use Rattle.spec_exi.specs.Settings.{Settings}
 use Rattle.spec_exi.specs.Sizes.{Sizes}
-use Rattle.spec_exi.specs.Tables.{Role}
-use Rattle.spec_exi.specs.Tables.{Placed, Slot, Entry, Tables, partition}
-use Rattle.spec_exi.specs.Tables.{namesOf, hasText, indexOf, uri, local, value, compact}
-use Rattle.spec_exi.specs.Tables.{literals, partitionsOf, Form, hit, literal, hitOr, firstHit}
-use Rattle.spec_exi.specs.Tables.{formOf, newUri, newName, laid, added, tablesAfter}
+use Rattle.spec_exi.specs.Tables.{Role, Placed, Slot, Entry, Tables, partition, namesOf}
+use Rattle.spec_exi.specs.Tables.{hasText, indexOf, uri, local, value, compact, literals}
+use Rattle.spec_exi.specs.Tables.{partitionsOf, Form, hit, literal, hitOr, firstHit, formOf}
+use Rattle.spec_exi.specs.Tables.{newUri, newName, laid, added, tablesAfter}
 use Rattle.spec_exi.specs.Context.{entryOf, entriesOf}
 use Rattle.spec_exi.proofs.Derivation.{Spelled, compactHit, compactMiss, literalHit}
 use Rattle.spec_exi.proofs.Derivation.{literalMiss}
@@ -162,6 +161,7 @@ module _ {z : Sizes} {s : Settings} {t : Tables} where
       (first (namesOf t u) (x .0) (h .form) (literals-names (h .spelled)) strict)
 
 module _ {z : Sizes} {s : Settings} {t : Tables} where
+  -- URI and local name in the strict form lie at the first entries of the name.
   pub pair-first : {attr : Bool} {n : Text} {x y : Placed × Tables} {u v : Bits} (h : StringRead z s t uri x u) → InStrict h
       → x .0 .text ≡ n → (l : StringRead z s (x .1) (local attr n) y v) → InStrict l
       → entriesOf (y .1) (record { uri = x .0 .text; local = y .0 .text }) ≡ record { uri = x .0; local = y .0 }
@@ -172,6 +172,7 @@ module _ {z : Sizes} {s : Settings} {t : Tables} where
       let two : entryOf (namesOf (y .1) (x .0 .text)) (y .0 .text) ≡ y .0 = ap (λ b. entryOf (namesOf (y .1) b) (y .0 .text)) e ∙ local-first l q in
       rw (one, two)
 
+  -- A value moves no name.
   pub value-first : {p : QName Text} {x : Placed × Tables} {w : Bits} (q : QName Text) → StringRead z s t (value p) x w
       → entriesOf (x .1) q ≡ entriesOf t q
   unfolding entriesOf namesOf

@@ -22,6 +22,7 @@ pub record ItemFit (t : Tables) (i : Item) : Type 0 where
   pub named : T (nameAllowed (i .role) (i .text))
   pub room : T (withinTables sizes (afterItem t i))
 
+-- Strings may come one after the other.
 abbrev pub ItemsFit : Tables → List Item → Type 0
 ItemsFit t [] = Unit {0}
 ItemsFit t (i ∷ is) = ItemFit t i × ItemsFit (afterItem t i) is

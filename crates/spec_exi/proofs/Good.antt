@@ -15,16 +15,15 @@ use Rattle.spec_exi.specs.Sizes.{sizes}
 use Rattle.spec_exi.specs.Event.{Event, startDocument, endDocument, endElement, startElement}
 use Rattle.spec_exi.specs.Event.{attribute, characters, comment, instruction, stringsOf}
 use Rattle.spec_exi.specs.Settings.{Settings}
-use Rattle.spec_exi.specs.Tables.{Tables, Form, hit, literal, partitionsOf, formOf}
-use Rattle.spec_exi.specs.Tables.{added, tablesAfter}
-use Rattle.spec_exi.specs.Tables.{nameAllowed}
+use Rattle.spec_exi.specs.Tables.{Tables, Form, hit, literal, partitionsOf, formOf, added}
+use Rattle.spec_exi.specs.Tables.{tablesAfter, nameAllowed}
 use Rattle.spec_exi.specs.Grammar.{Production, State, document, docContent, docEnd, finished}
 use Rattle.spec_exi.specs.Grammar.{startTag, elementContent, Code, codeOf, stateAfter}
 use Rattle.spec_exi.specs.Context.{Context, start, levelsIn, Item, item, characterRole}
 use Rattle.spec_exi.specs.Context.{nameItems, items, afterItem, afterItems, after, afterCode}
 use Rattle.spec_exi.specs.Context.{next}
-use Rattle.spec_exi.specs.Lists.{every, Document, namesAllowed, charsOnly, withinTables, within}
-use Rattle.spec_exi.specs.Lists.{staysWithin, short, shortStrings}
+use Rattle.spec_exi.specs.Lists.{every, Document, namesAllowed, charsOnly, withinTables}
+use Rattle.spec_exi.specs.Lists.{within, staysWithin, short, shortStrings}
 use Rattle.spec_exi.proofs.Step.{sane-start}
 use Rattle.spec_exi.proofs.Fit.{ItemsFit, EventFit, ListFit, done, also}
 use Rattle.spec_exi.proofs.Shape.{allowed, Run, stop, go, run-of-document, document-of-run}
@@ -181,6 +180,7 @@ module _ (s : Settings) (c : Context) (e : Event Text) where
 
 -- ---- lists
 
+-- What is asked of a good list, but for its numbers of events and octets.
 pub record Meets (s : Settings) (l : List (Event Text)) : Type 0 where
   pub shape : Document s l
   pub chars : T (every charsOnly l)
@@ -219,10 +219,12 @@ module _ {s : Settings} where
       let later = meets-from (sound-next s c e f o) r in
       search (both, go e (first .shape) (rw (state-next s c e f) at (later .shape)))
 
+-- The events of a good list may come one after the other.
 pub fit-of-good : (s : Settings) (l : List (Event Text)) → Meets s l → ListFit s (start s) l
 unfolding start
 fit-of-good s l m = fit-from (start s) l (sound-start s) (search run-of-document)
 
+-- A list whose events may come one after the other is good.
 pub good-of-fit : (s : Settings) (l : List (Event Text)) → ListFit s (start s) l → Meets s l
 unfolding start
 good-of-fit s l f = let m = meets-from (sound-start s) f in search document-of-run

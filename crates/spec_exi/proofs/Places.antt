@@ -20,9 +20,9 @@ use Rattle.spec_exi.specs.Event.{QName, Event, startDocument, endDocumen
 use Rattle.spec_exi.specs.Event.{startElement, attribute, characters, comment, instruction}
 use Rattle.spec_exi.specs.Event.{Kind, mapName, mapEvent, kindOf, nameOf, stringsOf}
 use Rattle.spec_exi.specs.Settings.{Settings}
-use Rattle.spec_exi.specs.Tables.{Placed, eventText, spanOf, Tables, Role}
-use Rattle.spec_exi.specs.Tables.{Partitions, Form, hit, literal, laid, added, tablesAfter}
-use Rattle.spec_exi.specs.Tables.{addedAll, startTables, initialEntries}
+use Rattle.spec_exi.specs.Tables.{Placed, eventText, spanOf, Tables, Role, Partitions, Form}
+use Rattle.spec_exi.specs.Tables.{hit, literal, laid, added, tablesAfter, addedAll}
+use Rattle.spec_exi.specs.Tables.{startTables, initialEntries}
 use Rattle.spec_exi.specs.Grammar.{Production, unnamed, State, siteOf, learnedAt, teaches}
 use Rattle.spec_exi.specs.Grammar.{taught}
 use Rattle.spec_exi.specs.Context.{contextAfter, Context, start, levelsIn, after}
@@ -65,6 +65,7 @@ laid-lies t y = record { front = t .store; back = []; begins = refl; is = sym (a
 
 -- ---- what stays when a literal joins the tables stays throughout
 
+-- What a literal does not take away.
 abbrev pub Stable : (Tables → Type 0) → Type 0
 Stable P = (t : Tables) (r : Role) (y : Text) → P t → P (added t r y)
 
@@ -88,6 +89,7 @@ module _ (P : Tables → Type 0) (stays : Stable P) where
   name-stays (carriedName q i e) p = rw i p
   name-stays (writtenName x y u v h l i e) p = rw i (string-stays l (string-stays h p))
 
+  -- What no literal takes away holds after an event's content.
   pub content-stays : {z : Sizes} {s : Settings} {t : Tables} {st : State} {n : Option (QName Placed)} {c : Event Placed × Tables}
       {w : Bits} {k : Kind} → ContentRead z s t st n c w k → P t → P (c .1)
   content-stays (anSD i j) p = rw i p
@@ -105,6 +107,7 @@ lies-stays x t r y h = lies-longer (t .store) y x h
 
 -- ---- entries
 
+-- What follows of each follows of all.
 pub every-map : {A : Type 0} {P Q : A → Type 0} → ((x : A) → P x → Q x) → (l : List A) → Every P l → Every Q l
 every-map f [] h = tt
 every-map f (x ∷ l) h = (f x (h .0), every-map f l (h .1))
@@ -184,10 +187,12 @@ content-lies g k (aPI x y u v h l i j) = rw i (record { strings = strings-lie g 
 abbrev Carries : Text → Production → Type 0
 Carries store p = If-some (NameLies store) (p .qname)
 
+-- Every entry, and every name that a production carries, lies in the store.
 pub record Settled (c : Context) : Type 0 where
   filed : Filed (c .tables)
   learned : Every (λ x. Carries (c .tables .store) (x .production)) (c .learned)
 
+-- It does at the start.
 pub settled-start : (s : Settings) → Settled (start s)
 unfolding start startTables
 settled-start s =
@@ -203,6 +208,7 @@ pub record Settles (c : Context) (y : Event Placed × Context) : Type 0 where
   pub strings : Every (Lies (y .1 .tables .store)) (stringsOf (y .0))
   pub later : (x : Placed) → Lies (c .tables .store) x → Lies (y .1 .tables .store) x
 
+-- It does after an event, whose strings lie in the store too.
 pub step-settles : {z : Sizes} {s : Settings} {c : Context} {y : Event Placed × Context} {w : Bits} → Settled c
     → StepRead z s c y w → Settles c y
 unfolding after taught levelsIn unnamed
@@ -276,12 +282,14 @@ meant-one s (characters v) h = simp (lies-inside s, lies-part s, h .0)
 meant-one s (comment x) h = simp (lies-inside s, lies-part s, h .0)
 meant-one s (instruction x y) h = simp (lies-inside s, lies-part s, h .0, h .1 .0)
 
+-- Events whose strings lie in the store mean their texts.
 pub meant-all : (s : Text) (es : List (Event Placed)) → Every (λ e. Every (Lies s) (stringsOf e)) es
     → meant s (map storedOf es) ≡ some (map eventText es)
 unfolding meant together
 meant-all s [] h = refl
 meant-all s (e ∷ es) h = rw (meant-one s e (h .0), meant-all s es (h .1))
 
+-- Each string of an accepted list, looked up in the store, is that string.
 pub read-places : (z : Sizes) (s : Settings) (n : ℕ) (c : Context) (bs : Bits) (r : Reading) → Settled c
     → readEvents n z s c bs ≡ accepted r → meant (r .store) (map storedOf (r .events)) ≡ some (map eventText (r .events))
 read-places z s n c bs r b q = meant-all (r .store) (r .events) (run-keeps b (read-runs z s n c bs r q) .strings)
@@ -297,6 +305,7 @@ run-store {s} {n} {c} g (goes {r = r} y w h k) =
     run-store (subst Sane (sym same) (sane-next s c e g (step-fit s c y w g h .0))) k
     ∙ ap (λ d. contextAfter s d (map eventText (r .events)) .tables .store) same
 
+-- The store of an accepted list is the strict form's.
 pub read-store : (n : ℕ) (s : Settings) (c : Context) (bs : Bits) (r : Reading) → Sane c → readEvents n sizes s c bs ≡ accepted r
     → r .store ≡ contextAfter s c (map eventText (r .events)) .tables .store
 read-store n s c bs r g q = run-store g (read-runs sizes s n c bs r q)

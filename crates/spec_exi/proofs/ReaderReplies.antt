@@ -1,28 +1,27 @@
 -- Demand 1, of the reader: what holds of every reply.
-use Prim.Native.Nat.{ℕ, zero, suc, _+_, _-_, _≤_, _<_, zero-le, suc-le-suc}
+use Prim.Native.Nat.{ℕ, zero, suc, _≤_, _<_, zero-le, suc-le-suc}
 use native.Mathlib.Omega.{arith}
 use mathlib.Core.Path.{_≡_, refl, sym, ap, subst}
 use mathlib.Core.Logic.{_↔_}
 use mathlib.Core.Bool.{Bool, true, false, cond, _&&_, not}
-use mathlib.Core.List.{List, [], _∷_, _++_}
+use mathlib.Core.List.{List, [], _∷_}
 use mathlib.Core.Option.{Option, none, some}
 use lib.ListN.{length}
 use lib.Dec.{T, leb, leb→le}
 use borrow.Author.Tests.{leb-false}
-use Rattle.spec_fields.specs.Bits.{Bits, unpack, pack, isPadding}
+use Rattle.spec_fields.specs.Bits.{Bits, unpack, isPadding}
 use Rattle.spec_fields.specs.Refusal.{Refusal, numberOf, room, settings, long, header, ended, code}
-use Rattle.spec_fields.specs.Refusal.{number, character, reference, loose, name, limit, tail, Answer}
-use Rattle.spec_fields.specs.Refusal.{refused, accepted}
+use Rattle.spec_fields.specs.Refusal.{number, character, reference, loose, name, limit, tail}
+use Rattle.spec_fields.specs.Refusal.{Answer, refused, accepted}
 use Rattle.spec_fields.specs.Parser.{Result, bad, got, Parser}
 use Rattle.spec_fields.specs.Field.{Alignment}
 use Rattle.spec_fields.proofs.Tests.{split, is-T, left, right}
-use Rattle.spec_fields.proofs.Says.{Says, says-return, says-fail, says-present, says-then, says-guard}
-use Rattle.spec_fields.proofs.Says.{says-times, says-octet, says-choice, says-unsigned}
-use Rattle.text.specs.Text.{Text, part}
-use Rattle.spec_exi.specs.Event.{QName, Event, Kind, SD, ED, SE, AT, EE, CH, CM, PI, mapEvent}
-use Rattle.spec_exi.specs.Settings.{Settings, SettingNumbers, meaningful, settingsOf, headerOf}
-use Rattle.spec_exi.specs.Sizes.{Sizes, sizes, maxStream, maxEvents}
-use Rattle.spec_exi.specs.Sizes.{maxStore}
+use Rattle.spec_fields.proofs.Says.{Says, says-return, says-fail, says-present, says-then}
+use Rattle.spec_fields.proofs.Says.{says-guard, says-times, says-octet, says-choice, says-unsigned}
+use Rattle.spec_exi.specs.Event.{QName, Event, Kind, SD, ED, SE, AT, EE, CH, CM, PI}
+use Rattle.spec_exi.specs.Settings.{Settings, SettingNumbers, meaningful, settingsOf}
+use Rattle.spec_exi.specs.Settings.{headerOf}
+use Rattle.spec_exi.specs.Sizes.{Sizes, sizes, maxStream, maxEvents, maxStore}
 use Rattle.spec_exi.specs.Tables.{Placed, Slot, Tables, Role, Partitions, compact, literals}
 use Rattle.spec_exi.specs.Tables.{partitionsOf}
 use Rattle.spec_exi.specs.Grammar.{Production, Code, State, choices, isFinished}
@@ -30,25 +29,30 @@ use Rattle.spec_exi.specs.Context.{Context, start, after, next}
 use Rattle.spec_exi.specs.Lists.{withinTables}
 use Rattle.spec_exi.specs.Reader.{readCharacter, readLiteral, readHit, readIn, readByLiterals}
 use Rattle.spec_exi.specs.Reader.{readEntry, readForm, readString, readName, readContent}
-use Rattle.spec_exi.specs.Reader.{readPart, readCode, step, Reading, following, ending, onward}
-use Rattle.spec_exi.specs.Reader.{readEvents, readHeader, readBody, readStream, ReaderRoom}
-use Rattle.spec_exi.specs.Reader.{enoughToRead, readSized, read, readReply}
+use Rattle.spec_exi.specs.Reader.{readPart, readCode, step, Reading, following, ending}
+use Rattle.spec_exi.specs.Reader.{onward, readEvents, readHeader, readBody, readStream}
+use Rattle.spec_exi.specs.Reader.{ReaderRoom, enoughToRead, readSized, read, readReply}
 use Rattle.spec_exi.proofs.Content.{NameRead, carriedName, writtenName, ContentRead, anSD}
 use Rattle.spec_exi.proofs.Content.{anED, anEE, anSE, anAT, aCH, aCM, aPI}
+use Rattle.spec_exi.proofs.Entries.{store-within}
 use Rattle.spec_exi.proofs.Step.{StepRead, sane-start}
-use Rattle.spec_exi.proofs.Body.{Run, ends, goes, read-runs, not-accepted}
+use Rattle.spec_exi.proofs.Body.{Run, ends, goes, read-runs, not-accepted, refused-same}
 
 -- ---- the refusals of events: ENDED to TAIL
 
 unfoldable between : Refusal → Refusal → Refusal → Bool
 between a b k = leb (numberOf a) (numberOf k) && leb (numberOf k) (numberOf b)
 
-bounds : (a b k : Refusal) → T (between a b k) → (numberOf a ≤ numberOf k) × (numberOf k ≤ numberOf b)
+bounds : (a b k : Refusal) → T (between a b k)
+    → (numberOf a ≤ numberOf k) × (numberOf k ≤ numberOf b)
 unfolding between
 bounds a b k t =
     let least = leb (numberOf a) (numberOf k) in
-    let most = leb (numberOf k) (numberOf b) in
-    (leb→le (numberOf a) (numberOf k) (left least most t), leb→le (numberOf k) (numberOf b) (right least most t))
+    let most = leb (numberOf k) (numberOf b) in (
+      leb→le (numberOf a) (numberOf k) (left least most t),
+      leb→le (numberOf k) (numberOf b)
+          (right least most t),
+    )
 
 unfoldable ofEvents : Refusal → Bool
 ofEvents = between ended tail
@@ -71,7 +75,8 @@ module _ (z : Sizes) (s : Settings) where
       says-then _ (says-choice _ tt (s .alignment) reference es tt)
       (λ x. says-then _ (says-present _ reference (x .1) tt) (λ e. says-return _ _))
 
-  says-by-literals : (t : Tables) (ess : List (List Slot)) → Says ofEvents (readByLiterals z s t ess)
+  says-by-literals : (t : Tables) (ess : List (List Slot))
+      → Says ofEvents (readByLiterals z s t ess)
   unfolding readByLiterals ofEvents between numberOf
   says-by-literals t ess = says-then _ (says-unsigned _ tt tt) (λ v. says-in t _ v _)
 
@@ -91,12 +96,14 @@ module _ (z : Sizes) (s : Settings) where
       says-then _ (says-form t (partitionsOf t r))
       (λ x. says-guard _ _ loose tt (says-guard _ _ name tt (says-guard _ _ limit tt (says-return _ _))))
 
-  says-name : (t : Tables) (attr : Bool) (n : Option (QName Placed)) → Says ofEvents (readName z s t attr n)
+  says-name : (t : Tables) (attr : Bool) (n : Option (QName Placed))
+      → Says ofEvents (readName z s t attr n)
   unfolding readName
   says-name t attr none = says-then _ (says-string t _) (λ u. says-then _ (says-string _ _) (λ n. says-return _ _))
   says-name t attr (some q) = says-return _ _
 
-  says-content : (t : Tables) (st : State) (k : Kind) (n : Option (QName Placed)) → Says ofEvents (readContent z s t st k n)
+  says-content : (t : Tables) (st : State) (k : Kind) (n : Option (QName Placed))
+      → Says ofEvents (readContent z s t st k n)
   unfolding readContent
   says-content t st SD n = says-return _ _
   says-content t st ED n = says-return _ _
@@ -107,7 +114,8 @@ module _ (z : Sizes) (s : Settings) where
   says-content t st CM n = says-then _ (says-string t _) (λ v. says-return _ _)
   says-content t st PI n = says-then _ (says-string t _) (λ x. says-then _ (says-string _ _) (λ y. says-return _ _))
 
-says-part : (v : ℕ) (o : Option Production) {p : Parser Code} → Says ofEvents p → Says ofEvents (readPart v o p)
+says-part : (v : ℕ) (o : Option Production) {p : Parser Code} → Says ofEvents p
+    → Says ofEvents (readPart v o p)
 unfolding readPart
 says-part v (some x) h = says-return _ _
 says-part v none h = says-then _ h (λ x. says-return _ _)
@@ -125,9 +133,6 @@ says-step z s c =
 
 -- ---- the events
 
-refused-same : {A : Type 0} {j k : Refusal} {m i : ℕ} → _≡_ {A = Answer A} (refused j m) (refused k i) → (j ≡ k) × (m ≡ i)
-refused-same e = (cc, cc)
-
 -- A refusal among n more events.
 record Among (n : ℕ) (k : Refusal) (i : ℕ) : Type 0 where
   by : T (ofEvents k)
@@ -137,7 +142,8 @@ among : {n i j : ℕ} {k l : Refusal} → T (ofEvents k) → i ≤ n → (k ≡ 
 among t h (e, q) = record { by = subst (λ x. T (ofEvents x)) e t; index = omega arith }
 
 -- What stands behind an event is refused where the whole is, one event earlier.
-behind : (e : Event Placed) (a : Answer Reading) {n : ℕ} {k : Refusal} {i : ℕ} → ((j : ℕ) → a ≡ refused k j → Among n k j)
+behind : (e : Event Placed) (a : Answer Reading) {n : ℕ} {k : Refusal} {i : ℕ}
+    → ((j : ℕ) → a ≡ refused k j → Among n k j)
     → following e a ≡ refused k i → Among (suc n) k i
 unfolding following
 behind v (refused j m) h e =
@@ -147,7 +153,8 @@ behind v (refused j m) h e =
 behind v (accepted r) h e = not-accepted (sym e)
 
 module _ (z : Sizes) (s : Settings) where
-  events-refuse : (n : ℕ) (c : Context) (bs : Bits) (k : Refusal) (i : ℕ) → readEvents n z s c bs ≡ refused k i → Among n k i
+  events-refuse : (n : ℕ) (c : Context) (bs : Bits) (k : Refusal) (i : ℕ)
+      → readEvents n z s c bs ≡ refused k i → Among n k i
   unfolding readEvents onward ending ofEvents between numberOf
   events-refuse zero c bs k i e = among {k = limit} tt zero-le (refused-same e)
   events-refuse (suc n) c bs k i e = go (λ d b j. events-refuse n d b k j) (step z s c bs) refl e
@@ -158,7 +165,9 @@ module _ (z : Sizes) (s : Settings) where
       go rec (bad j) q e = among (says-step z s c .refuses bs j q) zero-le (refused-same e)
       go rec (got (v, d) rest) q e = behind v _ (λ j h. split (isFinished (d .state)) (ended-by j h) (λ f. rec d rest j (rw f at h))) e
         where
-          ended-by : (j : ℕ) → cond (isFinished (d .state)) (ending s d rest) (readEvents n z s d rest) ≡ refused k j
+          ended-by : (j : ℕ)
+              → cond (isFinished (d .state)) (ending s d rest) (readEvents n z s d rest)
+              ≡ refused k j
               → isFinished (d .state) ≡ true → Among n k j
           ended-by j h f =
               split (isPadding rest) (λ p. not-accepted (sym (rw (f, p) at h)))
@@ -166,16 +175,19 @@ module _ (z : Sizes) (s : Settings) where
 
   -- ---- an accepted list and its store are within the sizes
 
-  run-few : {n : ℕ} {c : Context} {bs : Bits} {r : Reading} → Run z s n c bs r → length (r .events) ≤ n
+  run-few : {n : ℕ} {c : Context} {bs : Bits} {r : Reading} → Run z s n c bs r
+      → length (r .events) ≤ n
   run-few (ends f p) = zero-le
   run-few (goes y w h k) = suc-le-suc (run-few k)
 
-  name-room : {t : Tables} {attr : Bool} {a : QName Placed × Tables} {w : Bits} {n : Option (QName Placed)}
+  name-room : {t : Tables} {attr : Bool} {a : QName Placed
+      × Tables} {w : Bits} {n : Option (QName Placed)}
       → NameRead z s t attr a w n → T (withinTables z t) → T (withinTables z (a .1))
   name-room (carriedName q i e) p = rw i p
   name-room (writtenName x y u v h l i e) p = rw i (l .room)
 
-  content-room : {t : Tables} {st : State} {n : Option (QName Placed)} {c : Event Placed × Tables} {w : Bits} {k : Kind}
+  content-room : {t : Tables} {st : State} {n : Option (QName Placed)} {c : Event Placed
+      × Tables} {w : Bits} {k : Kind}
       → ContentRead z s t st n c w k → T (withinTables z t) → T (withinTables z (c .1))
   content-room (anSD i j) p = rw i p
   content-room (anED i j) p = rw i p
@@ -186,21 +198,16 @@ module _ (z : Sizes) (s : Settings) where
   content-room (aCM x h i) p = rw i (h .room)
   content-room (aPI x y u v h l i j) p = rw i (l .room)
 
-  step-room : {c : Context} {y : Event Placed × Context} {w : Bits} → StepRead z s c y w → T (withinTables z (c .tables))
+  step-room : {c : Context} {y : Event Placed × Context} {w : Bits} → StepRead z s c y w
+      → T (withinTables z (c .tables))
       → T (withinTables z (y .1 .tables))
   unfolding after
   step-room h p = rw (h .leaves) (content-room (h .read) p)
 
-  store-within : (t : Tables) → T (withinTables z t) → length (t .store) ≤ z .store
-  unfolding withinTables
-  store-within t h =
-      leb→le (length (t .store)) (z .store)
-      (right (leb (length (t .uris)) (z .uris) && leb (length (t .names)) (z .names) && leb (length (t .values)) (z .values))
-      (leb (length (t .store)) (z .store)) h)
-
-  run-store : {n : ℕ} {c : Context} {bs : Bits} {r : Reading} → T (withinTables z (c .tables)) → Run z s n c bs r
+  run-store : {n : ℕ} {c : Context} {bs : Bits} {r : Reading} → T (withinTables z (c .tables))
+      → Run z s n c bs r
       → length (r .store) ≤ z .store
-  run-store {n} {c} p (ends f q) = store-within (c .tables) p
+  run-store {n} {c} p (ends f q) = store-within z (c .tables) p
   run-store p (goes y w h k) = run-store (step-room h p) k
 
 -- ---- the whole stream
@@ -212,12 +219,15 @@ says-header (h ∷ hs) = says-then _ (says-octet _ tt) (λ o. says-guard _ _ hea
 
 -- What the octets can lead to.
 pub data Inside : Answer Reading → Type 0 where
-  stopped : {k : Refusal} {i : ℕ} → numberOf header ≤ numberOf k → numberOf k ≤ numberOf tail → i ≤ maxEvents
+  stopped : {k : Refusal} {i : ℕ} → numberOf header ≤ numberOf k → numberOf k ≤ numberOf tail
+      → i ≤ maxEvents
       → (numberOf k ≤ numberOf header → i ≡ 0) → Inside (refused k i)
-  whole : {x : Reading} → length (x .events) ≤ maxEvents → length (x .store) ≤ maxStore → Inside (accepted x)
+  whole : {x : Reading} → length (x .events) ≤ maxEvents → length (x .store) ≤ maxStore
+      → Inside (accepted x)
 
 module _ (s : Settings) where
-  events-inside : (bs : Bits) (a : Answer Reading) → readEvents maxEvents sizes s (start s) bs ≡ a → Inside a
+  events-inside : (bs : Bits) (a : Answer Reading) → readEvents maxEvents sizes s (start s) bs ≡ a
+      → Inside a
   unfolding ofEvents numberOf
   events-inside bs (refused k i) e =
       let h = events-refuse sizes s maxEvents (start s) bs k i e in
@@ -231,7 +241,8 @@ module _ (s : Settings) where
   unfolding readStream readBody numberOf
   stream-inside stream = go (readHeader (headerOf s) (unpack stream)) refl
     where
-      go : (x : Result (Unit {0})) → readHeader (headerOf s) (unpack stream) ≡ x → Inside (readBody sizes s x)
+      go : (x : Result (Unit {0})) → readHeader (headerOf s) (unpack stream) ≡ x
+          → Inside (readBody sizes s x)
       go (bad k) e =
           let (least, most) = bounds header ended k (says-header (headerOf s) .refuses (unpack stream) k e) in
           stopped {k = k} least (omega arith) zero-le (λ l. refl)
@@ -240,14 +251,20 @@ module _ (s : Settings) where
 -- ---- the answer
 
 -- What `read` can answer.
-pub data Outcome (r : ReaderRoom) (o : SettingNumbers) (stream : List ℕ) : Answer Reading → Type 0 where
+pub data Outcome (r : ReaderRoom) (o : SettingNumbers) (stream : List ℕ) : Answer Reading
+    → Type 0 where
   noRoom : T (not (enoughToRead sizes r)) → Outcome r o stream (refused room 0)
-  noMeaning : T (enoughToRead sizes r) → T (not (meaningful o)) → Outcome r o stream (refused settings 0)
-  tooLong : T (enoughToRead sizes r) → T (meaningful o) → maxStream < length stream → Outcome r o stream (refused long 0)
-  inside : {a : Answer Reading} → T (enoughToRead sizes r) → T (meaningful o) → length stream ≤ maxStream → Inside a
+  noMeaning : T (enoughToRead sizes r) → T (not (meaningful o))
+      → Outcome r o stream (refused settings 0)
+  tooLong : T (enoughToRead sizes r) → T (meaningful o) → maxStream < length stream
+      → Outcome r o stream (refused long 0)
+  inside : {a : Answer Reading} → T (enoughToRead sizes r) → T (meaningful o)
+      → length stream ≤ maxStream → Inside a
       → Outcome r o stream a
 
-pub outcome : (r : ReaderRoom) (o : SettingNumbers) (stream : List ℕ) → Outcome r o stream (read r o stream)
+-- It answers one of these.
+pub outcome : (r : ReaderRoom) (o : SettingNumbers) (stream : List ℕ)
+    → Outcome r o stream (read r o stream)
 unfolding read readSized
 outcome r o stream =
     split (enoughToRead sizes r)
@@ -258,11 +275,13 @@ outcome r o stream =
     (λ m. rw (e, m) (noMeaning (is-T _ e) (rw m tt))))
     (λ e. rw e (noRoom (rw e tt)))
 
+-- A test does not pass and fail.
 pub contrary : {X : Type 0} (b : Bool) → T b → T (not b) → X
 contrary true t f = absurd f
 contrary false t f = absurd t
 
 module _ {r : ReaderRoom} {o : SettingNumbers} {stream : List ℕ} where
+  -- SHAPE and PLACE are not among the reader's numbers.
   pub numbers : {a : Answer Reading} → Outcome r o stream a → readReply a .number ≤ numberOf tail
   unfolding readReply numberOf
   numbers (noRoom e) = omega arith
@@ -282,7 +301,8 @@ module _ {r : ReaderRoom} {o : SettingNumbers} {stream : List ℕ} where
   no-room (inside e m l (whole n c)) = (λ q. absurd (omega arith), λ f. contrary (enoughToRead sizes r) e f)
 
   pub no-meaning : {a : Answer Reading} → Outcome r o stream a
-      → (readReply a .number ≡ numberOf settings) ↔ (T (enoughToRead sizes r) × T (not (meaningful o)))
+      → (readReply a .number ≡ numberOf settings)
+      ↔ (T (enoughToRead sizes r) × T (not (meaningful o)))
   unfolding readReply numberOf
   no-meaning (noRoom e) = (λ q. absurd (omega arith), λ f. contrary (enoughToRead sizes r) (f .0) e)
   no-meaning (noMeaning e m) = (λ q. (e, m), λ f. refl)
@@ -291,7 +311,8 @@ module _ {r : ReaderRoom} {o : SettingNumbers} {stream : List ℕ} where
   no-meaning (inside e m l (whole n c)) = (λ q. absurd (omega arith), λ f. contrary (meaningful o) m (f .1))
 
   pub too-long : {a : Answer Reading} → Outcome r o stream a
-      → (readReply a .number ≡ numberOf long) ↔ (T (enoughToRead sizes r) × T (meaningful o) × (maxStream < length stream))
+      → (readReply a .number ≡ numberOf long)
+      ↔ (T (enoughToRead sizes r) × T (meaningful o) × (maxStream < length stream))
   unfolding readReply numberOf
   too-long (noRoom e) = (λ q. absurd (omega arith), λ f. contrary (enoughToRead sizes r) (f .0) e)
   too-long (noMeaning e m) = (λ q. absurd (omega arith), λ f. contrary (meaningful o) (f .1) m)
@@ -299,7 +320,9 @@ module _ {r : ReaderRoom} {o : SettingNumbers} {stream : List ℕ} where
   too-long (inside e m l (stopped least most i z)) = (λ q. absurd (omega (arith, least)), λ f. absurd (omega (arith, f .2)))
   too-long (inside e m l (whole n c)) = (λ q. absurd (omega arith), λ f. absurd (omega (arith, f .2)))
 
-  pub no-index : {a : Answer Reading} → Outcome r o stream a → readReply a .number ≤ numberOf header → readReply a .index ≡ 0
+  -- The index is 0 on success and up to HEADER.
+  pub no-index : {a : Answer Reading} → Outcome r o stream a → readReply a .number ≤ numberOf header
+      → readReply a .index ≡ 0
   unfolding readReply
   no-index (noRoom e) h = refl
   no-index (noMeaning e m) h = refl
@@ -309,7 +332,8 @@ module _ {r : ReaderRoom} {o : SettingNumbers} {stream : List ℕ} where
 
   -- Index and counts are within the sizes.
   pub bounded : {a : Answer Reading} → Outcome r o stream a
-      → (readReply a .index ≤ maxEvents) × (readReply a .events ≤ maxEvents) × (readReply a .codePoints ≤ maxStore)
+      → (readReply a .index ≤ maxEvents) × (readReply a .events ≤ maxEvents)
+      × (readReply a .codePoints ≤ maxStore)
   unfolding readReply
   bounded (noRoom e) = (zero-le, zero-le, zero-le)
   bounded (noMeaning e m) = (zero-le, zero-le, zero-le)
@@ -323,7 +347,8 @@ pub counts : (a : Answer Reading) (x : Reading) → a ≡ accepted x
 unfolding readReply
 counts a x e = rw e (refl, refl)
 
-pub no-counts : (a : Answer Reading) → 0 < readReply a .number → (readReply a .events ≡ 0) × (readReply a .codePoints ≡ 0)
+pub no-counts : (a : Answer Reading) → 0 < readReply a .number
+    → (readReply a .events ≡ 0) × (readReply a .codePoints ≡ 0)
 unfolding readReply
 no-counts (refused k i) h = (refl, refl)
 no-counts (accepted x) h = absurd (omega arith)

@@ -5,11 +5,12 @@ use mathlib.Core.List.{List, [], _∷_, _++_, append-assoc}
 use lib.Dec.{T}
 use Rattle.text.specs.Text.{Text}
 use Rattle.spec_exi.specs.Event.{QName, Event, startDocument, endDocument, endElement}
-use Rattle.spec_exi.specs.Event.{startElement, attribute, characters, comment, instruction, SD}
-use Rattle.spec_exi.specs.Event.{ED, SE, AT, EE, CH, CM, PI, kindOf}
+use Rattle.spec_exi.specs.Event.{startElement, attribute, characters, comment, instruction}
+use Rattle.spec_exi.specs.Event.{SD, ED, SE, AT, EE, CH, CM, PI, kindOf}
 use Rattle.spec_exi.specs.Settings.{Settings}
 use Rattle.spec_exi.specs.Grammar.{State, document, docContent, docEnd, finished, startTag}
-use Rattle.spec_exi.specs.Grammar.{elementContent, openElements, closed, inContent, stateAfter}
+use Rattle.spec_exi.specs.Grammar.{elementContent, openElements, closed, inContent}
+use Rattle.spec_exi.specs.Grammar.{stateAfter}
 use Rattle.spec_exi.specs.Lists.{Misc, Inner, anAttribute, noMore, Content, someCharacters}
 use Rattle.spec_exi.specs.Lists.{anElement, Document, aDocument}
 
@@ -28,6 +29,7 @@ allowed s (startTag q outer) e =
 allowed s (elementContent q outer) e =
     elim (kindOf e) [ SD ↦ false | ED ↦ false | SE ↦ true | AT ↦ false | EE ↦ true | CH ↦ true | CM ↦ s .comments | PI ↦ s .instructions ]
 
+-- Events that the shape allows, one after the other, up to the end of the document.
 pub data Run (s : Settings) : State → List (Event Text) → Type 0 where
   stop : Run s finished []
   go : {st : State} {l : List (Event Text)} (e : Event Text) → T (allowed s st e) → Run s (stateAfter s st e) l → Run s st (e ∷ l)
@@ -77,6 +79,7 @@ module _ {s : Settings} where
         | anElement p (i → h) (c → k) ↦ λ q outer r x. rw append-assoc (go (startElement p) tt (h p (q ∷ outer) _ (k q outer r x)))
       ]
 
+-- A well-formed list is such a run.
 pub run-of-document : (s : Settings) (l : List (Event Text)) → Document s l → Run s document l
 unfolding allowed stateAfter inContent openElements closed
 run-of-document s l (aDocument q m i n) =
@@ -167,5 +170,6 @@ module _ {s : Settings} where
   document-of-rest : {l : List (Event Text)} → Rest s document l → Document s l
   document-of-rest (whole d) = d
 
+-- Such a run is a well-formed list.
 pub document-of-run : (s : Settings) (l : List (Event Text)) → Run s document l → Document s l
 document-of-run s l r = document-of-rest (rest-of-run r)

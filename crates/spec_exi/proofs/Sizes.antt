@@ -9,12 +9,14 @@ use lib.ListN.{length, getElem?}
 use lib.Dec.{T, leb, leb→le, le→leb}
 use Rattle.spec_fields.specs.Bits.{Bits, unpack}
 use Rattle.spec_fields.specs.Refusal.{Refusal, loose, name, limit, Answer, refused, accepted}
-use Rattle.spec_fields.specs.Parser.{Result, bad, got, Parser, return, fail, need, andThen, _>>=_, _>>_}
+use Rattle.spec_fields.specs.Parser.{Result, bad, got, Parser, return, fail, need, andThen, _>>=_}
+use Rattle.spec_fields.specs.Parser.{_>>_}
 use Rattle.spec_fields.proofs.Tests.{T-is, is-T, both, left, right, split}
 use Rattle.spec_fields.proofs.Exact.{not-got}
 use Rattle.spec_exi.specs.Event.{QName, Event, Kind, SD, ED, SE, AT, EE, CH, CM, PI}
 use Rattle.spec_exi.specs.Sizes.{Sizes, NoLarger}
-use Rattle.spec_exi.specs.Settings.{Settings, SettingNumbers, meaningful, settingsOf, headerOf}
+use Rattle.spec_exi.specs.Settings.{Settings, SettingNumbers, meaningful, settingsOf}
+use Rattle.spec_exi.specs.Settings.{headerOf}
 use Rattle.spec_exi.specs.Tables.{Placed, nameText, Slot, Tables, Role, uri, local, value}
 use Rattle.spec_exi.specs.Tables.{target, plain, Partitions, compact, literals, partitionsOf}
 use Rattle.spec_exi.specs.Tables.{tablesAfter}
@@ -25,12 +27,11 @@ use Rattle.spec_exi.specs.Reader.{readLiteral, readHit, readIn, readByLi
 use Rattle.spec_exi.specs.Reader.{readForm, readString, readName, readContent, step, Reading}
 use Rattle.spec_exi.specs.Reader.{following, onward, readEvents, readHeader, readBody}
 use Rattle.spec_exi.specs.Reader.{readStream, ReaderRoom, enoughToRead, readSized}
-
-not-accepted : {X A : Type 0} {k : Refusal} {i : ℕ} {a : A} → _≡_ {A = Answer A} (refused k i) (accepted a) → X
-not-accepted e = let n : _≡_ {A = ℕ} 0 1 = cc in absurd (omega arith)
+use Rattle.spec_exi.proofs.Body.{not-accepted}
 
 -- Where the rest is accepted alike, so is the whole.
-followed : (e : Event Placed) (a b : Answer Reading) (r : Reading) → ((k : Reading) → a ≡ accepted k → b ≡ accepted k)
+followed : (e : Event Placed) (a b : Answer Reading) (r : Reading)
+    → ((k : Reading) → a ≡ accepted k → b ≡ accepted k)
     → following e a ≡ accepted r → following e b ≡ accepted r
 unfolding following
 followed e (refused k i) b r h q = not-accepted q
@@ -41,27 +42,36 @@ module _ {A : Type 0} where
   pub record Also (p q : Parser A) : Type 0 where
     pub reads : (bs : Bits) (a : A) (rest : Bits) → p bs ≡ got a rest → q bs ≡ got a rest
 
+  -- Anything reads what it reads.
   pub also-same : (p : Parser A) → Also p p
   also-same p = record { reads = λ bs a rest e. e }
 
-pub also-then : {A B : Type 0} {p q : Parser A} {f g : A → Parser B} → Also p q → ((a : A) → Also (f a) (g a)) → Also (p >>= f) (q >>= g)
+-- One after the other.
+pub also-then : {A B : Type 0} {p q : Parser A} {f g : A → Parser B} → Also p q
+    → ((a : A) → Also (f a) (g a)) → Also (p >>= f) (q >>= g)
 unfolding _>>=_ andThen
 also-then {A} {B} {p} {q} {f} {g} h k = record { reads = λ bs b rest e. go bs b rest (p bs) refl e }
   where
-    go : (bs : Bits) (b : B) (rest : Bits) (x : Result A) → p bs ≡ x → andThen x f ≡ got b rest → andThen (q bs) g ≡ got b rest
+    go : (bs : Bits) (b : B) (rest : Bits) (x : Result A) → p bs ≡ x → andThen x f ≡ got b rest
+        → andThen (q bs) g ≡ got b rest
     go bs b rest (bad j) i e = not-got e
     go bs b rest (got a mid) i e = ap (λ y. andThen y g) (h .reads bs a mid i) ∙ k a .reads mid b rest e
 
-pub also-need : {B : Type 0} {p q : Parser B} (b c : Bool) (k : Refusal) → (T b → T c) → Also p q → Also (need b k >> p) (need c k >> q)
+-- A test that passes where another does.
+pub also-need : {B : Type 0} {p q : Parser B} (b c : Bool) (k : Refusal) → (T b → T c) → Also p q
+    → Also (need b k >> p) (need c k >> q)
 unfolding need _>>_ _>>=_ andThen return fail
 also-need {p} {q} b c k t h = record { reads = λ bs a rest e. go b c t bs a rest e }
   where
-    go : (b c : Bool) → (T b → T c) → (bs : Bits) (a : _) (rest : Bits) → (need b k >> p) bs ≡ got a rest → (need c k >> q) bs ≡ got a rest
+    go : (b c : Bool) → (T b → T c) → (bs : Bits) (a : _) (rest : Bits)
+        → (need b k >> p) bs ≡ got a rest → (need c k >> q) bs ≡ got a rest
     go true true t bs a rest e = h .reads bs a rest e
     go true false t bs a rest e = absurd (t tt)
     go false c t bs a rest e = not-got e
 
-pub also-when : {B : Type 0} {p q : Parser B} (b : Bool) (k : Refusal) → Also p q → Also (need b k >> p) (need b k >> q)
+-- The same test.
+pub also-when : {B : Type 0} {p q : Parser B} (b : Bool) (k : Refusal) → Also p q
+    → Also (need b k >> p) (need b k >> q)
 also-when b k h = also-need b b k (λ t. t) h
 
 larger : (n a b : ℕ) → a ≤ b → T (leb n a) → T (leb n b)
@@ -81,18 +91,22 @@ module _ (y z : Sizes) (h : NoLarger y z) where
     unfolding readLiteral
     literal-also t n =
         also-need _ _ limit (larger n (y .string) (z .string) (h .string))
-        (also-need _ _ limit (larger (length (t .store) + n) (y .store) (z .store) (h .store)) (also-same _))
+        (also-need _ _ limit (larger (length (t .store) + n) (y .store) (z .store) (h .store))
+        (also-same _))
 
-    in-also : (t : Tables) (k v : ℕ) (o : Option (List Slot)) → Also (readIn y s t k v o) (readIn z s t k v o)
+    in-also : (t : Tables) (k v : ℕ) (o : Option (List Slot))
+        → Also (readIn y s t k v o) (readIn z s t k v o)
     unfolding readIn readHit
     in-also t k v none = literal-also t (v - k)
     in-also t k v (some es) = also-same _
 
-    by-literals-also : (t : Tables) (ess : List (List Slot)) → Also (readByLiterals y s t ess) (readByLiterals z s t ess)
+    by-literals-also : (t : Tables) (ess : List (List Slot))
+        → Also (readByLiterals y s t ess) (readByLiterals z s t ess)
     unfolding readByLiterals
     by-literals-also t ess = also-then (also-same _) (λ v. in-also t (length ess) v (getElem? ess v))
 
-    entry-also : (t : Tables) (v : ℕ) (o : Option Slot) → Also (readEntry y s t v o) (readEntry z s t v o)
+    entry-also : (t : Tables) (v : ℕ) (o : Option Slot)
+        → Also (readEntry y s t v o) (readEntry z s t v o)
     unfolding readEntry
     entry-also t v none = by-literals-also t []
     entry-also t v (some x) = also-same _
@@ -108,12 +122,14 @@ module _ (y z : Sizes) (h : NoLarger y z) where
         also-then (form-also t (partitionsOf t r)) (λ x. also-when _ loose (also-when _ name
         (also-need _ _ limit (tables-larger (tablesAfter t r (x .0) (x .1 .text))) (also-same _))))
 
-    name-also : (t : Tables) (attr : Bool) (n : Option (QName Placed)) → Also (readName y s t attr n) (readName z s t attr n)
+    name-also : (t : Tables) (attr : Bool) (n : Option (QName Placed))
+        → Also (readName y s t attr n) (readName z s t attr n)
     unfolding readName
     name-also t attr none = also-then (string-also t uri) (λ u. also-then (string-also (u .1) (local attr (u .0 .text))) (λ n. also-same _))
     name-also t attr (some q) = also-same _
 
-    content-also : (t : Tables) (st : State) (k : Kind) (n : Option (QName Placed)) → Also (readContent y s t st k n) (readContent z s t st k n)
+    content-also : (t : Tables) (st : State) (k : Kind) (n : Option (QName Placed))
+        → Also (readContent y s t st k n) (readContent z s t st k n)
     unfolding readContent
     content-also t st SD n = also-same _
     content-also t st ED n = also-same _
@@ -130,13 +146,15 @@ module _ (y z : Sizes) (h : NoLarger y z) where
         also-then (also-same _) (λ x. also-then (content-also (c .tables) (c .state) (x .production .kind) (x .production .qname))
         (λ e. also-when _ loose (also-need _ _ limit (grammars-larger _) (also-same _))))
 
-    events-still : (n m : ℕ) → n ≤ m → (c : Context) (bs : Bits) (r : Reading) → readEvents n y s c bs ≡ accepted r → readEvents m z s c bs ≡ accepted r
+    events-still : (n m : ℕ) → n ≤ m → (c : Context) (bs : Bits) (r : Reading)
+        → readEvents n y s c bs ≡ accepted r → readEvents m z s c bs ≡ accepted r
     unfolding readEvents onward
     events-still zero m l c bs r e = not-accepted e
     events-still (suc n) zero l c bs r e = absurd (omega arith)
     events-still (suc n) (suc m) l c bs r e = go (λ c′ rest k w. events-still n m (omega arith) c′ rest k w) (step y s c bs) refl e
       where
-        go : ((c′ : Context) (rest : Bits) (k : Reading) → readEvents n y s c′ rest ≡ accepted k → readEvents m z s c′ rest ≡ accepted k)
+        go : ((c′ : Context) (rest : Bits) (k : Reading) → readEvents n y s c′ rest ≡ accepted k
+            → readEvents m z s c′ rest ≡ accepted k)
             → (x : Result (Event Placed × Context)) → step y s c bs ≡ x → onward s (λ c′ rest. readEvents n y s c′ rest) x ≡ accepted r
             → onward s (λ c′ rest. readEvents m z s c′ rest) (step z s c bs) ≡ accepted r
         go later (bad k) i q = not-accepted q
@@ -144,7 +162,8 @@ module _ (y z : Sizes) (h : NoLarger y z) where
             rw (step-also c .reads bs x rest i)
             (followed (x .0) _ _ r (λ k w. split (isFinished (x .1 .state)) (λ b. rw b (rw b at w)) (λ b. rw b (later (x .1) rest k (rw b at w)))) q)
 
-  stream-still : (s : Settings) (stream : List ℕ) (r : Reading) → readStream y s stream ≡ accepted r → readStream z s stream ≡ accepted r
+  stream-still : (s : Settings) (stream : List ℕ) (r : Reading) → readStream y s stream ≡ accepted r
+      → readStream z s stream ≡ accepted r
   unfolding readStream readBody
   stream-still s stream r e = go (readHeader (headerOf s) (unpack stream)) e
     where
@@ -154,7 +173,8 @@ module _ (y z : Sizes) (h : NoLarger y z) where
 
   -- The same reading, each side with memory enough for its own sizes.
   pub accepted-still : (p r : ReaderRoom) (o : SettingNumbers) (stream : List ℕ) (x : Reading)
-      → T (enoughToRead z r) → readSized y p o stream ≡ accepted x → readSized z r o stream ≡ accepted x
+      → T (enoughToRead z r) → readSized y p o stream ≡ accepted x
+      → readSized z r o stream ≡ accepted x
   unfolding readSized
   accepted-still p r o stream x w e =
       let long = larger (length stream) (y .stream) (z .stream) (h .stream) in

@@ -25,6 +25,7 @@ use Rattle.spec_exi.proofs.Derivation.{compactHit, compactMiss, literal
 
 -- ---- forms
 
+-- Forms that the test finds the same are equal.
 pub same-form : (f g : Form) → T (eqForm f g) → f ≡ g
 unfolding eqForm
 same-form (hit j i) (hit l k) t =
@@ -33,6 +34,7 @@ same-form (hit j i) literal t = absurd t
 same-form literal (hit l k) t = absurd t
 same-form literal literal t = refl
 
+-- A form is the same as itself.
 pub form-same : (f : Form) → T (eqForm f f)
 unfolding eqForm
 form-same (hit j i) = both (eqb j j) (eqb i i) (eqb-refl j) (eqb-refl i)
@@ -68,6 +70,7 @@ module _ {s : Settings} where
   unfolding stringBits
   literal-bits (aLiteral n h) = cc (unsigned-bits n, characters-bits h)
 
+  -- A spelled string has the bits of its form, Unsigned Integers being in fewest octets.
   pub spelled-bits : {t : Tables} {ps : Partitions} {f : Form} {x : Placed} {w : Bits}
       → Spelled s t ps f x w → w ≡ formBits (s .alignment) ps f (x .text)
   unfolding formBits laid
@@ -205,6 +208,7 @@ module _ (s : Settings) (t : Tables) where
   literal-spelled (compact es) y few c l = compactMiss (bits-literal s 0 y (omega arith) c l)
   literal-spelled (literals ess) y few c l = literalMiss (bits-literal s (length ess) y few c l)
 
+  -- The strict form spells every string of Chars that is short.
   pub strict-spelling : (r : Role) (y : Text) → T (allChars y) → length y ≤ maxString
       → Spelling (partitionsOf t r) y
   unfolding laid

@@ -6,9 +6,9 @@ use mathlib.Core.Option.{Option, none, some}
 use Prim.Native.Nat.{ℕ}
 use Rattle.spec_fields.specs.Parser.{Parser, _>>=_, _>>_}
 use Rattle.spec_fields.specs.Field.{Alignment}
-use Rattle.spec_fields.proofs.Steady.{Steady, steady-return, steady-fail, steady-then, steady-present}
-use Rattle.spec_fields.proofs.Steady.{steady-guard, steady-times, steady-octet, steady-choice}
-use Rattle.spec_fields.proofs.Steady.{steady-unsigned}
+use Rattle.spec_fields.proofs.Steady.{Steady, steady-return, steady-fail, steady-then}
+use Rattle.spec_fields.proofs.Steady.{steady-present, steady-guard, steady-times, steady-octet}
+use Rattle.spec_fields.proofs.Steady.{steady-choice, steady-unsigned}
 use Rattle.spec_exi.specs.Event.{QName, Kind, SD, ED, SE, AT, EE, CH, CM, PI}
 use Rattle.spec_exi.specs.Settings.{Settings}
 use Rattle.spec_exi.specs.Sizes.{Sizes}
@@ -75,17 +75,20 @@ unfolding readPart
 steady-part v (some x) h = steady-return _
 steady-part v none h = steady-then h (λ x. steady-return _)
 
+-- An event code.
 pub steady-code : (a : Alignment) (ls : List (List Production)) → Steady (readCode a ls)
 unfolding readCode
 steady-code a [] = steady-fail _
 steady-code a (l ∷ ls) = steady-then (steady-choice a _ _) (λ v. steady-part _ _ (steady-code a ls))
 
+-- An event.
 pub steady-step : (z : Sizes) (s : Settings) (c : Context) → Steady (step z s c)
 unfolding step
 steady-step z s c =
     steady-then (steady-code _ _) (λ x. steady-then (steady-content z s _ _ _ _)
     (λ e. steady-guard _ _ (steady-guard _ _ (steady-return _))))
 
+-- The header.
 pub steady-header : (hs : List ℕ) → Steady (readHeader hs)
 unfolding readHeader
 steady-header [] = steady-return _

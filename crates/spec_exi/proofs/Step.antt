@@ -53,6 +53,7 @@ pub record StepRead (z : Sizes) (s : Settings) (c : Context) (y : Event Placed �
   pub grammars : T (withinGrammars z (y .1))
   pub joined : w ≡ codeBits (s .alignment) (levelsIn s c) (code .parts) ++ content
 
+-- Reading an event gives exactly what StepRead says, for any sizes.
 pub step-reads : (z : Sizes) (s : Settings) (c : Context) → Reads (step z s c) (StepRead z s c)
 unfolding step
 step-reads z s c =
@@ -100,9 +101,11 @@ step-reads z s c =
 
 -- ---- contexts that events can leave
 
+-- A production carries what its kind may carry.
 abbrev pub Sound : Production → Type 0
 Sound p = ProductionOk (p .kind) (p .qname)
 
+-- Good tables within the sizes, and good learned productions.
 pub record Sane (c : Context) : Type 0 where
   pub tables : GoodTables (c .tables)
   pub room : T (withinTables sizes (c .tables))
@@ -143,6 +146,7 @@ module _ (P : Production → Type 0) where
       go (elementContent q outer) =
           (every-append P ls (unnamed EE ∷ []) h (p EE, tt), ((p SE, (p CH, tt)), (others, tt)))
 
+  -- What holds of all learned productions and of those without a name holds of a state's.
   pub levels-every : ((k : Kind) → P (unnamed k)) → (s : Settings) (ls : List Learned) (st : State)
       → Every (λ x. P (x .production)) ls → Every (Every P) (levels s ls st)
   unfolding levels
@@ -196,12 +200,14 @@ step-content s c y w g h =
           (g .room) sound (h .read),
     )
 
+-- An event that is read leaves what the strict form's `next` leaves.
 pub step-next : (s : Settings) (c : Context) (y : Event Placed × Context) (w : Bits) → Sane c → StepRead sizes s c y w
     → y .1 ≡ next s c (eventText (y .0))
 step-next s c y w g h =
     let (coded, m) = step-content s c y w g h in
     h .leaves ∙ leaves-next s c (h .code) (h .tables) (y .0) coded (m .after) (content-first (h .read))
 
+-- An event that is read may come next, and has the strict form's bits.
 pub step-fit : (s : Settings) (c : Context) (y : Event Placed × Context) (w : Bits) → Sane c → StepRead sizes s c y w
     → EventFit s c (eventText (y .0)) × (w ≡ eventBits s c (eventText (y .0)))
 unfolding eventBits codedBits
@@ -217,11 +223,13 @@ step-fit s c y w g h =
           ∙ ap (λ o. codedBits s c o (eventText (y .0))) (sym coded),
     )
 
+-- An event, read from the bits of its strict form.
 pub record StepFound (s : Settings) (c : Context) (e : Event Text) : Type 0 where
   pub event : Event Placed
   pub is : eventText event ≡ e
   pub read : StepRead sizes s c (event, next s c e) (eventBits s c e)
 
+-- An event that may come next is read from the bits of its strict form.
 pub step-found : (s : Settings) (c : Context) (e : Event Text) → EventFit s c e → StepFound s c e
 unfolding eventBits codedBits
 step-found s c e h =
@@ -295,6 +303,7 @@ learn-every P none o ls h k = k
 learn-every P (some j) none ls h k = k
 learn-every P (some j) (some p) ls h k = (h, k)
 
+-- An event that may come next leaves a sane context.
 pub sane-next : (s : Settings) (c : Context) (e : Event Text) → Sane c → EventFit s c e → Sane (next s c e)
 unfolding next afterCode after
 sane-next s c e g h =
@@ -309,6 +318,7 @@ sane-next s c e g h =
           (c .learned) (taught-sound (c .tables) t′ (c .state) (learnedAt k (c .learned)) (h .code) e (h .strings)) (g .learned);
     })
 
+-- The context is sane at the start.
 pub sane-start : (s : Settings) → Sane (start s)
 unfolding start startTables addedAll initialEntries added newUri newName newEntry newValue laid xmlUri xsiUri text isEmpty allChars isChar short withinTables
     maxString maxUris maxNames maxValues maxStore

@@ -30,6 +30,7 @@ use Rattle.spec_exi.proofs.Writes.{finished-no-fit}
 
 -- ---- the header
 
+-- Reading the header gives exactly its octets (EXI 5).
 pub header-reads : (hs : List ℕ) → Every IsOctet hs → Reads (readHeader hs) (λ x w. w ≡ unpack hs)
 unfolding readHeader unpack each
 header-reads [] o = reads-as (reads-return tt) (λ x w h. h .empty) (λ x w h. record { is = refl; empty = h })
@@ -42,17 +43,20 @@ header-reads (h ∷ hs) o =
     (λ x w m.
     record { first = h; front = bitsOf 8 h; back = each (bitsOf 8) hs; one = (o .0, refl); two = (eqb-refl h, refl); joined = m })
 
+-- They are octets.
 pub header-octets : (s : Settings) → Every IsOctet (headerOf s)
 unfolding headerOf
 header-octets s = split (s .cookie) (λ e. rw e (omega arith)) (λ e. rw e (omega arith))
 
 -- ---- what is accepted, and what is read
 
+-- A stream is the strict form of a list that may come after the start.
 pub record Stream (s : Settings) (stream : List ℕ) (l : List (Event Text)) : Type 0 where
   pub fit : ListFit s (start s) l
   pub few : length l ≤ maxEvents
   pub is : stream ≡ strict s l
 
+-- What is accepted is a strict form (demand 3, half of it).
 pub stream-fit : (s : Settings) (stream : List ℕ) (r : Reading) → Octets stream → readStream sizes s stream ≡ accepted r
     → Stream s stream (map eventText (r .events))
 unfolding readStream readBody strict
@@ -73,6 +77,7 @@ stream-fit s stream r o q = go (readHeader (headerOf s) (unpack stream)) refl q
               (e ∙ sym (append-assoc (unpack (headerOf s)) (listBits s (start s) l) (a .padding))) (a .padded);
         }
 
+-- A strict form is accepted (the other half).
 pub stream-found : (s : Settings) (l : List (Event Text)) → ListFit s (start s) l → length l ≤ maxEvents → ListFound (readStream sizes s (strict s l)) l
 unfolding readStream readBody strict start isFinished
 stream-found s l h m =
@@ -88,10 +93,12 @@ stream-found s l h m =
 
 -- ---- no list's bits begin another's
 
+-- Lists and what comes after them.
 pub record Same (l m : List (Event Text)) (x y : Bits) : Type 0 where
   pub lists : l ≡ m
   pub rests : x ≡ y
 
+-- Bits that begin with the events of two lists begin with one list.
 pub prefix-free : (s : Settings) (c : Context) (l m : List (Event Text)) (x y : Bits) → ListFit s c l → ListFit s c m
     → listBits s c l ++ x ≡ listBits s c m ++ y → Same l m x y
 unfolding listBits

@@ -12,7 +12,8 @@ use Rattle.spec_fields.specs.Refusal.{character, limit, reference, loose, name}
 use Rattle.spec_fields.specs.Parser.{times}
 use Rattle.spec_fields.specs.Field.{choiceBits}
 use Rattle.spec_fields.proofs.Exact.{Reads, Returned, Then, Mapped, reads-as, reads-return}
-use Rattle.spec_fields.proofs.Exact.{reads-present, reads-then, reads-map, reads-guard, reads-checked}
+use Rattle.spec_fields.proofs.Exact.{reads-present, reads-then, reads-map, reads-guard}
+use Rattle.spec_fields.proofs.Exact.{reads-checked}
 use Rattle.spec_fields.proofs.Tests.{both, left, right}
 use Rattle.spec_fields.proofs.Number.{Chosen, choice-reads, Unsigned, unsigned-reads}
 use Rattle.text.specs.Text.{Text, isChar, allChars}
@@ -248,6 +249,7 @@ module _ (z : Sizes) (s : Settings) (t : Tables) where
   map-member (y ∷ es) zero x e = cc
   map-member (y ∷ es) (suc i) x e = map-member es i x e
 
+  -- Reading by partitions gives exactly the spelled forms.
   pub form-reads : (ps : Partitions) → Reads (readForm z s t ps) (Form-of ps)
   unfolding readForm laid
   form-reads (literals ess) = by-literals-reads ess
@@ -310,6 +312,7 @@ module _ (z : Sizes) (s : Settings) (t : Tables) where
     pub after : y .1 ≡ tablesAfter t r form (y .0 .text)
     pub room : T (withinTables z (y .1))
 
+  -- Reading a string gives exactly what StringRead says, for any sizes.
   pub string-reads : (r : Role) → Reads (readString z s t r) (StringRead r)
   unfolding readString
   string-reads r =

@@ -1,9 +1,9 @@
 -- Demand 1, of the writer: what holds of every reply.
 use Prim.Native.Nat.{ℕ, zero, suc, _≤_, _<_, zero-le, suc-le-suc}
 use native.Mathlib.Omega.{arith}
-use mathlib.Core.Path.{_≡_, refl, sym, _∙_, ap, subst}
+use mathlib.Core.Path.{_≡_, refl, ap, subst}
 use mathlib.Core.Logic.{_↔_}
-use mathlib.Core.Bool.{Bool, true, false, cond, not}
+use mathlib.Core.Bool.{not}
 use mathlib.Core.List.{List, [], _∷_, _++_}
 use mathlib.Core.Option.{Option, none, some}
 use lib.ListN.{length}
@@ -16,7 +16,8 @@ use Rattle.spec_fields.proofs.Tests.{split, T-is, is-T}
 use Rattle.spec_fields.proofs.Exact.{Every}
 use Rattle.text.specs.Text.{Text, Span, part}
 use Rattle.spec_exi.specs.Event.{Event, mapEvent, stringsOf}
-use Rattle.spec_exi.specs.Settings.{Settings, SettingNumbers, meaningful, settingsOf, headerOf}
+use Rattle.spec_exi.specs.Settings.{Settings, SettingNumbers, meaningful, settingsOf}
+use Rattle.spec_exi.specs.Settings.{headerOf}
 use Rattle.spec_exi.specs.Sizes.{Sizes, sizes, maxStream, maxEvents}
 use Rattle.spec_exi.specs.Tables.{Tables}
 use Rattle.spec_exi.specs.Grammar.{Code, codeOf, isFinished}
@@ -34,6 +35,7 @@ use Rattle.spec_exi.proofs.ReaderReplies.{contrary}
 
 -- ---- the refusals of a list
 
+-- What an event, or the list's end, can be refused by.
 pub data OfList : Refusal → Type 0 where
   aCharacter : OfList character
   aName : OfList name
@@ -62,7 +64,8 @@ module _ (z : Sizes) where
   content-faults t [] = tt
   content-faults t (i ∷ is) = (aLimit, (aLimit, (aCharacter, (aName, (aLimit, content-faults (afterItem t i) is)))))
 
-  event-faults : (s : Settings) (c : Context) (store : Text) (e : Event Span) (x : Option Code) → Faults (eventTests z s c store e x)
+  event-faults : (s : Settings) (c : Context) (store : Text) (e : Event Span) (x : Option Code)
+      → Faults (eventTests z s c store e x)
   unfolding eventTests
   event-faults s c store e none = (aShape, tt)
   event-faults s c store e (some x) =
@@ -73,7 +76,8 @@ module _ (z : Sizes) where
       (every-append (λ t. OfList (t .1)) places content (place-faults store (stringsOf e)) (content-faults (c .tables) is))
       (aLimit, tt)
 
-  fault-of-list : (s : Settings) (c : Context) (store : Text) (e : Event Span) (k : Refusal) → faultOf z s c store e ≡ some k → OfList k
+  fault-of-list : (s : Settings) (c : Context) (store : Text) (e : Event Span) (k : Refusal)
+      → faultOf z s c store e ≡ some k → OfList k
   unfolding faultOf
   fault-of-list s c store e k = first-fault _ (event-faults s c store e (codeOf (levelsIn s c) (mapEvent (part store) e))) k
 
@@ -81,12 +85,14 @@ module _ (z : Sizes) where
 Refuses : ℕ → Answer Bits → Type 0
 Refuses n a = elim a [ refused k i ↦ OfList k × (i ≤ n) | accepted bs ↦ Unit {0} ]
 
-prepended-refuses : (n : ℕ) (w : Bits) (a : Answer Bits) → Refuses n a → Refuses (suc n) (prepended w a)
+prepended-refuses : (n : ℕ) (w : Bits) (a : Answer Bits) → Refuses n a
+    → Refuses (suc n) (prepended w a)
 unfolding Refuses prepended
 prepended-refuses n w (refused k i) h = (h .0, suc-le-suc (h .1))
 prepended-refuses n w (accepted bs) h = tt
 
-unless-refuses : (n : ℕ) (o : Option Refusal) (a : Answer Bits) → ((k : Refusal) → o ≡ some k → OfList k) → Refuses n a → Refuses n (unless o a)
+unless-refuses : (n : ℕ) (o : Option Refusal) (a : Answer Bits)
+    → ((k : Refusal) → o ≡ some k → OfList k) → Refuses n a → Refuses n (unless o a)
 unfolding Refuses unless
 unless-refuses n none a f h = h
 unless-refuses n (some k) a f h = (f k refl, zero-le)
@@ -99,27 +105,36 @@ events-refuse zero z s c store (x ∷ xs) = (aLimit, zero-le)
 events-refuse (suc n) z s c store (none ∷ xs) = (aShape, zero-le)
 events-refuse (suc n) z s c store (some e ∷ xs) =
     unless-refuses (suc (length xs)) (faultOf z s c store e) _ (fault-of-list z s c store e)
-    (prepended-refuses (length xs) _ _ (events-refuse n z s (next s c (mapEvent (part store) e)) store xs))
+    (prepended-refuses (length xs) _ _ (events-refuse n z s
+    (next s c (mapEvent (part store) e)) store xs))
 
 -- ---- the answer
 
 -- What `write` can answer.
-pub data Outcome (r : WriterRoom) (o : SettingNumbers) (xs : List Stored) (store : Text) : Answer (List ℕ) → Type 0 where
+pub data Outcome (r : WriterRoom) (o : SettingNumbers) (xs : List Stored) (store : Text) : Answer
+    (List ℕ) → Type 0 where
   noRoom : T (not (enoughToWrite sizes r)) → Outcome r o xs store (refused room 0)
-  noMeaning : T (enoughToWrite sizes r) → T (not (meaningful o)) → Outcome r o xs store (refused settings 0)
-  faulty : {k : Refusal} {i : ℕ} → T (enoughToWrite sizes r) → T (meaningful o) → OfList k → i ≤ length xs
+  noMeaning : T (enoughToWrite sizes r) → T (not (meaningful o))
+      → Outcome r o xs store (refused settings 0)
+  faulty : {k : Refusal} {i : ℕ} → T (enoughToWrite sizes r) → T (meaningful o) → OfList k
+      → i ≤ length xs
       → Outcome r o xs store (refused k i)
-  tooLong : T (enoughToWrite sizes r) → T (meaningful o) → TooLong (settingsOf o) xs store → Outcome r o xs store (refused long 0)
-  whole : {os : List ℕ} → T (enoughToWrite sizes r) → T (meaningful o) → length os ≤ maxStream → Outcome r o xs store (accepted os)
+  tooLong : T (enoughToWrite sizes r) → T (meaningful o) → TooLong (settingsOf o) xs store
+      → Outcome r o xs store (refused long 0)
+  whole : {os : List ℕ} → T (enoughToWrite sizes r) → T (meaningful o) → length os ≤ maxStream
+      → Outcome r o xs store (accepted os)
 
-list-outcome : {r : WriterRoom} {o : SettingNumbers} (xs : List Stored) (store : Text) → T (enoughToWrite sizes r) → T (meaningful o)
+list-outcome : {r : WriterRoom} {o : SettingNumbers} (xs : List Stored) (store : Text)
+    → T (enoughToWrite sizes r) → T (meaningful o)
     → Outcome r o xs store (writeList sizes (settingsOf o) xs store)
 unfolding writeList asOctets Refuses strict
 list-outcome {r} {o} xs store e m =
     let s = settingsOf o in
-    go s refl (writeEvents maxEvents sizes s (start s) store xs) refl (events-refuse maxEvents sizes s (start s) store xs)
+    go s refl (writeEvents maxEvents sizes s (start s) store xs) refl
+    (events-refuse maxEvents sizes s (start s) store xs)
   where
-    go : (s : Settings) → s ≡ settingsOf o → (a : Answer Bits) → writeEvents maxEvents sizes s (start s) store xs ≡ a
+    go : (s : Settings) → s ≡ settingsOf o → (a : Answer Bits)
+        → writeEvents maxEvents sizes s (start s) store xs ≡ a
         → Refuses (length xs) a → Outcome r o xs store (asOctets sizes s a)
     go s i (refused k j) w h = faulty e m (h .0) (h .1)
     go s i (accepted bs) w h =
@@ -137,7 +152,9 @@ list-outcome {r} {o} xs store e m =
           octets = subst (λ b. maxStream < length b) is (leb-false _ _ t);
         }))))
 
-pub outcome : (r : WriterRoom) (o : SettingNumbers) (xs : List Stored) (store : Text) → Outcome r o xs store (write r o xs store)
+-- It answers one of these.
+pub outcome : (r : WriterRoom) (o : SettingNumbers) (xs : List Stored) (store : Text)
+    → Outcome r o xs store (write r o xs store)
 unfolding write
 outcome r o xs store =
     split (enoughToWrite sizes r)
@@ -146,7 +163,8 @@ outcome r o xs store =
     (λ e. rw e (noRoom (rw e tt)))
 
 -- A list all of whose events pass, and whose strict form is too long, is LONG.
-too-long-refused : (r : WriterRoom) (o : SettingNumbers) (xs : List Stored) (store : Text) → T (enoughToWrite sizes r) → T (meaningful o)
+too-long-refused : (r : WriterRoom) (o : SettingNumbers) (xs : List Stored) (store : Text)
+    → T (enoughToWrite sizes r) → T (meaningful o)
     → TooLong (settingsOf o) xs store → write r o xs store ≡ refused long 0
 unfolding write writeList asOctets strict
 too-long-refused r o xs store e m h =
@@ -174,8 +192,10 @@ of-list-least aShape = omega arith
 of-list-least aPlace = omega arith
 
 module _ {r : WriterRoom} {o : SettingNumbers} {xs : List Stored} {store : Text} where
+  -- Only these numbers are the writer's.
   pub numbers : {a : Answer (List ℕ)} → Outcome r o xs store a
-      → T (isZeroOr (room ∷ settings ∷ long ∷ character ∷ name ∷ limit ∷ shape ∷ place ∷ []) (writeReply a .number))
+      → T (isZeroOr (room ∷ settings ∷ long ∷ character ∷ name ∷ limit ∷ shape ∷ place ∷ [])
+      (writeReply a .number))
   unfolding writeReply numberOf isZeroOr
   numbers (noRoom e) = tt
   numbers (noMeaning e m) = tt
@@ -198,7 +218,8 @@ module _ {r : WriterRoom} {o : SettingNumbers} {xs : List Stored} {store : Text}
   no-room (whole e m l) = (λ q. absurd (omega arith), λ f. contrary (enoughToWrite sizes r) e f)
 
   pub no-meaning : {a : Answer (List ℕ)} → Outcome r o xs store a
-      → (writeReply a .number ≡ numberOf settings) ↔ (T (enoughToWrite sizes r) × T (not (meaningful o)))
+      → (writeReply a .number ≡ numberOf settings)
+      ↔ (T (enoughToWrite sizes r) × T (not (meaningful o)))
   unfolding writeReply numberOf
   no-meaning (noRoom e) = (λ q. absurd (omega arith), λ f. contrary (enoughToWrite sizes r) (f .0) e)
   no-meaning (noMeaning e m) = (λ q. (e, m), λ f. refl)
@@ -206,7 +227,8 @@ module _ {r : WriterRoom} {o : SettingNumbers} {xs : List Stored} {store : Text}
   no-meaning (tooLong e m h) = (λ q. absurd (omega arith), λ f. contrary (meaningful o) m (f .1))
   no-meaning (whole e m l) = (λ q. absurd (omega arith), λ f. contrary (meaningful o) m (f .1))
 
-  is-too-long : {a : Answer (List ℕ)} → Outcome r o xs store a → writeReply a .number ≡ numberOf long
+  is-too-long : {a : Answer (List ℕ)} → Outcome r o xs store a
+      → writeReply a .number ≡ numberOf long
       → T (enoughToWrite sizes r) × T (meaningful o) × TooLong (settingsOf o) xs store
   unfolding writeReply numberOf
   is-too-long (noRoom e) q = absurd (omega arith)
@@ -224,7 +246,8 @@ module _ {r : WriterRoom} {o : SettingNumbers} {xs : List Stored} {store : Text}
   index (tooLong e m h) = zero-le
   index (whole e m l) = zero-le
 
-  pub no-index : {a : Answer (List ℕ)} → Outcome r o xs store a → writeReply a .number ≤ numberOf long → writeReply a .index ≡ 0
+  pub no-index : {a : Answer (List ℕ)} → Outcome r o xs store a
+      → writeReply a .number ≤ numberOf long → writeReply a .index ≡ 0
   unfolding writeReply numberOf
   no-index (noRoom e) h = refl
   no-index (noMeaning e m) h = refl
@@ -232,6 +255,7 @@ module _ {r : WriterRoom} {o : SettingNumbers} {xs : List Stored} {store : Text}
   no-index (tooLong e m t) h = refl
   no-index (whole e m l) h = refl
 
+  -- The count is within the size of a stream.
   pub bounded : {a : Answer (List ℕ)} → Outcome r o xs store a → writeReply a .octets ≤ maxStream
   unfolding writeReply
   bounded (noRoom e) = zero-le
@@ -251,7 +275,8 @@ too-long r o xs store = (
 )
 
 -- The count is that of the octets, and 0 after a refusal.
-pub counts : (a : Answer (List ℕ)) (os : List ℕ) → a ≡ accepted os → writeReply a .octets ≡ length os
+pub counts : (a : Answer (List ℕ)) (os : List ℕ) → a ≡ accepted os
+    → writeReply a .octets ≡ length os
 unfolding writeReply
 counts a os e = rw e
 

@@ -99,14 +99,17 @@ module _ (s : Settings) (c : Context) (store : Text) (e : Event Span) where
   unfolding faultOf
   no-fault = simp none-failed (event-passed _ refl)
 
+  -- An event without a fault has its strings inside the store, and may come next.
   pub fault-none-fit : faultOf sizes s c store e ≡ none → T (every (inside store) (stringsOf e)) × EventFit s c (mapEvent (part store) e)
   fault-none-fit = no-fault .0
 
+  -- Such an event has no fault.
   pub fit-no-fault : T (every (inside store) (stringsOf e)) × EventFit s c (mapEvent (part store) e) → faultOf sizes s c store e ≡ none
   fit-no-fault = no-fault .1
 
 -- ---- the end of a document
 
+-- Only the last state is finished.
 pub is-finished : (st : State) → T (isFinished st) → st ≡ finished
 unfolding isFinished
 is-finished document t = absurd t
@@ -116,10 +119,12 @@ is-finished finished t = refl
 is-finished (startTag q outer) t = absurd t
 is-finished (elementContent q outer) t = absurd t
 
+-- It is.
 pub finished-is : (st : State) → st ≡ finished → T (isFinished st)
 unfolding isFinished
 finished-is st e = rw e tt
 
+-- There no event has a code.
 pub finished-no-code : (s : Settings) (ls : List Learned) (e : Event Text) → codeOf (levels s ls finished) e ≡ none
 unfolding levels levelsWith codeOf
 finished-no-code s ls e = refl
@@ -142,6 +147,8 @@ going-on none w (accepted rest) bs h = (rest, refl, refl, cc)
 going-on none w (refused k i) bs h = absurd (refused≢accepted h)
 going-on (some k) w later bs h = absurd (refused≢accepted h)
 
+-- What is written means a list that may come next, in the bits of its strict form (demand 2, half
+-- of it).
 pub write-sound : (n : ℕ) (s : Settings) (c : Context) (store : Text) (xs : List Stored) (bs : Bits)
     → writeEvents n sizes s c store xs ≡ accepted bs
     → (l : List (Event Text)) × (meant store xs ≡ some l) × ListFit s c l × (length l ≤ n) × (bs ≡ listBits s c l)
@@ -176,6 +183,7 @@ fit-on : {s : Settings} {c : Context} {e : Event Text} {l : List (Event Text)} �
     → EventFit s c e × ListFit s (next s c e) l
 fit-on (also e fit fits) = (fit, fits)
 
+-- Stored events that mean such a list are written (the other half).
 pub write-complete : (n : ℕ) (s : Settings) (c : Context) (store : Text) (xs : List Stored) (l : List (Event Text))
     → meant store xs ≡ some l → ListFit s c l → length l ≤ n
     → writeEvents n sizes s c store xs ≡ accepted (listBits s c l)

@@ -1,9 +1,8 @@
--- Everything that the events before leave behind: state, string tables, learned productions and
--- element grammars. One definition says what an event leaves, for the strict form, the reader and
--- the writer.
-use mathlib.Core.Bool.{Bool, true, false, cond}
-use mathlib.Core.List.{List, [], _∷_, _++_}
-use mathlib.Core.Option.{Option, none, some, Option·map}
+-- Everything that the events before leave: state, string tables, learned productions and element
+-- grammars. One definition says what an event leaves, for the strict form, the reader and the
+-- writer.
+use Rattle.spec_fields.specs.Prelude.{Bool, true, false, cond, List, [], _∷_, _++_, Option, none}
+use Rattle.spec_fields.specs.Prelude.{some, Option·map}
 use Rattle.text.specs.Text.{Text, eqText}
 use Rattle.spec_exi.specs.Event.{QName, Event, startDocument, endDocument, endElement}
 use Rattle.spec_exi.specs.Event.{startElement, attribute, characters, comment, instruction}
@@ -12,10 +11,11 @@ use Rattle.spec_exi.specs.Settings.{Settings}
 use Rattle.spec_exi.specs.Tables.{Placed, Tables, namesOf, Role, uri, local, value, target}
 use Rattle.spec_exi.specs.Tables.{plain, partitionsOf, formOf, tablesAfter, startTables}
 use Rattle.spec_exi.specs.Grammar.{Production, State, document, docContent, docEnd, finished}
-use Rattle.spec_exi.specs.Grammar.{startTag, elementContent, Learned, Code, isWildcard, levels}
-use Rattle.spec_exi.specs.Grammar.{codeOf, siteOf, learnedAt, taught, learn, grammarsAfter}
-use Rattle.spec_exi.specs.Grammar.{stateAfter}
+use Rattle.spec_exi.specs.Grammar.{startTag, elementContent, Learned, Code, isWildcard}
+use Rattle.spec_exi.specs.Grammar.{levels, codeOf, siteOf, learnedAt, taught, learn}
+use Rattle.spec_exi.specs.Grammar.{grammarsAfter, stateAfter}
 
+-- What an event is read and written by.
 pub record Context : Type 0 where
   pub state : State
   pub tables : Tables
@@ -23,9 +23,11 @@ pub record Context : Type 0 where
   -- the names of the elements that have a grammar
   pub grammars : List (QName Text)
 
+-- The start of a stream.
 unfoldable pub start : Settings → Context
 start s = record { state = document; tables = startTables s; learned = []; grammars = [] }
 
+-- The productions of the context's state, level by level.
 unfoldable pub levelsIn : Settings → Context → List (List Production)
 levelsIn s c = levels s (c .learned) (c .state)
 
@@ -38,20 +40,18 @@ pub record Item : Type 0 where
   pub written : Bool
   pub text : Text
 
+-- A string that is written.
 unfoldable pub item : Role → Text → Item
 item r x = record { role = r; written = true; text = x }
 
 -- Characters stand only inside an element, and are values of its name.
 unfoldable pub characterRole : State → Role
-characterRole st =
-    elim st [
-      | document ↦ plain
-      | docContent ↦ plain
-      | docEnd ↦ plain
-      | finished ↦ plain
-      | startTag q outer ↦ value q
-      | elementContent q outer ↦ value q
-    ]
+characterRole document = plain
+characterRole docContent = plain
+characterRole docEnd = plain
+characterRole finished = plain
+characterRole (startTag q outer) = value q
+characterRole (elementContent q outer) = value q
 
 -- The two parts of a QName (EXI 7.1.7; prefixes are not kept).
 unfoldable pub nameItems : Production → Bool → QName Text → List Item
@@ -77,6 +77,7 @@ afterItem t i =
     let form = formOf (partitionsOf t (i .role)) (i .text) in
     cond (i .written) (tablesAfter t (i .role) form (i .text)) t
 
+-- What strings leave, one after the other.
 unfoldable pub afterItems : Tables → List Item → Tables
 afterItems t [] = t
 afterItems t (i ∷ is) = afterItems (afterItem t i) is
@@ -97,7 +98,7 @@ after s c x t q e =
       grammars = grammarsAfter (c .grammars) e;
     }
 
--- The first entry with this text.
+-- The first entry with this text. (The first clause is not reached: what is looked for is there.)
 unfoldable pub entryOf : List Placed → Text → Placed
 entryOf [] x = record { place = 0; text = x }
 entryOf (e ∷ es) x = cond (eqText (e .text) x) e (entryOf es x)
@@ -105,10 +106,7 @@ entryOf (e ∷ es) x = cond (eqText (e .text) x) e (entryOf es x)
 -- Where the entries of a name lie.
 unfoldable pub entriesOf : Tables → QName Text → QName Placed
 entriesOf t q =
-    record {
-      uri = entryOf (t .uris) (q .uri);
-      local = entryOf (namesOf t (q .uri)) (q .local);
-    }
+    record { uri = entryOf (t .uris) (q .uri); local = entryOf (namesOf t (q .uri)) (q .local) }
 
 -- Its strings leave what their strict forms leave, and its name lies where its entries lie.
 unfoldable pub afterCode : Settings → Context → Option Code → Event Text → Context
@@ -122,7 +120,7 @@ afterCode s c (some x) e =
 unfoldable pub next : Settings → Context → Event Text → Context
 next s c e = afterCode s c (codeOf (levelsIn s c) e) e
 
--- What a list leaves behind.
+-- What a list leaves.
 unfoldable pub contextAfter : Settings → Context → List (Event Text) → Context
 contextAfter s c [] = c
 contextAfter s c (e ∷ l) = contextAfter s (next s c e) l

@@ -1,25 +1,19 @@
 -- How worked examples are written: streams with what the reader answers for them. Each topic has a
 -- module below.
-use Prim.Native.Nat.{ℕ, _+_, _*_, _-_}
-use Prim.Native.String.{String}
-use mathlib.Core.Path.{_≡_}
-use mathlib.Core.Bool.{cond}
-use mathlib.Core.List.{List, [], _∷_, _++_, map}
-use lib.ListN.{getD}
-use lib.Dec.{ltb}
+use Rattle.spec_fields.specs.Prelude.{ℕ, _+_, _*_, _-_, String, _≡_, cond, List, [], _∷_, _++_, map}
+use Rattle.spec_fields.specs.Prelude.{getD, ltb}
 use Rattle.spec_fields.specs.Refusal.{Answer, refused, accepted}
 use Rattle.text.specs.Text.{Text, text}
 use Rattle.spec_exi.specs.Event.{Event, startDocument, endDocument, endElement, startElement}
 use Rattle.spec_exi.specs.Event.{attribute, characters, comment, instruction}
 use Rattle.spec_exi.specs.Settings.{SettingNumbers, settingsOf}
-use Rattle.spec_exi.specs.Sizes.{eventCells, maxStore, readerWork}
+use Rattle.spec_exi.specs.Sizes.{maxStream, maxStore, readerWork, eventCells, writerWork}
 use Rattle.spec_exi.specs.Strict.{strict}
 use Rattle.spec_exi.specs.Reader.{ReaderRoom, read, listOf, ReadReply, readReply}
+use Rattle.spec_exi.specs.Writer.{WriterRoom}
 pub mod Scope
-pub mod Mistakes
-pub mod Kept
+pub mod Streams
 pub mod Places
-pub mod Orders
 pub mod Refusals
 pub mod Numbers
 pub mod Bounds
@@ -37,6 +31,10 @@ pub record Example : Type 0 where
 unfoldable pub full : ReaderRoom
 full = record { events = eventCells; text = maxStore; work = readerWork }
 
+unfoldable pub fullToWrite : WriterRoom
+fullToWrite = record { octets = maxStream; work = writerWork }
+
+-- The list that the reader answers, or its refusal.
 unfoldable pub answerFor : Example → Answer (List (Event Text))
 answerFor x = listOf (read full (x .numbers) (x .stream))
 
@@ -54,6 +52,7 @@ pub record Hold (xs : List Example) : Type 0 where
 pub record Replied (xs : List Example) (ys : List ReadReply) : Type 0 where
   pub replies : map (λ x. readReply (read full (x .numbers) (x .stream))) xs ≡ ys
 
+-- Number, index, events, code points.
 unfoldable pub reply : ℕ → ℕ → ℕ → ℕ → ReadReply
 reply n i e p = record { number = n; index = i; events = e; codePoints = p }
 
@@ -75,6 +74,7 @@ numbers ns =
       grammarCap = getD ns 9 0;
     }
 
+-- Bit-packed, and byte-aligned, with nothing else set.
 unfoldable pub inBits : SettingNumbers
 inBits = numbers []
 
@@ -83,6 +83,7 @@ inOctets = numbers (1 ∷ [])
 
 -- ---- streams and lists
 
+-- A hexadecimal digit, as its code point.
 unfoldable pub digit : ℕ → ℕ
 digit c = cond (ltb c 58) (c - 48) (c - 55)
 
@@ -93,6 +94,7 @@ hex (a ∷ []) = []
 hex (a ∷ b ∷ []) = (digit a * 16 + digit b) ∷ []
 hex (a ∷ b ∷ c ∷ rest) = (digit a * 16 + digit b) ∷ hex rest
 
+-- A stream, written so.
 unfoldable pub octets : String → List ℕ
 octets x = hex (text x)
 
@@ -100,9 +102,11 @@ octets x = hex (text x)
 unfoldable pub twoLines : SettingNumbers → String → String → Answer (List (Event Text)) → Example
 twoLines n x y a = record { numbers = n; stream = octets x ++ octets y; answer = a }
 
+-- In one.
 unfoldable pub example : SettingNumbers → String → Answer (List (Event Text)) → Example
 example n x a = twoLines n x "" a
 
+-- Events, by short names: those with In have a URI.
 unfoldable pub beginIn : String → String → Event Text
 beginIn u n = startElement (record { uri = text u; local = text n })
 

@@ -1,11 +1,7 @@
 -- The grammars (EXI 8.3, 8.4.1, 8.4.3; scope, "Grammars"): productions, the event codes that they
 -- have, and what is learned.
-use Prim.Native.Nat.{ℕ, suc}
-use mathlib.Core.Bool.{Bool, true, false, cond, _&&_, _||_, not}
-use mathlib.Core.List.{List, [], _∷_, _++_, map}
-use mathlib.Core.Option.{Option, none, some, Option·map}
-use lib.ListN.{length}
-use lib.Dec.{eqb}
+use Rattle.spec_fields.specs.Prelude.{ℕ, suc, Bool, true, false, cond, _&&_, _||_, not, List, []}
+use Rattle.spec_fields.specs.Prelude.{_∷_, _++_, map, Option, none, some, Option·map, length, eqb}
 use Rattle.spec_fields.specs.Bits.{Bits}
 use Rattle.spec_fields.specs.Field.{Alignment, choiceBits}
 use Rattle.text.specs.Text.{Text, eqText}
@@ -22,6 +18,7 @@ pub record Production : Type 0 where
   -- the name that it carries, where the entries lie with which it was named
   pub qname : Option (QName Placed)
 
+-- A production without a name.
 unfoldable pub unnamed : Kind → Production
 unnamed k = record { kind = k; qname = none }
 
@@ -88,6 +85,7 @@ siteOf finished = none
 siteOf (startTag q outer) = some (tagOf q)
 siteOf (elementContent q outer) = some (contentOf q)
 
+-- A learned production, and where it was learned.
 pub record Learned : Type 0 where
   pub site : Site
   pub production : Production
@@ -122,9 +120,11 @@ levelsWith s ls (startTag q outer) =
 levelsWith s ls (elementContent q outer) =
     (ls ++ (unnamed EE ∷ [])) ∷ (unnamed SE ∷ unnamed CH ∷ []) ∷ kept s ∷ []
 
+-- The productions of a state, with what is learned there.
 unfoldable pub levels : Settings → List Learned → State → List (List Production)
 levels s ls st = levelsWith s (learnedAt (siteOf st) ls) st
 
+-- No level has a production.
 unfoldable pub allEmpty : List (List Production) → Bool
 allEmpty [] = true
 allEmpty ([] ∷ ls) = allEmpty ls
@@ -140,6 +140,7 @@ pub record Code : Type 0 where
   pub parts : List ℕ
   pub production : Production
 
+-- A code of one part.
 unfoldable pub atLevel : ℕ → Production → Code
 atLevel v p = record { parts = v ∷ []; production = p }
 
@@ -153,6 +154,7 @@ codeBits a [] vs = []
 codeBits a (l ∷ ls) [] = []
 codeBits a (l ∷ ls) (v ∷ vs) = choiceBits a (length (choices l ls)) v ++ codeBits a ls vs
 
+-- The number among one more.
 unfoldable pub raised : ℕ × Production → ℕ × Production
 raised x = (suc (x .0), x .1)
 
@@ -162,6 +164,7 @@ firstFit [] e = none
 firstFit (p ∷ ps) e =
     let later = Option·map raised (firstFit ps e) in cond (fits p e) (some (0, p)) later
 
+-- The code of a production that was found, or else another.
 unfoldable pub codeOr : Option (ℕ × Production) → Option Code → Option Code
 codeOr none c = c
 codeOr (some x) c = some (atLevel (x .0) (x .1))
@@ -187,7 +190,8 @@ hasKind k (p ∷ ps) = eqb (kindNumber k) (kindNumber (p .kind)) || hasKind k ps
 
 -- Which kinds of event with this code put a production at 0 and raise the first part of the others,
 -- where these are learned (EXI 8.4.3): SE(*) and AT(*) do; CH and EE with a code of two parts, if
--- theirs of one part does not exist yet.
+-- theirs of one part does not exist yet. (That condition holds wherever it is asked, as yet: where
+-- a production of one part exists, a code of two parts is LOOSE.)
 unfoldable pub teaches : List Production → Code → Kind → Bool
 teaches ls x SD = false
 teaches ls x ED = false
@@ -198,25 +202,28 @@ teaches ls x CH = eqb (length (x .parts)) 2 && not (hasKind CH ls)
 teaches ls x CM = false
 teaches ls x PI = false
 
--- The production for an event of this kind, whose name lies there.
+-- The production that an event of this kind, whose name lies there, teaches, if any.
 unfoldable pub taught :
     List Production → Code → Kind → Option (QName Placed) → Option Production
 taught ls x k q = cond (teaches ls x k) (some (record { kind = k; qname = q })) none
 
+-- A production is learned at a site: the newest is first.
 unfoldable pub learn : Option Site → Option Production → List Learned → List Learned
 learn none p ls = ls
 learn (some k) none ls = ls
 learn (some k) (some p) ls = record { site = k; production = p } ∷ ls
 
+-- A name is among these.
 unfoldable pub hasName : List (QName Text) → QName Text → Bool
 hasName [] q = false
 hasName (p ∷ ps) q = eqName p q || hasName ps q
 
+-- An element of a new name has a new grammar.
 unfoldable pub withGrammar : List (QName Text) → Option (QName Text) → List (QName Text)
 withGrammar gs none = gs
 withGrammar gs (some q) = cond (hasName gs q) gs (gs ++ (q ∷ []))
 
--- One element grammar for each element name.
+-- One element grammar for each element name (scope, "Grammars").
 unfoldable pub grammarsAfter : List (QName Text) → Event Text → List (QName Text)
 grammarsAfter gs e =
     cond (eqb (kindNumber (kindOf e)) (kindNumber SE)) (withGrammar gs (nameOf e)) gs
@@ -230,7 +237,8 @@ inContent finished = finished
 inContent (startTag q outer) = elementContent q outer
 inContent (elementContent q outer) = elementContent q outer
 
--- The innermost of the open elements ends.
+-- The innermost of the open elements ends; after the root comes the end of the document. (The first
+-- clause is not reached: an end element closes an open one.)
 unfoldable pub closed : Settings → List (QName Text) → State
 closed s [] = docEnd
 closed s (q ∷ []) = docEnd
@@ -248,13 +256,11 @@ stateAfter s st (characters v) = inContent st
 stateAfter s st (comment x) = inContent st
 stateAfter s st (instruction x y) = inContent st
 
+-- The end document has come.
 unfoldable pub isFinished : State → Bool
-isFinished st =
-    elim st [
-      | document ↦ false
-      | docContent ↦ false
-      | docEnd ↦ false
-      | finished ↦ true
-      | startTag q outer ↦ false
-      | elementContent q outer ↦ false
-    ]
+isFinished document = false
+isFinished docContent = false
+isFinished docEnd = false
+isFinished finished = true
+isFinished (startTag q outer) = false
+isFinished (elementContent q outer) = false

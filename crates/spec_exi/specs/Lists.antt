@@ -1,10 +1,7 @@
 -- Which lists are well-formed and which are inside the limits (scope, "What is bought" and
 -- "Sizes"), by the lists themselves and their strict forms.
-use Prim.Native.Nat.{_≤_}
-use mathlib.Core.Bool.{Bool, true, false, _&&_}
-use mathlib.Core.List.{List, [], _∷_, _++_}
-use lib.ListN.{length}
-use lib.Dec.{T, leb}
+use Rattle.spec_fields.specs.Prelude.{_≤_, Bool, true, false, _&&_, List, [], _∷_, _++_, length, T}
+use Rattle.spec_fields.specs.Prelude.{leb}
 use Rattle.text.specs.Text.{Text, allChars}
 use Rattle.spec_exi.specs.Event.{QName, Event, startDocument, endDocument, endElement}
 use Rattle.spec_exi.specs.Event.{startElement, attribute, characters, comment, instruction}
@@ -16,6 +13,7 @@ use Rattle.spec_exi.specs.Grammar.{openElements}
 use Rattle.spec_exi.specs.Context.{Context, start, next}
 use Rattle.spec_exi.specs.Strict.{strict}
 
+-- All members pass.
 unfoldable pub every : {A : Type 0} → (A → Bool) → List A → Bool
 every f [] = true
 every f (x ∷ xs) = f x && every f xs
@@ -39,6 +37,7 @@ mutual
         → Inner s (attribute q v ∷ l)
     noMore : {l : List (Event Text)} → Content s l → Inner s l
 
+  -- Characters, comments and instructions, and elements.
   pub data Content (s : Settings) : List (Event Text) → Type 0 where
     nothing : Content s []
     someCharacters : {l : List (Event Text)} (v : Text) → Content s l → Content s (characters v ∷ l)
@@ -49,6 +48,7 @@ mutual
     anElement : {inner l : List (Event Text)} (q : QName Text) → Inner s inner → Content s l
         → Content s (startElement q ∷ (inner ++ endElement ∷ l))
 
+-- A whole list.
 pub data Document (s : Settings) : List (Event Text) → Type 0 where
   aDocument : {before inner behind : List (Event Text)} (q : QName Text) → Misc s before
       → Inner s inner → Misc s behind
@@ -56,7 +56,7 @@ pub data Document (s : Settings) : List (Event Text) → Type 0 where
       (startDocument ∷ (before ++ startElement q ∷ (inner ++ endElement
       ∷ (behind ++ endDocument ∷ []))))
 
--- No name that row 11 refuses.
+-- The event has no name that row 11 refuses.
 unfoldable pub namesAllowed : Event Text → Bool
 namesAllowed startDocument = true
 namesAllowed endDocument = true
@@ -67,6 +67,7 @@ namesAllowed (characters v) = true
 namesAllowed (comment x) = true
 namesAllowed (instruction x y) = nameAllowed target x
 
+-- Only Chars in its strings.
 unfoldable pub charsOnly : Event Text → Bool
 charsOnly e = every allChars (stringsOf e)
 
@@ -77,9 +78,10 @@ pub record WellFormed (s : Settings) (l : List (Event Text)) : Type 0 where
   pub chars : T (every charsOnly l)
   pub names : T (every namesAllowed l)
 
--- ---- inside the limits (scope, "Sizes"): the list and its strict form pass no size
+-- ---- inside the limits (scope, "Sizes"): the list and its strict form pass no size (z)
 
 module _ (z : Sizes) where
+  -- The tables and the store.
   unfoldable pub withinTables : Tables → Bool
   withinTables t =
       leb (length (t .uris)) (z .uris)
@@ -87,12 +89,14 @@ module _ (z : Sizes) where
       && leb (length (t .values)) (z .values)
       && leb (length (t .store)) (z .store)
 
+  -- Open elements, element grammars, learned productions.
   unfoldable pub withinGrammars : Context → Bool
   withinGrammars c =
       leb (length (openElements (c .state))) (z .opened)
       && leb (length (c .grammars)) (z .grammars)
       && leb (length (c .learned)) (z .learned)
 
+  -- Both.
   unfoldable pub within : Context → Bool
   within c = withinTables (c .tables) && withinGrammars c
 
@@ -101,9 +105,11 @@ module _ (z : Sizes) where
   staysWithin s c [] = true
   staysWithin s c (e ∷ l) = within (next s c e) && staysWithin s (next s c e) l
 
+  -- The length of one string.
   unfoldable pub short : Text → Bool
   short x = leb (length x) (z .string)
 
+  -- All strings of an event.
   unfoldable pub shortStrings : Event Text → Bool
   shortStrings e = every short (stringsOf e)
 

@@ -1,12 +1,7 @@
 -- What stored events mean over a text store, and the list that the reader answers (scope, "What is
 -- bought" and "Refusal numbers").
-use Prim.Native.Nat.{ℕ, _<_}
-use mathlib.Core.Path.{_≡_}
-use mathlib.Core.Bool.{cond}
-use mathlib.Core.List.{List, [], _∷_, map}
-use mathlib.Core.Option.{Option, none, some}
-use lib.ListN.{length}
-use lib.Dec.{T, ltb}
+use Rattle.spec_fields.specs.Prelude.{ℕ, _<_, _≡_, cond, List, [], _∷_, map, Option, none, some}
+use Rattle.spec_fields.specs.Prelude.{length, T, ltb}
 use Rattle.text.specs.Text.{Text, inside, part}
 use Rattle.spec_fields.specs.Refusal.{accepted}
 use Rattle.spec_exi.specs.Event.{Event, mapEvent, stringsOf}
@@ -18,6 +13,7 @@ use Rattle.spec_exi.specs.Lists.{every, WellFormed, InsideTables}
 use Rattle.spec_exi.specs.Reader.{Reading, ReaderRoom, read}
 use Rattle.spec_exi.specs.Writer.{Stored}
 
+-- Numbers below 256.
 abbrev pub AreOctets : List ℕ → Type 0
 AreOctets stream = T (every (λ b. ltb b 256) stream)
 

@@ -1,9 +1,5 @@
 -- A stream that comes in pieces: what is answered to the octets so far, however they were cut.
-use Prim.Native.Nat.{ℕ, zero, suc}
-use mathlib.Core.Path.{_≡_}
-use mathlib.Core.Bool.{cond}
-use mathlib.Core.List.{List, [], _∷_, _++_}
-use lib.Dec.{eqb}
+use Rattle.spec_fields.specs.Prelude.{ℕ, zero, suc, _≡_, cond, List, [], _∷_, _++_, eqb}
 use Rattle.spec_fields.specs.Bits.{Bits, unpack}
 use Rattle.spec_fields.specs.Refusal.{numberOf, ended, Answer, refused, accepted}
 use Rattle.spec_fields.specs.Parser.{Result, bad, got}
@@ -19,6 +15,7 @@ use Rattle.spec_exi.specs.Reader.{Reading, step, readHeader, ReaderRoom,
 unfoldable pub nothingYet : Context → Reading
 nothingYet c = record { events = []; store = c .tables .store }
 
+-- One event more, before these.
 unfoldable pub withFirst : Event Placed → Reading → Reading
 withFirst e r = record { events = e ∷ r .events; store = r .store }
 
@@ -48,8 +45,8 @@ soFar whole (refused k i) =
     cond (eqb (numberOf k) (numberOf ended)) (accepted whole) (refused k i)
 soFar whole (accepted r) = accepted r
 
--- The answer after a piece, by the octets so far: these, read whole, or the events that are complete
--- in them. The answer after the last is `read`.
+-- The answer after a piece, by the octets so far: that of these, read whole, or the events that are
+-- complete in them. The closing call's answer is `read`.
 unfoldable pub receive : ReaderRoom → SettingNumbers → List ℕ → Answer Reading
 receive r o octets = soFar (complete (settingsOf o) octets) (read r o octets)
 

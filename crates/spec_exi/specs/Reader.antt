@@ -1,35 +1,35 @@
 -- The reader's answer for any octets (scope, "Refusal numbers"): what it refuses, in order, or what
 -- it reads.
-use Prim.Native.Nat.{ℕ, zero, suc, _+_, _*_, _-_}
-use mathlib.Core.Bool.{Bool, true, false, cond, _&&_, not}
-use mathlib.Core.List.{List, [], _∷_, map}
-use mathlib.Core.Option.{Option, none, some}
-use lib.ListN.{length, getElem?}
-use lib.Dec.{leb, eqb}
+use Rattle.spec_fields.specs.Prelude.{ℕ, zero, suc, _+_, _*_, _-_, Bool, true, false, cond, _&&_}
+use Rattle.spec_fields.specs.Prelude.{not, List, [], _∷_, map, Option, none, some, length, getElem?}
+use Rattle.spec_fields.specs.Prelude.{leb, eqb}
 use Rattle.spec_fields.specs.Bits.{Bits, unpack, isPadding}
-use Rattle.spec_fields.specs.Refusal.{numberOf, room, settings, long, header, code, character, reference}
-use Rattle.spec_fields.specs.Refusal.{loose, name, limit, tail, Answer, refused, accepted}
-use Rattle.spec_fields.specs.Parser.{Result, bad, got, Parser, return, fail, present, need, times, _>>=_}
-use Rattle.spec_fields.specs.Parser.{_>>_}
+use Rattle.spec_fields.specs.Refusal.{numberOf, room, settings, long, header, code, character}
+use Rattle.spec_fields.specs.Refusal.{reference, loose, name, limit, tail, Answer, refused}
+use Rattle.spec_fields.specs.Refusal.{accepted}
+use Rattle.spec_fields.specs.Parser.{Result, bad, got, Parser, return, fail, present, need, times}
+use Rattle.spec_fields.specs.Parser.{_>>=_, _>>_}
 use Rattle.spec_fields.specs.Field.{Alignment, octet, choice, unsigned}
 use Rattle.text.specs.Text.{Text, isChar}
 use Rattle.spec_exi.specs.Event.{QName, Event, startDocument, endDocument, endElement}
 use Rattle.spec_exi.specs.Event.{startElement, attribute, characters, comment, instruction}
 use Rattle.spec_exi.specs.Event.{Kind, SD, ED, SE, AT, EE, CH, CM, PI, nameOf}
-use Rattle.spec_exi.specs.Settings.{Settings, SettingNumbers, meaningful, settingsOf, headerOf}
+use Rattle.spec_exi.specs.Settings.{Settings, SettingNumbers, meaningful, settingsOf}
+use Rattle.spec_exi.specs.Settings.{headerOf}
 use Rattle.spec_exi.specs.Sizes.{Sizes, sizes, cellsPerEvent}
 use Rattle.spec_exi.specs.Tables.{Placed, nameText, eventText, Slot, Tables, Role, uri, local}
 use Rattle.spec_exi.specs.Tables.{value, target, plain, Partitions, compact, literals}
 use Rattle.spec_exi.specs.Tables.{partitionsOf, Form, hit, literal, eqForm, formOf, laid}
 use Rattle.spec_exi.specs.Tables.{tablesAfter, nameAllowed}
-use Rattle.spec_exi.specs.Grammar.{Production, Code, State, isFinished, choices, atLevel, below}
-use Rattle.spec_exi.specs.Grammar.{codeOf, sameCode}
+use Rattle.spec_exi.specs.Grammar.{Production, Code, State, isFinished, choices, atLevel}
+use Rattle.spec_exi.specs.Grammar.{below, codeOf, sameCode}
 use Rattle.spec_exi.specs.Context.{Context, start, levelsIn, characterRole, after}
 use Rattle.spec_exi.specs.Lists.{withinTables, withinGrammars}
 
 -- ---- strings
 
--- A code point of a String (EXI 7.1.10): an Unsigned Integer that is a Char; else CHARACTER.
+-- A code point of a String (EXI 7.1.10): an Unsigned Integer that is a Char; else CHARACTER. (s is
+-- not used, as yet.)
 unfoldable pub readCharacter : Settings → Parser ℕ
 readCharacter s = do
   p ← unsigned
@@ -45,7 +45,7 @@ module _ (z : Sizes) (s : Settings) where
     x ← times n (readCharacter s)
     return (literal, laid t x)
 
-  -- A number that names no entry is REFERENCE.
+  -- A number that names no entry is REFERENCE. (The second test passes, as yet: no slot is empty.)
   unfoldable pub readHit : ℕ → List Slot → Parser (Form × Placed)
   readHit j es = do
     (i, slot) ← choice (s .alignment) reference es
@@ -64,7 +64,8 @@ module _ (z : Sizes) (s : Settings) where
     v ← unsigned
     readIn t (length ess) v (getElem? ess v)
 
-  -- By a partition for compact identifiers (EXI 7.3.2): 0 is a miss, i + 1 is entry i.
+  -- By a partition for compact identifiers (EXI 7.3.2): 0 is a miss, i + 1 is entry i. (That test
+  -- passes too.)
   unfoldable pub readEntry : Tables → ℕ → Option Slot → Parser (Form × Placed)
   readEntry t v none = readByLiterals t []
   readEntry t v (some slot) = do
@@ -123,6 +124,7 @@ module _ (z : Sizes) (s : Settings) where
     (y, t₂) ← readString t₁ plain
     return (instruction x y, t₂)
 
+-- A part that names a production ends the code; else the next level goes on.
 unfoldable pub readPart : ℕ → Option Production → Parser Code → Parser Code
 readPart v (some p) deeper = return (atLevel v p)
 readPart v none deeper = do
@@ -159,7 +161,7 @@ unfoldable pub following : Event Placed → Answer Reading → Answer Reading
 following e (refused k i) = refused k (suc i)
 following e (accepted r) = accepted (record { events = e ∷ r .events; store = r .store })
 
--- Behind the end of the document only pad bits may stand; else TAIL.
+-- After the end of the document only pad bits may stand; else TAIL. (s is not used, as yet.)
 unfoldable pub ending : Settings → Context → Bits → Answer Reading
 ending s c rest =
     let reading : Reading = record { events = []; store = c .tables .store } in
@@ -185,6 +187,7 @@ readHeader (h ∷ hs) = do
   need (eqb o h) header
   readHeader hs
 
+-- The events after the header.
 unfoldable pub readBody : Sizes → Settings → Result (Unit {0}) → Answer Reading
 readBody z s (bad k) = refused k 0
 readBody z s (got u bs) = readEvents (z .events) z s (start s) bs
@@ -202,8 +205,7 @@ pub record ReaderRoom : Type 0 where
 -- Cells for the events and the code points that there may be, and work memory (scope, "Sizes").
 unfoldable pub enoughToRead : Sizes → ReaderRoom → Bool
 enoughToRead z r =
-    leb (cellsPerEvent * z .events) (r .events)
-    && leb (z .store) (r .text)
+    leb (cellsPerEvent * z .events) (r .events) && leb (z .store) (r .text)
     && leb (z .work) (r .work)
 
 -- The reader's answer under these sizes: ROOM, SETTINGS, LONG, then in stream order.
@@ -230,12 +232,8 @@ pub record ReadReply : Type 0 where
   pub events : ℕ
   pub codePoints : ℕ
 
+-- The numbers for each answer.
 unfoldable pub readReply : Answer Reading → ReadReply
 readReply (refused k i) = record { number = numberOf k; index = i; events = 0; codePoints = 0 }
 readReply (accepted r) =
-    record {
-      number = 0;
-      index = 0;
-      events = length (r .events);
-      codePoints = length (r .store);
-    }
+    record { number = 0; index = 0; events = length (r .events); codePoints = length (r .store) }

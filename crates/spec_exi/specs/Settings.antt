@@ -1,9 +1,6 @@
 -- What the two sides agree on outside the stream (scope, "What is bought"), and the header that
 -- follows from it.
-use Prim.Native.Nat.{ℕ}
-use mathlib.Core.Bool.{Bool, cond, _&&_}
-use mathlib.Core.List.{List, [], _∷_, _++_}
-use lib.Dec.{eqb, leb}
+use Rattle.spec_fields.specs.Prelude.{ℕ, Bool, cond, _&&_, List, [], _∷_, _++_, eqb, leb}
 use Rattle.spec_fields.specs.Field.{Alignment, bitPacked, byteAligned}
 
 -- There is no schema. All else is as EXI's default options have it: no prefixes, DTD, lexical
@@ -45,6 +42,7 @@ meaningful o =
     && eqb (o .prefixes) 0
     && eqb (o .grammarCap) 0
 
+-- What the numbers mean.
 unfoldable pub settingsOf : SettingNumbers → Settings
 settingsOf o =
     record {

@@ -1,10 +1,12 @@
--- The sizes (scope, "Sizes"). Code writes them as numbers, and contracts by these names.
-use Prim.Native.Nat.{ℕ, _+_, _*_, _≤_}
+-- The sizes (scope, "Sizes"), and the lent lengths that follow from them. Code has a constant for
+-- each (crates/sizes).
+use Rattle.spec_fields.specs.Prelude.{ℕ, _+_, _*_, _≤_}
 
 -- octets of a stream
 unfoldable pub maxStream : ℕ
 maxStream = 16384
 
+-- events of a list
 unfoldable pub maxEvents : ℕ
 maxEvents = 4096
 
@@ -12,10 +14,11 @@ maxEvents = 4096
 unfoldable pub maxOpen : ℕ
 maxOpen = 100
 
+-- URIs, initial entries counted
 unfoldable pub maxUris : ℕ
 maxUris = 16
 
--- local names over all URIs
+-- local names over all URIs, initial entries counted
 unfoldable pub maxNames : ℕ
 maxNames = 128
 
@@ -39,10 +42,11 @@ maxString = 1024
 unfoldable pub maxStore : ℕ
 maxStore = 16384
 
--- cells per event, and of work memory (ours: docs/MEMORY.md)
+-- cells of an event (ours: docs/MEMORY.md)
 unfoldable pub cellsPerEvent : ℕ
 cellsPerEvent = 9
 
+-- cells of work memory (ours)
 unfoldable pub readerWork : ℕ
 readerWork = 4096
 
@@ -94,9 +98,10 @@ pub record NoLarger (y z : Sizes) : Type 0 where
 
 -- ---- what is lent, in cells of 32 bits
 
+-- Cells for the events.
 unfoldable pub eventCells : ℕ
 eventCells = cellsPerEvent * maxEvents
 
--- The writer's work memory has a text store behind it.
+-- Cells of the writer's work memory, which has a text store at its end.
 unfoldable pub writerWork : ℕ
 writerWork = readerWork + maxStore

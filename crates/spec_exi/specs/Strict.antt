@@ -1,9 +1,6 @@
 -- The strict form of a list (scope, "Grammars"; ours): the header, then each event's code and
 -- content in list order, by the tables and grammars as everything before has left them.
-use mathlib.Core.Bool.{cond}
-use mathlib.Core.List.{List, [], _∷_, _++_}
-use mathlib.Core.Option.{Option, none, some}
-use Prim.Native.Nat.{ℕ}
+use Rattle.spec_fields.specs.Prelude.{cond, List, [], _∷_, _++_, Option, none, some, ℕ}
 use Rattle.spec_fields.specs.Bits.{Bits, unpack, pack}
 use Rattle.spec_fields.specs.Field.{Alignment}
 use Rattle.text.specs.Text.{Text}
@@ -19,6 +16,7 @@ itemBits a t i =
     let ps = partitionsOf t (i .role) in
     cond (i .written) (formBits a ps (formOf ps (i .text)) (i .text)) []
 
+-- The strings one after the other.
 unfoldable pub itemsBits : Alignment → Tables → List Item → Bits
 itemsBits a t [] = []
 itemsBits a t (i ∷ is) = itemBits a t i ++ itemsBits a (afterItem t i) is
@@ -31,6 +29,7 @@ codedBits s c (some x) e =
     codeBits (s .alignment) (levelsIn s c) (x .parts)
     ++ itemsBits (s .alignment) (c .tables) (items (c .state) (x .production) e)
 
+-- An event, by the code that it has here.
 unfoldable pub eventBits : Settings → Context → Event Text → Bits
 eventBits s c e = codedBits s c (codeOf (levelsIn s c) e) e
 

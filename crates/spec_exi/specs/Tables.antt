@@ -1,10 +1,7 @@
 -- The string tables (EXI 7.3), how a string stands in a stream by them, and what it leaves in them.
-use Prim.Native.Nat.{ℕ, suc, _+_}
-use mathlib.Core.Bool.{Bool, true, false, cond, _&&_, _||_, not}
-use mathlib.Core.List.{List, [], _∷_, _++_, map}
-use mathlib.Core.Option.{Option, none, some, Option·map}
-use lib.ListN.{length, getD}
-use lib.Dec.{eqb}
+use Rattle.spec_fields.specs.Prelude.{ℕ, suc, _+_, Bool, true, false, cond, _&&_, _||_, not, List}
+use Rattle.spec_fields.specs.Prelude.{[], _∷_, _++_, map, Option, none, some, Option·map, length}
+use Rattle.spec_fields.specs.Prelude.{getD, eqb}
 use Rattle.spec_fields.specs.Bits.{Bits, each}
 use Rattle.spec_fields.specs.Field.{Alignment, choiceBits, unsignedBits}
 use Rattle.text.specs.Text.{Text, Span, text, eqText, isEmpty}
@@ -23,6 +20,7 @@ nameText = mapName (λ x. x .text)
 unfoldable pub eventText : Event Placed → Event Text
 eventText = mapEvent (λ x. x .text)
 
+-- The string in the store.
 unfoldable pub spanOf : Placed → Span
 spanOf x = record { place = x .place; size = length (x .text) }
 
@@ -47,11 +45,12 @@ partition has [] = []
 partition has (x ∷ xs) =
     cond (has (x .key)) (x .string ∷ partition has xs) (partition has xs)
 
+-- The local names of a URI (EXI 7.3.1).
 unfoldable pub namesOf : Tables → Text → List Placed
 namesOf t u = partition (eqText u) (t .names)
 
 -- What a compact identifier of a partition stands for: the entry with this number (EXI 7.3.2,
--- 7.3.3), or none where it has none. (Every entry is there to stay, as yet.)
+-- 7.3.3), or none where that entry is gone. (No entry goes, as yet: all slots are some.)
 abbrev pub Slot : Type 0
 Slot = Option Placed
 
@@ -62,12 +61,12 @@ valuesOf t q = map some (partition (eqName q) (t .values))
 unfoldable pub allValues : Tables → List Slot
 allValues t = map (λ x. some (x .string)) (t .values)
 
--- A number without an entry has no text.
+-- A number without an entry has no text. (The first clause is not reached, as yet.)
 unfoldable pub hasText : Slot → Text → Bool
 hasText none x = false
 hasText (some e) x = eqText (e .text) x
 
--- The compact identifier of a text.
+-- The compact identifier of a text: the first.
 unfoldable pub indexOf : List Slot → Text → Option ℕ
 indexOf [] x = none
 indexOf (e ∷ es) x =
@@ -75,6 +74,7 @@ indexOf (e ∷ es) x =
 
 -- ---- where a string stands, and by which partitions
 
+-- What a string is in its event.
 pub data Role : Type 0 where
   -- the URI of a name
   uri : Role
@@ -87,6 +87,7 @@ pub data Role : Type 0 where
   -- a comment, or an instruction's text
   plain : Role
 
+-- The partitions by which a string is written, and how these are optimized (EXI 7.3).
 pub data Partitions : Type 0 where
   -- optimized for frequent use of compact identifiers (EXI 7.3.2)
   compact : List Slot → Partitions
@@ -104,11 +105,13 @@ partitionsOf t plain = literals []
 
 -- ---- the form that a string takes
 
+-- By a table, or written out.
 pub data Form : Type 0 where
   -- in which partition, and its compact identifier there
   hit : ℕ → ℕ → Form
   literal : Form
 
+-- The same form.
 unfoldable pub eqForm : Form → Form → Bool
 eqForm (hit j i) (hit l k) = eqb j l && eqb i k
 eqForm (hit j i) literal = false
@@ -144,22 +147,21 @@ formBits a (compact es) literal x = choiceBits a (suc (length es)) 0 ++ stringBi
 formBits a (literals ess) (hit j i) x = unsignedBits j ++ choiceBits a (length (getD ess j [])) i
 formBits a (literals ess) literal x = stringBits (length ess) x
 
--- ---- what a string leaves in the tables (EXI 7.3: a hit leaves nothing, a literal joins its
--- partition; 7.3.3: an empty value joins none)
+-- ---- what a string leaves in the tables (EXI 7.3; scope, "String tables": a hit leaves nothing, a
+-- literal joins its partition, an empty value joins none)
 
+-- What a literal adds to each table, by its role.
 unfoldable pub newUri : Role → Placed → List Placed
 newUri r x = elim r [ uri ↦ x ∷ [] | local attr u ↦ [] | value q ↦ [] | target ↦ [] | plain ↦ [] ]
 
 unfoldable pub newName : Role → Placed → List (Entry Text)
-newName r x =
-    elim r [
-      | uri ↦ []
-      | local attr u ↦ record { key = u; string = x } ∷ []
-      | value q ↦ []
-      | target ↦ []
-      | plain ↦ []
-    ]
+newName uri x = []
+newName (local attr u) x = record { key = u; string = x } ∷ []
+newName (value q) x = []
+newName target x = []
+newName plain x = []
 
+-- An empty value joins no table.
 unfoldable pub newEntry : QName Text → Placed → List (Entry (QName Text))
 newEntry q x = cond (isEmpty (x .text)) [] (record { key = q; string = x } ∷ [])
 
@@ -171,6 +173,7 @@ newValue r x =
 unfoldable pub laid : Tables → Text → Placed
 laid t x = record { place = length (t .store); text = x }
 
+-- The tables with a literal.
 unfoldable pub added : Tables → Role → Text → Tables
 added t r x =
     record {
@@ -187,6 +190,7 @@ tablesAfter t r literal x = added t r x
 
 -- ---- the initial entries (EXI, appendix D.1 and D.3)
 
+-- The URIs of XML and of XML Schema instances.
 unfoldable pub xmlUri : Text
 xmlUri = text "http://www.w3.org/XML/1998/namespace"
 
@@ -208,17 +212,20 @@ initialEntries s =
     ∷ (local false xsiUri, text "type")
     ∷ []
 
+-- The tables with these literals, one after the other.
 unfoldable pub addedAll : Tables → List (Role × Text) → Tables
 addedAll t [] = t
 addedAll t (x ∷ xs) = addedAll (added t (x .0) (x .1)) xs
 
+-- The tables at the start of a stream.
 unfoldable pub startTables : Settings → Tables
 startTables s =
     addedAll (record { uris = []; names = []; values = []; store = [] }) (initialEntries s)
 
--- ---- names that are refused (scope, row 11): an empty local name or target; attribute nil or type
--- in the XMLSchema-instance URI
+-- ---- names that are refused (scope, "Refusal numbers", 11): an empty local name or target;
+-- attribute nil or type in the XMLSchema-instance URI
 
+-- No name that row 11 refuses; other strings are no names.
 unfoldable pub nameAllowed : Role → Text → Bool
 nameAllowed uri x = true
 nameAllowed (local attr u) x =

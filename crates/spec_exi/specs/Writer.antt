@@ -1,17 +1,14 @@
 -- The writer's answer for any list (scope, "Refusal numbers"): what it refuses, in order, or the
 -- octets.
-use Prim.Native.Nat.{ℕ, zero, suc, _+_}
-use mathlib.Core.Bool.{Bool, false, cond, _&&_, not}
-use mathlib.Core.List.{List, [], _∷_, _++_}
-use mathlib.Core.Option.{Option, none, some}
-use lib.ListN.{length}
-use lib.Dec.{leb}
+use Rattle.spec_fields.specs.Prelude.{ℕ, zero, suc, _+_, Bool, false, cond, _&&_, not, List, []}
+use Rattle.spec_fields.specs.Prelude.{_∷_, _++_, Option, none, some, length, leb}
 use Rattle.spec_fields.specs.Bits.{Bits, unpack, pack}
-use Rattle.spec_fields.specs.Refusal.{Refusal, numberOf, room, settings, long, character, name, limit}
-use Rattle.spec_fields.specs.Refusal.{shape, place, Answer, refused, accepted}
+use Rattle.spec_fields.specs.Refusal.{Refusal, numberOf, room, settings, long, character, name}
+use Rattle.spec_fields.specs.Refusal.{limit, shape, place, Answer, refused, accepted}
 use Rattle.text.specs.Text.{Text, Span, inside, part, allChars}
 use Rattle.spec_exi.specs.Event.{Event, mapEvent, stringsOf}
-use Rattle.spec_exi.specs.Settings.{Settings, SettingNumbers, meaningful, settingsOf, headerOf}
+use Rattle.spec_exi.specs.Settings.{Settings, SettingNumbers, meaningful, settingsOf}
+use Rattle.spec_exi.specs.Settings.{headerOf}
 use Rattle.spec_exi.specs.Sizes.{Sizes, sizes}
 use Rattle.spec_exi.specs.Tables.{Tables, nameAllowed}
 use Rattle.spec_exi.specs.Grammar.{Code, codeOf, isFinished}
@@ -25,9 +22,11 @@ Stored = Option (Event Span)
 
 -- ---- tests in order, each with its refusal
 
+-- What must hold, and the refusal where it does not.
 abbrev pub Test : Type 0
 Test = Bool × Refusal
 
+-- The refusal of the first test that fails.
 unfoldable pub firstFailed : List Test → Option Refusal
 firstFailed [] = none
 firstFailed (x ∷ xs) = let later = firstFailed xs in cond (x .0) later (some (x .1))
@@ -49,6 +48,7 @@ module _ (z : Sizes) where
       ∷ (withinTables z (afterItem t i), limit)
       ∷ []
 
+  -- String by string, each by what the one before leaves.
   unfoldable pub contentTests : Tables → List Item → List Test
   contentTests t [] = []
   contentTests t (i ∷ is) = stringTests t i ++ contentTests (afterItem t i) is
@@ -61,6 +61,7 @@ module _ (z : Sizes) where
       ++ contentTests (c .tables) (items (c .state) (x .production) (mapEvent (part store) e))
       ++ ((withinGrammars z (next s c (mapEvent (part store) e)), limit) ∷ [])
 
+  -- The refusal of an event, if any.
   unfoldable pub faultOf : Settings → Context → Text → Event Span → Option Refusal
   faultOf s c store e =
       let x = codeOf (levelsIn s c) (mapEvent (part store) e) in
@@ -73,6 +74,7 @@ unfoldable pub prepended : Bits → Answer Bits → Answer Bits
 prepended w (refused k i) = refused k (suc i)
 prepended w (accepted bs) = accepted (w ++ bs)
 
+-- A refusal of the event itself comes before what follows.
 unfoldable pub unless : Option Refusal → Answer Bits → Answer Bits
 unless none x = x
 unless (some k) x = refused k 0
@@ -94,6 +96,7 @@ asOctets z s (accepted bs) =
     let octets = pack (unpack (headerOf s) ++ bs) in
     cond (leb (length octets) (z .stream)) (accepted octets) (refused long 0)
 
+-- The writer's answer for enough memory and settings that mean something.
 unfoldable pub writeList : Sizes → Settings → List Stored → Text → Answer (List ℕ)
 writeList z s xs store = asOctets z s (writeEvents (z .events) z s (start s) store xs)
 
@@ -102,7 +105,7 @@ pub record WriterRoom : Type 0 where
   pub octets : ℕ
   pub work : ℕ
 
--- Octets for the longest stream, and work memory with a text store behind it.
+-- Octets for the longest stream, and work memory with a text store at its end (scope, "Sizes").
 unfoldable pub enoughToWrite : Sizes → WriterRoom → Bool
 enoughToWrite z r = leb (z .stream) (r .octets) && leb (z .work + z .store) (r .work)
 
@@ -113,11 +116,13 @@ write r o xs store =
     (cond (not (meaningful o)) (refused settings 0)
     (writeList sizes (settingsOf o) xs store))
 
+-- The numbers of an answer: on success number and index are 0, after a refusal the count is.
 pub record WriteReply : Type 0 where
   pub number : ℕ
   pub index : ℕ
   pub octets : ℕ
 
+-- The numbers for each answer.
 unfoldable pub writeReply : Answer (List ℕ) → WriteReply
 writeReply (refused k i) = record { number = numberOf k; index = i; octets = 0 }
 writeReply (accepted os) = record { number = 0; index = 0; octets = length os }

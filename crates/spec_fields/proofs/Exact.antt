@@ -13,6 +13,7 @@ use Rattle.spec_fields.specs.Refusal.{Refusal}
 use Rattle.spec_fields.specs.Parser.{Result, bad, got, Parser, return, fail, present, need}
 use Rattle.spec_fields.specs.Parser.{andThen, _>>=_, _>>_, times}
 
+-- The parser reads exactly the values a with bits w of which R a w holds, whatever comes after.
 pub record Reads {A : Type 0} (p : Parser A) (R : A → Bits → Type 0) : Type 0 where
   -- what is read stands there
   pub sound : (bs : Bits) (a : A) (rest : Bits) → p bs ≡ got a rest → (w : Bits) × R a w × (bs ≡ w ++ rest)
@@ -43,6 +44,7 @@ module _ {A : Type 0} where
     pub is : x ≡ a
     pub empty : w ≡ []
 
+  -- Reads nothing, and gives this.
   pub reads-return : (a : A) → Reads (return a) (Returned a)
   unfolding return
   reads-return a =
@@ -51,15 +53,18 @@ module _ {A : Type 0} where
         complete = λ x w rest h. let e : _≡_ {A = Result A} (got a (w ++ rest)) (got x rest) = cc (h .is, h .empty) in e;
       }
 
+  -- Reads nothing.
   pub reads-fail : (k : Refusal) → Reads (fail k) (λ (x : A) w. ⊥)
   unfolding fail
   reads-fail k = record { sound = λ bs x rest e. not-got e; complete = λ x w rest h. absurd h }
 
+  -- Gives what is there.
   pub reads-present : (k : Refusal) (o : Option A) → Reads (present k o) (λ x w. (o ≡ some x) × (w ≡ []))
   unfolding present
   reads-present k none = reads-as (reads-fail k) (λ x w h. absurd h) (λ x w h. Option·none-ne-some x (h .0))
   reads-present k (some a) = reads-as (reads-return a) (λ x w h. (cc, h .empty)) (λ x w h. record { is = cc; empty = h .1 })
 
+  -- By a test.
   pub reads-cond : {p q : Parser A} {R : A → Bits → Type 0} (b : Bool) → (T b → Reads p R) → (T (not b) → Reads q R) → Reads (cond b p q) R
   reads-cond true f g = f tt
   reads-cond false f g = g tt
@@ -74,6 +79,7 @@ module _ {A B : Type 0} where
     pub two : S first b back
     pub joined : w ≡ front ++ back
 
+  -- One after the other.
   pub reads-then : {p : Parser A} {f : A → Parser B} {R : A → Bits → Type 0} {S : A → B → Bits → Type 0} → Reads p R
       → ((a : A) (u : Bits) → R a u → Reads (f a) (S a)) → Reads (p >>= f) (Then R S)
   unfolding _>>=_ andThen
@@ -101,6 +107,7 @@ module _ {A B : Type 0} where
     pub by : R from w
     pub is : b ≡ g from
 
+  -- Another value for what is read.
   pub reads-map : {p : Parser A} {R : A → Bits → Type 0} → Reads p R → (g : A → B) → Reads (p >>= λ a. return (g a)) (Mapped R g)
   reads-map {p} {R} h g =
       reads-as (reads-then h (λ a u r. reads-return (g a)))
@@ -152,6 +159,7 @@ module _ {A : Type 0} where
   Every Ok [] = Unit {0}
   Every Ok (a ∷ l) = Ok a × Every Ok l
 
+  -- n times.
   pub reads-times : {p : Parser A} {Ok : A → Type 0} {bits : A → Bits} (n : ℕ) → Reads p (λ a w. Ok a × (w ≡ bits a))
       → Reads (times n p) (λ l w. (length l ≡ n) × Every Ok l × (w ≡ each bits l))
   unfolding times each

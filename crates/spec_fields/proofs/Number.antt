@@ -28,6 +28,7 @@ use Rattle.spec_fields.proofs.Exact.{reads-guard, reads-times, Every, n
 
 -- ---- bits and the number that they stand for
 
+-- n bits are n bits.
 pub length-bits : (n v : ℕ) → length (bitsOf n v) ≡ n
 unfolding bitsOf
 length-bits zero v = refl
@@ -43,12 +44,14 @@ value-bit zero h = refl
 value-bit (suc zero) h = refl
 value-bit (suc (suc v)) h = absurd (omega arith)
 
+-- A number of n bits is below 2 ^ n.
 pub value-bound : (bs : Bits) → valueOf bs < 2 ^ length bs
 unfolding valueOf
 value-bound [] = omega arith
 value-bound (true ∷ bs) = rw (pow-suc 2 (length bs), one-mul) (omega (arith, value-bound bs))
 value-bound (false ∷ bs) = rw (pow-suc 2 (length bs), zero-mul) (omega (arith, value-bound bs))
 
+-- The bits of a number are its value.
 pub value-of-bits : (n v : ℕ) → v < 2 ^ n → valueOf (bitsOf n v) ≡ v
 unfolding valueOf bitsOf
 value-of-bits zero v h = omega arith
@@ -56,6 +59,7 @@ value-of-bits (suc n) v h =
     let below : v / 2 ^ n < 2 = div-lt-iff-lt-mul (pow-pos n) .1 (rw (mul-comm 2 (2 ^ n), ← pow-suc 2 n) h) in
     rw (length-bits n (v % 2 ^ n), value-bit (v / 2 ^ n) below, value-of-bits n (v % 2 ^ n) (mod-lt v (pow-pos n))) (recomposed v n)
 
+-- The value of bits has these bits.
 pub bits-of-value : (bs : Bits) → bitsOf (length bs) (valueOf bs) ≡ bs
 unfolding valueOf bitsOf
 bits-of-value [] = refl
@@ -97,9 +101,11 @@ bits-reads n =
     let bs = bitsOf n v in
     record { from = bs; by = (length-bits n v, each-true bs, h .1 ∙ sym (each-bit bs)); is = sym (value-of-bits n v (h .0)) })
 
+-- A number below 256.
 abbrev pub IsOctet : ℕ → Type 0
 IsOctet o = o < 256
 
+-- Reading an octet gives exactly its eight bits.
 pub octet-reads : Reads octet (λ o w. IsOctet o × (w ≡ bitsOf 8 o))
 unfolding octet
 octet-reads = bits-reads 8
@@ -153,6 +159,7 @@ abbrev pub bound : Alignment → ℕ → ℕ
 bound bitPacked n = 2 ^ n
 bound byteAligned n = 256 ^ octetsFor n
 
+-- Reading a field of n bits gives exactly the numbers that have their bits in it (EXI 7.1.9).
 pub number-reads : (a : Alignment) (n : ℕ) → Reads (numberField a n) (λ v w. (v < bound a n) × (w ≡ numberBits a n v))
 unfolding numberField numberBits
 number-reads bitPacked n = bits-reads n
@@ -192,10 +199,12 @@ below-power : (m : ℕ) → m ≤ 2 ^ m
 below-power zero = omega arith
 below-power (suc m) = rw (pow-suc 2 m) (omega (arith, below-power m, pow-pos m))
 
+-- The width of a choice among m is enough for m.
 pub width-enough : (m : ℕ) → m ≤ 2 ^ width m
 unfolding width
 width-enough m = from-enough m 0 m (rw zero-add (below-power m))
 
+-- No smaller width is enough.
 pub width-least : (m n : ℕ) → m ≤ 2 ^ n → width m ≤ n
 unfolding width
 width-least m n h = from-least m 0 m n h zero-le
@@ -212,6 +221,7 @@ pub record Chosen {A : Type 0} (a : Alignment) (l : List A) (x : ℕ × A) (w : 
   pub names : getElem? l (x .0) ≡ some (x .1)
   pub bits : w ≡ choiceBits a (length l) (x .0)
 
+-- Reading a choice gives exactly the members, by the field of their number.
 pub choice-reads : {A : Type 0} (a : Alignment) (k : Refusal) (l : List A) → Reads (choice a k l) (Chosen a l)
 unfolding choice choiceBits
 choice-reads a k l =
@@ -326,6 +336,7 @@ pub record Unsigned (v : ℕ) (w : Bits) : Type 0 where
   pub small : v ≤ maxUnsigned
   pub bits : w ≡ unpack octets
 
+-- Reading an Unsigned Integer gives exactly its octets (EXI 7.1.6).
 pub unsigned-reads : Reads unsigned Unsigned
 unfolding unsigned
 unsigned-reads =
@@ -381,10 +392,12 @@ are-fewest (suc k) v l =
     let g = more {v = v % 128} (omega arith) (are-fewest k (v / 128) (omega arith)) in
     rw e (subst (λ x. Groups (suc (suc k)) x true ((v % 128 + 128) ∷ groups (suc k) (v / 128))) whole (rw fewest at g)))
 
+-- An Unsigned Integer in fewest octets has one form.
 pub unsigned-bits : {v : ℕ} {w : Bits} → Unsigned v w → w ≡ unsignedBits v
 unfolding unsignedBits
 unsigned-bits h = h .bits ∙ ap unpack (fewest-are (h .groups) (h .allowed))
 
+-- That form is one in fewest octets.
 pub bits-unsigned : (v : ℕ) → v ≤ maxUnsigned → Unsigned v (unsignedBits v)
 unfolding unsignedBits maxOctets maxUnsigned
 bits-unsigned v l =

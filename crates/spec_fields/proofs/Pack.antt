@@ -13,14 +13,17 @@ use Rattle.spec_fields.proofs.Tests.{both, left, right}
 use Rattle.spec_fields.proofs.Exact.{Every}
 use Rattle.spec_fields.proofs.Number.{bits-of-value, value-of-bits, value-bound, IsOctet}
 
+-- All are octets.
 abbrev pub Octets : List ℕ → Type 0
 Octets os = Every IsOctet os
 
+-- The bits of octets one after the other.
 pub unpack-append : (a b : List ℕ) → unpack (a ++ b) ≡ unpack a ++ unpack b
 unfolding unpack each
 unpack-append [] b = refl
 unpack-append (o ∷ os) b = ap (λ bs. bitsOf 8 o ++ bs) (unpack-append os b) ∙ sym (append-assoc (bitsOf 8 o) (unpack os) (unpack b))
 
+-- Eight bits an octet.
 pub length-unpack : (os : List ℕ) → length (unpack os) ≡ 8 * length os
 unfolding unpack each bitsOf
 length-unpack [] = refl
@@ -39,6 +42,7 @@ unfolding octetsFrom front
 octets-from zero bs = tt
 octets-from (suc n) bs = (rw (length-front bs) at (value-bound (front bs)), octets-from n (drop 8 bs))
 
+-- Packed bits are octets.
 pub pack-octets : (bs : Bits) → Octets (pack bs)
 unfolding pack
 pack-octets bs = octets-from (octetsFor (length bs)) bs
@@ -49,6 +53,7 @@ unfolding octetsFrom unpack each bitsOf
 from-unpack [] h = refl
 from-unpack (o ∷ os) h = ap₂ _∷_ (value-of-bits 8 o (h .0)) (from-unpack os (h .1))
 
+-- Octets with the same bits are the same.
 pub unpack-injective : (a b : List ℕ) → Octets a → Octets b → unpack a ≡ unpack b → a ≡ b
 unpack-injective a b ha hb e =
     let l : length a ≡ length b = omega (arith, length-unpack a, length-unpack b, ap length e) in

@@ -1,9 +1,16 @@
 -- The numbers of refusals.
 use Prim.Native.Nat.{_<_}
 use native.Mathlib.Omega.{arith}
-use Rattle.spec_fields.specs.Refusal.{Refusal, numberOf, room, settings, long, header, ended, code}
+use mathlib.Core.Path.{refl}
+use Rattle.spec_fields.specs.Refusal.{Refusal, numberOf, Numbered, room, settings, long}
+use Rattle.spec_fields.specs.Refusal.{header, ended, code}
 use Rattle.spec_fields.specs.Refusal.{number, character, reference, loose, name, limit, tail}
 use Rattle.spec_fields.specs.Refusal.{shape, place}
+
+-- The scope's numbers.
+pub numbered : Numbered
+unfolding numberOf
+numbered = record { numbers = refl }
 
 -- No refusal has the number 0.
 pub refusal-number : (k : Refusal) → 0 < numberOf k

@@ -15,6 +15,7 @@ use Rattle.spec_fields.specs.Field.{Alignment, bitPacked, byteAligned, b
 use Rattle.spec_fields.specs.Field.{choice, grouped, unsigned, maxOctets}
 use Rattle.spec_fields.proofs.Exact.{not-got, got-value, got-rest}
 
+-- More bits change neither what is read nor a refusal, but ENDED.
 pub record Steady {A : Type 0} (p : Parser A) : Type 0 where
   pub reads : (bs : Bits) (a : A) (rest more : Bits) → p bs ≡ got a rest → p (bs ++ more) ≡ got a (rest ++ more)
   pub refuses : (bs : Bits) (k : Refusal) (more : Bits) → p bs ≡ bad k → (k ≡ ended → ⊥) → p (bs ++ more) ≡ bad k

@@ -1,23 +1,23 @@
 -- The fields that streams are made of, each as its bits and as its parser.
-use Prim.Native.Nat.{ℕ, zero, suc, _+_, _*_, _-_, _/_, _%_, _^_}
-use mathlib.Core.Bool.{Bool, true, cond, _&&_}
-use mathlib.Core.List.{List, [], _∷_}
-use lib.ListN.{length, getElem?}
-use lib.Dec.{leb, ltb}
+use Rattle.spec_fields.specs.Prelude.{ℕ, zero, suc, _+_, _*_, _-_, _/_, _%_, _^_, Bool, true}
+use Rattle.spec_fields.specs.Prelude.{cond, _&&_, List, [], _∷_, length, getElem?, leb, ltb}
 use Rattle.spec_fields.specs.Bits.{Bits, bitsOf, valueOf, unpack, octetsFor}
 use Rattle.spec_fields.specs.Refusal.{Refusal, ended, number}
-use Rattle.spec_fields.specs.Parser.{bad, got, Parser, return, fail, present, need, times, _>>=_}
-use Rattle.spec_fields.specs.Parser.{_>>_}
+use Rattle.spec_fields.specs.Parser.{bad, got, Parser, return, fail, present, need, times}
+use Rattle.spec_fields.specs.Parser.{_>>=_, _>>_}
 
+-- The two alignments of the scope (EXI 5.4, "alignment"; scope, "What is bought").
 pub data Alignment : Type 0 where
   bitPacked byteAligned : Alignment
 
 -- ---- bits and octets
 
+-- One bit; where there is none, the input ends inside a field: ENDED.
 unfoldable pub bit : Parser Bool
 bit [] = bad ended
 bit (b ∷ bs) = got b bs
 
+-- Eight bits, most significant first (EXI 7.1).
 unfoldable pub octet : Parser ℕ
 octet = do
   bs ← times 8 bit
@@ -26,18 +26,22 @@ octet = do
 -- ---- n-bit Unsigned Integer (EXI 7.1.9): n bits, most significant first; byte-aligned the fewest
 -- octets that hold n bits, least significant octet first
 
+-- The k lowest octets of v, least significant first.
 unfoldable pub littleEndian : ℕ → ℕ → List ℕ
 littleEndian zero v = []
 littleEndian (suc k) v = v % 256 ∷ littleEndian k (v / 256)
 
+-- The number whose octets these are.
 unfoldable pub littleValue : List ℕ → ℕ
 littleValue [] = 0
 littleValue (o ∷ os) = o + 256 * littleValue os
 
+-- The field of v in n bits.
 unfoldable pub numberBits : Alignment → ℕ → ℕ → Bits
 numberBits bitPacked n v = bitsOf n v
 numberBits byteAligned n v = unpack (littleEndian (octetsFor n) v)
 
+-- Reads a field of n bits. Byte-aligned, all bits of its octets are the number.
 unfoldable pub numberField : Alignment → ℕ → Parser ℕ
 numberField bitPacked n = do
   bs ← times n bit
@@ -53,9 +57,11 @@ unfoldable pub widthFrom : ℕ → ℕ → ℕ → ℕ
 widthFrom zero n m = n
 widthFrom (suc k) n m = let wider = widthFrom k (suc n) m in cond (leb m (2 ^ n)) n wider
 
+-- The width of a choice among m.
 unfoldable pub width : ℕ → ℕ
 width m = widthFrom m 0 m
 
+-- The field of the choice v among m.
 unfoldable pub choiceBits : Alignment → ℕ → ℕ → Bits
 choiceBits a m v = numberBits a (width m) v
 
@@ -70,9 +76,11 @@ choice a k l = do
 -- first, the top bit set on all but the last; at most 5 octets, and a number up to 2,147,483,647
 -- (scope, "Refusal numbers", 7)
 
+-- Octets of an Unsigned Integer.
 unfoldable pub maxOctets : ℕ
 maxOctets = 5
 
+-- The largest Unsigned Integer: 2 ^ 31 - 1.
 unfoldable pub maxUnsigned : ℕ
 maxUnsigned = 2147483647
 
@@ -81,6 +89,7 @@ unfoldable pub groups : ℕ → ℕ → List ℕ
 groups zero v = []
 groups (suc k) v = let more = (v % 128 + 128) ∷ groups k (v / 128) in cond (ltb v 128) (v ∷ []) more
 
+-- An Unsigned Integer in fewest octets.
 unfoldable pub unsignedBits : ℕ → Bits
 unsignedBits v = unpack (groups maxOctets v)
 

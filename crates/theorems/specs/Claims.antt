@@ -47,15 +47,14 @@ pub record Demand1Writer (r : WriterRoom) (o : SettingNumbers) (xs : List Stored
   pub no-counts : 0 < y .number → y .octets ≡ 0
   pub bounded : y .octets ≤ maxStream
 
--- ---- demand 2: the writer gives the strict form exactly for the good lists, reading it returns the
--- list, and what the reader accepts the writer gives back octet for octet
+-- ---- demand 2: the writer gives the strict form exactly for the good lists, reading it returns
+-- the list, and what the reader accepts the writer gives back octet for octet
 pub record Demand2 (r : WriterRoom) (p : ReaderRoom) (o : SettingNumbers) : Type 0 where
   pub written-when-zero : (xs : List Stored) (store : Text)
       → (writeReply (write r o xs store) .number ≡ 0)
       ↔ ((stream : List ℕ) × (write r o xs store ≡ accepted stream))
   pub written : (xs : List Stored) (store : Text) (stream : List ℕ)
-      → (write r o xs store ≡ accepted stream)
-      ↔ ((T (enoughToWrite sizes r) × T (meaningful o))
+      → (write r o xs store ≡ accepted stream) ↔ ((T (enoughToWrite sizes r) × T (meaningful o))
       × ((l : List (Event Text)) × (meant store xs ≡ some l) × Good (settingsOf o) l
       × (stream ≡ strict (settingsOf o) l)))
   pub read-back : (xs : List Stored) (store : Text) (l : List (Event Text)) (stream : List ℕ)
@@ -65,13 +64,12 @@ pub record Demand2 (r : WriterRoom) (p : ReaderRoom) (o : SettingNumbers) : Type
       → AreOctets stream → read p o stream ≡ accepted x
       → write r o (map storedOf (x .events)) (x .store) ≡ accepted stream
 
--- ---- demand 3: accepted are exactly the strict forms of good lists; each stream has one list, each
--- list one stream, and no accepted stream begins a longer one
+-- ---- demand 3: accepted are exactly the strict forms of good lists; each stream has one list,
+-- each list one stream, and no accepted stream begins a longer one
 pub record Demand3 (r : ReaderRoom) (o : SettingNumbers) : Type 0 where
   pub accepted-when-zero : (stream : List ℕ)
       → (readReply (read r o stream) .number ≡ 0) ↔ ((l : List (Event Text)) × Accepts r o stream l)
-  pub exact : (stream : List ℕ) (l : List (Event Text)) → AreOctets stream
-      → Accepts r o stream l
+  pub exact : (stream : List ℕ) (l : List (Event Text)) → AreOctets stream → Accepts r o stream l
       ↔ (T (enoughToRead sizes r) × T (meaningful o) × Good (settingsOf o) l
       × (stream ≡ strict (settingsOf o) l))
   pub one-list : (l m : List (Event Text)) → Good (settingsOf o) l → Good (settingsOf o) m

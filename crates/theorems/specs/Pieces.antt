@@ -1,12 +1,6 @@
 -- What is proved of a stream that comes in pieces, however it is cut: the answer after a piece goes
 -- by the octets so far alone, and only grows; the closing call's is `read`.
-use Prim.Native.Nat.{ℕ, _≤_, _<_}
-use mathlib.Core.Path.{_≡_}
-use mathlib.Core.Logic.{_↔_}
-use mathlib.Core.Bool.{not}
-use mathlib.Core.List.{List, _++_}
-use lib.ListN.{length}
-use lib.Dec.{T}
+use Rattle.spec_fields.specs.Prelude.{ℕ, _≤_, _<_, _≡_, _↔_, not, List, _++_, length, T}
 use Rattle.spec_fields.specs.Refusal.{Refusal, room, settings, long, ended, refused, accepted}
 use Rattle.spec_exi.specs.Settings.{SettingNumbers, meaningful, settingsOf}
 use Rattle.spec_exi.specs.Sizes.{sizes, maxStream}
@@ -35,6 +29,3 @@ pub record InPieces (r : ReaderRoom) (o : SettingNumbers) (octets : List ℕ) : 
       → receive r o (octets ++ more) ≡ accepted y → Begins x y
   -- Their strings are in the store so far, and no literal of another event is.
   pub lookup : (x : Reading) → receive r o octets ≡ accepted x → Lookup (settingsOf o) x
-
-pub record Pieces : Type 0 where
-  pub in-pieces : (r : ReaderRoom) (o : SettingNumbers) (octets : List ℕ) → InPieces r o octets

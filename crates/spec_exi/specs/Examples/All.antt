@@ -1,16 +1,16 @@
--- All worked examples.
+-- All worked examples, by topic.
 use Rattle.spec_exi.specs.Examples.{Hold, Replied}
 use Rattle.spec_exi.specs.Examples.Scope.{K, KReplies}
-use Rattle.spec_exi.specs.Examples.Mistakes.{mistakes}
-use Rattle.spec_exi.specs.Examples.Kept.{kept}
+use Rattle.spec_exi.specs.Examples.Streams.{mistakes, kept}
 use Rattle.spec_exi.specs.Examples.Places.{Lie, laidOut}
-use Rattle.spec_exi.specs.Examples.Orders.{orders}
-use Rattle.spec_exi.specs.Examples.Refusals.{refusals}
+use Rattle.spec_exi.specs.Examples.Refusals.{orders, refusals}
 use Rattle.spec_exi.specs.Examples.Numbers.{Pinned}
 use Rattle.spec_exi.specs.Examples.Bounds.{Bounded, bounds}
-use Rattle.spec_exi.specs.Examples.Written.{Written, WriteReplied, writes, writeReplies, atSizes}
+use Rattle.spec_exi.specs.Examples.Written.{Written, WriteReplied, writes, writeReplies}
+use Rattle.spec_exi.specs.Examples.Written.{atSizes}
 use Rattle.spec_exi.specs.Examples.Pieces.{Tell, pieces}
 
+-- Each holds.
 pub record WorkedExamples : Type 0 where
   pub scope : Hold K
   pub scope-replies : Replied K KReplies

@@ -1,9 +1,5 @@
 -- Both sides of each size, for the reader and the writer, by small sizes.
-use Prim.Native.Nat.{ℕ, suc}
-use Prim.Native.String.{String}
-use mathlib.Core.Path.{_≡_}
-use mathlib.Core.List.{List, [], _∷_, _++_, map}
-use lib.ListN.{replicate}
+use Rattle.spec_fields.specs.Prelude.{ℕ, suc, _+_, String, _≡_, List, [], _∷_, _++_, map, replicate}
 use Rattle.spec_fields.specs.Refusal.{Refusal, long, limit, Answer, refused, accepted}
 use Rattle.spec_exi.specs.Settings.{settingsOf}
 use Rattle.spec_exi.specs.Sizes.{Sizes}
@@ -22,9 +18,11 @@ pub record Bound : Type 0 where
   pub refusal : Refusal
   pub index : ℕ
 
+-- In this order.
 unfoldable pub bound : ℕ → ℕ → String → Refusal → ℕ → Bound
 bound j n x k i = record { size = j; most = n; stream = octets x; refusal = k; index = i }
 
+-- That size is n, and no other is small.
 unfoldable pub under : Bound → ℕ → Sizes
 under x n = sizesAs (replicate (x .size) 999 ++ (n ∷ []))
 
@@ -33,12 +31,11 @@ unfoldable pub rewritten : Sizes → Answer Reading → Answer (List ℕ)
 rewritten z (refused k i) = refused k i
 rewritten z (accepted x) = writeList z (settingsOf inOctets) (map storedOf (x .events)) (x .store)
 
--- The numbers of the reader's and the writer's replies under these sizes.
-unfoldable pub numbersUnder : Sizes → List ℕ → ℕ × ℕ
-numbersUnder z stream = (
-  readReply (readSized z full inOctets stream) .number,
-  writeReply (rewritten z (read full inOctets stream)) .number,
-)
+-- Both accept the stream under these sizes: the sum of the replies' numbers is 0.
+unfoldable pub sumUnder : Sizes → List ℕ → ℕ
+sumUnder z stream =
+    readReply (readSized z full inOctets stream) .number
+    + writeReply (rewritten z (read full inOctets stream)) .number
 
 -- Reader and writer refuse alike at that number, and take the stream at one more.
 pub record Bounded (xs : List Bound) : Type 0 where
@@ -46,9 +43,9 @@ pub record Bounded (xs : List Bound) : Type 0 where
       ≡ map (λ x. refused (x .refusal) (x .index)) xs
   pub writer : map (λ x. rewritten (under x (x .most)) (read full inOctets (x .stream))) xs
       ≡ map (λ x. refused (x .refusal) (x .index)) xs
-  pub above : map (λ x. numbersUnder (under x (suc (x .most))) (x .stream)) xs
-      ≡ map (λ x. (0, 0)) xs
+  pub above : map (λ x. sumUnder (under x (suc (x .most))) (x .stream)) xs ≡ map (λ x. 0) xs
 
+-- At least one stream for each of the ten.
 unfoldable pub bounds : List Bound
 bounds =
     -- octets of the stream, and events: K1
@@ -70,5 +67,4 @@ bounds =
     ∷ bound 7 0 "80 01 02 61 00" limit 2
     -- code points of a string, and of the store, which begins with 99: K1
     ∷ bound 8 0 "80 01 02 61 00" limit 1
-    ∷ bound 9 99 "80 01 02 61 00" limit 1
-    ∷ []
+    ∷ bound 9 99 "80 01 02 61 00" limit 1 ∷ []

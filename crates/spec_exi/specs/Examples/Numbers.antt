@@ -1,15 +1,11 @@
 -- The scope's numbers, each written out: refusals, sizes, settings, lent lengths.
-use Prim.Native.Nat.{ℕ}
-use mathlib.Core.Path.{_≡_}
-use mathlib.Core.List.{List, [], _∷_, _++_, map}
-use lib.ListN.{getD, replicate}
-use Rattle.spec_fields.specs.Refusal.{numberOf, room, settings, long, header, ended, code, number}
-use Rattle.spec_fields.specs.Refusal.{character, reference, loose, name, limit, tail, shape, place}
+use Rattle.spec_fields.specs.Prelude.{ℕ, _≡_, List, [], _∷_, _++_, map, getD, replicate}
+use Rattle.spec_fields.specs.Refusal.{Numbered}
 use Rattle.spec_exi.specs.Settings.{SettingNumbers}
 use Rattle.spec_exi.specs.Sizes.{Sizes, sizes}
 use Rattle.spec_exi.specs.Reader.{ReaderRoom, read, readReply}
 use Rattle.spec_exi.specs.Writer.{WriterRoom, write, writeReply}
-use Rattle.spec_exi.specs.Examples.{full, numbers}
+use Rattle.spec_exi.specs.Examples.{full, fullToWrite, numbers}
 
 -- The sizes in their order; those that are left out are 999.
 unfoldable pub sizesAs : List ℕ → Sizes
@@ -28,22 +24,24 @@ sizesAs ns =
       work = getD ns 10 999;
     }
 
--- Each settings' number at the first that has no meaning, the others 0.
+-- The i-th settings' number is v, the others are 0.
 unfoldable pub setting : ℕ → ℕ → SettingNumbers
 setting i v = numbers (replicate i 0 ++ (v ∷ []))
 
+-- Each at the first number that has no meaning.
 unfoldable pub meaningless : List SettingNumbers
 meaningless =
     setting 0 2 ∷ setting 1 2 ∷ setting 2 2 ∷ setting 3 2 ∷ setting 4 1 ∷ setting 5 1 ∷ setting 6 1
     ∷ setting 7 1 ∷ setting 8 1 ∷ setting 9 1 ∷ []
 
+-- Lent lengths.
 unfoldable pub readerRoom : ℕ → ℕ → ℕ → ReaderRoom
 readerRoom e t w = record { events = e; text = t; work = w }
 
 unfoldable pub writerRoom : ℕ → ℕ → WriterRoom
 writerRoom k w = record { octets = k; work = w }
 
--- Lent lengths: just enough, then each part one short.
+-- Just enough, then each part one short.
 unfoldable pub readerRooms : List ReaderRoom
 readerRooms =
     readerRoom 36864 16384 4096 ∷ readerRoom 36863 16384 4096 ∷ readerRoom 36864 16383 4096
@@ -52,17 +50,14 @@ readerRooms =
 unfoldable pub writerRooms : List WriterRoom
 writerRooms = writerRoom 16384 20480 ∷ writerRoom 16383 20480 ∷ writerRoom 16384 20479 ∷ []
 
+-- What the scope says in numbers.
 pub record Pinned : Type 0 where
-  pub refusals : map numberOf
-      (room ∷ settings ∷ long ∷ header ∷ ended ∷ code ∷ number ∷ character ∷ reference ∷ loose
-      ∷ name ∷ limit ∷ tail ∷ shape ∷ place ∷ [])
-      ≡ 1 ∷ 2 ∷ 3 ∷ 4 ∷ 5 ∷ 6 ∷ 7 ∷ 8 ∷ 9 ∷ 10 ∷ 11 ∷ 12 ∷ 13 ∷ 14 ∷ 15 ∷ []
+  pub refusals : Numbered
   pub sizesAre : sizes
       ≡ sizesAs (16384 ∷ 4096 ∷ 100 ∷ 16 ∷ 128 ∷ 512 ∷ 64 ∷ 512 ∷ 1024 ∷ 16384 ∷ 4096 ∷ [])
   -- Of a stream, and of a list, without octets and events: SETTINGS. ROOM comes before it.
   pub readerSettings : map (λ o. readReply (read full o []) .number) meaningless ≡ replicate 10 2
-  pub writerSettings : map (λ o. writeReply (write (writerRoom 16384 20480) o [] []) .number)
-      meaningless
+  pub writerSettings : map (λ o. writeReply (write fullToWrite o [] []) .number) meaningless
       ≡ replicate 10 2
   pub readerLent : map (λ r. readReply (read r (setting 0 2) []) .number) readerRooms
       ≡ 2 ∷ 1 ∷ 1 ∷ 1 ∷ []

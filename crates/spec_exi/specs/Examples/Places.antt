@@ -1,8 +1,5 @@
 -- Where the strings lie: the events as they lie in memory, and the text store.
-use Prim.Native.Nat.{ℕ}
-use Prim.Native.String.{String}
-use mathlib.Core.Path.{_≡_}
-use mathlib.Core.List.{List, [], _∷_, _++_, map}
+use Rattle.spec_fields.specs.Prelude.{ℕ, String, _≡_, List, [], _∷_, _++_, map}
 use Rattle.spec_fields.specs.Refusal.{Answer, refused, accepted}
 use Rattle.text.specs.Text.{Span, Text, text}
 use Rattle.spec_exi.specs.Event.{QName, Event, mapEvent, startDocument, endDocument}
@@ -17,6 +14,7 @@ pub record LaidOut : Type 0 where
   pub events : List (Event Span)
   pub literals : String
 
+-- Events and store of what is accepted.
 unfoldable pub layoutOf : Answer Reading → List (Event Span) × Text
 layoutOf a =
     elim a [ refused k i ↦ ([], []) | accepted r ↦ (map (mapEvent spanOf) (r .events), r .store) ]
@@ -25,14 +23,14 @@ layoutOf a =
 unfoldable pub storeWith : String → Text
 storeWith x =
     text "http://www.w3.org/XML/1998/namespacehttp://www.w3.org/2001/XMLSchema-instance"
-    ++ text "baseidlangspaceniltype"
-    ++ text x
+    ++ text "baseidlangspaceniltype" ++ text x
 
 -- Each is laid out as it says.
 pub record Lie (xs : List LaidOut) : Type 0 where
   pub layouts : map (λ x. layoutOf (read full inOctets (x .stream))) xs
       ≡ map (λ x. (x .events, storeWith (x .literals))) xs
 
+-- A string at a place, with its length; a name of two such, or with the empty URI.
 unfoldable pub at : ℕ → ℕ → Span
 at p n = record { place = p; size = n }
 
@@ -42,6 +40,7 @@ inUri q m p n = record { uri = at q m; local = at p n }
 unfoldable pub named : ℕ → ℕ → QName Span
 named p n = inUri 0 0 p n
 
+-- Two streams.
 unfoldable pub laidOut : List LaidOut
 laidOut =
     -- K7: the second p, t and 1 lie where the first do.
@@ -62,8 +61,6 @@ laidOut =
       events = startDocument ∷ startElement (inUri 36 41 92 3)
           ∷ attribute (inUri 0 36 77 4) (at 99 1) ∷ attribute (inUri 0 36 81 2) (at 100 0)
           ∷ attribute (named 100 4) (at 99 1) ∷ attribute (inUri 36 41 104 1) (at 105 0)
-          ∷ startElement (inUri 36 41 95 4) ∷ endElement ∷ endElement
-          ∷ endDocument ∷ [];
+          ∷ startElement (inUri 36 41 95 4) ∷ endElement ∷ endElement ∷ endDocument ∷ [];
       literals = "xtypek";
-    }
-    ∷ []
+    } ∷ []

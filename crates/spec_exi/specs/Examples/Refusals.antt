@@ -1,31 +1,55 @@
--- Both sides of what the reader refuses, where no other module has them: names, characters, the end
--- of the stream.
-use mathlib.Core.List.{List, [], _∷_}
-use Rattle.spec_fields.specs.Refusal.{character, name, tail, refused}
-use Rattle.spec_exi.specs.Event.{startElement}
-use Rattle.spec_exi.specs.Examples.{Example, numbers, inBits, inOctets, example, end, whole}
+-- What the reader refuses: the order of its tests, and both sides of what no other module has.
+use Rattle.spec_fields.specs.Prelude.{List, [], _∷_}
+use Rattle.spec_fields.specs.Refusal.{settings, header, ended, number, character, reference, loose}
+use Rattle.spec_fields.specs.Refusal.{name, limit, tail, refused}
+use Rattle.spec_exi.specs.Examples.{Example, numbers, inBits, inOctets, example, begin, end}
+use Rattle.spec_exi.specs.Examples.{whole}
 
+-- Where two tests fail, the first is answered (scope, "Refusal numbers", "Order").
+unfoldable pub orders : List Example
+orders =
+    -- SETTINGS, before HEADER.
+    example (numbers (1 ∷ 2 ∷ [])) "00" (refused settings 0)
+    -- The header: ENDED at each octet, then HEADER.
+    ∷ example inOctets "" (refused ended 0)
+    ∷ example (numbers (1 ∷ 1 ∷ [])) "24 45 58" (refused ended 0)
+    ∷ example (numbers (1 ∷ 1 ∷ [])) "24 45 59" (refused header 0)
+    ∷ example inOctets "A0" (refused header 0)
+    ∷ example inOctets "80" (refused ended 1)
+    -- A URI number past the table: REFERENCE.
+    ∷ example inOctets "80 04" (refused reference 1)
+    -- 1,025 code points, and the first is no Char: LIMIT. So many that they are NUMBER: NUMBER.
+    ∷ example inOctets "80 01 82 08 00" (refused limit 1)
+    ∷ example inOctets "80 01 FF FF FF FF 07" (refused limit 1)
+    ∷ example inOctets "80 01 FF FF FF FF 08" (refused number 1)
+    -- A fifth octet that continues: NUMBER, and not ENDED.
+    ∷ example inOctets "80 01 FF FF FF FF 87" (refused number 1)
+    -- Two code points, of which the first is no Char and the second is not there: CHARACTER.
+    ∷ example inOctets "80 01 03 00" (refused character 1)
+    -- Attribute type of XMLSchema-instance as a literal: LOOSE. As the hit that it should be: NAME.
+    ∷ example inOctets "80 01 02 61 01 03 05 74 79 70 65" (refused loose 2)
+    ∷ example inOctets "80 01 02 61 01 03 00 01" (refused name 2)
+    -- <a><a><a>, the last by SE(*) where SE(a) is learned: LOOSE, but after its content.
+    ∷ example inOctets "80 01 02 61 02 01 00 01 02 01" (refused ended 3)
+    ∷ example inOctets "80 01 02 61 02 01 00 01 02 01 00" (refused loose 3) ∷ []
+
+-- Names, characters, and the end of the stream.
 unfoldable pub refusals : List Example
 refusals =
     -- NAME: an empty local name of an element and of an attribute, an empty target, the attribute
-    -- nil. (Type is in Orders; both are names of elements in Places.)
+    -- nil. (Type is among the orders; both are names of elements in Places.)
     example inOctets "80 01 01" (refused name 1)
     ∷ example inOctets "80 01 02 61 01 01 01" (refused name 2)
     ∷ example (numbers (1 ∷ 0 ∷ 0 ∷ 1 ∷ [])) "80 01 00" (refused name 1)
     ∷ example inOctets "80 01 02 61 01 03 00 00" (refused name 2)
     -- Chars: 9, 10, 13; 31 is none; 55295, 55296; 65533, 65534; 1114111, 1114112.
-    ∷ example inOctets "80 01 04 09 0A 0D 00"
-    (whole (startElement (record { uri = []; local = 9 ∷ 10 ∷ 13 ∷ [] }) ∷ end ∷ []))
+    ∷ example inOctets "80 01 04 09 0A 0D 00" (whole (begin "\t\n\r" ∷ end ∷ []))
     ∷ example inOctets "80 01 02 1F" (refused character 1)
-    ∷ example inOctets "80 01 02 FF AF 03 00"
-    (whole (startElement (record { uri = []; local = 55295 ∷ [] }) ∷ end ∷ []))
+    ∷ example inOctets "80 01 02 FF AF 03 00" (whole (begin "\u{d7ff}" ∷ end ∷ []))
     ∷ example inOctets "80 01 02 80 B0 03" (refused character 1)
-    ∷ example inOctets "80 01 02 FD FF 03 00"
-    (whole (startElement (record { uri = []; local = 65533 ∷ [] }) ∷ end ∷ []))
+    ∷ example inOctets "80 01 02 FD FF 03 00" (whole (begin "�" ∷ end ∷ []))
     ∷ example inOctets "80 01 02 FE FF 03" (refused character 1)
-    ∷ example inOctets "80 01 02 FF FF 43 00"
-    (whole (startElement (record { uri = []; local = 1114111 ∷ [] }) ∷ end ∷ []))
+    ∷ example inOctets "80 01 02 FF FF 43 00" (whole (begin "\u{10ffff}" ∷ end ∷ []))
     ∷ example inOctets "80 01 02 80 80 44" (refused character 1)
     -- K2 with a pad bit set: TAIL, at the number of the events.
-    ∷ example inBits "80 40 98 41" (refused tail 4)
-    ∷ []
+    ∷ example inBits "80 40 98 41" (refused tail 4) ∷ []

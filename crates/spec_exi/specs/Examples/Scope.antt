@@ -1,10 +1,11 @@
 -- K1 to K12 (scope, "Streams to check"), and the replies to them in numbers.
-use mathlib.Core.List.{List, [], _∷_}
+use Rattle.spec_fields.specs.Prelude.{List, [], _∷_}
 use Rattle.spec_fields.specs.Refusal.{code, number, reference, loose, tail, refused}
 use Rattle.spec_exi.specs.Reader.{ReadReply}
 use Rattle.spec_exi.specs.Examples.{Example, reply, inBits, inOctets, example, begin, attr}
 use Rattle.spec_exi.specs.Examples.{chars, end, whole}
 
+-- Streams that are accepted, and streams that are refused.
 unfoldable pub K : List Example
 K =
     example inOctets "80 01 02 61 00" (whole (begin "a" ∷ end ∷ []))
@@ -21,10 +22,9 @@ K =
     ∷ example inOctets "80 01 82 00 61 00" (refused number 1)
     ∷ example inOctets "80 00 00" (refused loose 1)
     ∷ example inOctets "80 01 00" (refused reference 1)
-    ∷ example inOctets "80 01 02 61 00 00" (refused tail 4)
-    ∷ []
+    ∷ example inOctets "80 01 02 61 00 00" (refused tail 4) ∷ []
 
--- Number, index, events, code points.
+-- Number, index, events, code points of each.
 unfoldable pub KReplies : List ReadReply
 KReplies =
     reply 0 0 4 100 ∷ reply 0 0 4 100 ∷ reply 0 0 5 101 ∷ reply 0 0 5 101 ∷ reply 0 0 5 102

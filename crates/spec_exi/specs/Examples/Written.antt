@@ -1,29 +1,24 @@
 -- Lists that are lent to the writer, and what it answers.
-use Prim.Native.Nat.{ℕ, zero, suc}
-use mathlib.Core.Path.{_≡_}
-use mathlib.Core.List.{List, [], _∷_, _++_, map}
-use mathlib.Core.Option.{none, some}
-use lib.ListN.{replicate}
-use Rattle.spec_fields.specs.Refusal.{settings, character, name, limit, shape, place, Answer, refused}
-use Rattle.spec_fields.specs.Refusal.{accepted}
+use Rattle.spec_fields.specs.Prelude.{ℕ, zero, suc, _+_, _≡_, List, [], _∷_, _++_, map, none, some}
+use Rattle.spec_fields.specs.Prelude.{replicate}
+use Rattle.spec_fields.specs.Refusal.{settings, character, name, limit, shape, place, Answer}
+use Rattle.spec_fields.specs.Refusal.{refused, accepted}
 use Rattle.text.specs.Text.{Text, text}
 use Rattle.spec_exi.specs.Event.{startDocument, endDocument, endElement, startElement}
 use Rattle.spec_exi.specs.Event.{attribute, characters}
 use Rattle.spec_exi.specs.Settings.{SettingNumbers}
-use Rattle.spec_exi.specs.Sizes.{maxStream, writerWork}
-use Rattle.spec_exi.specs.Writer.{Stored, WriterRoom, write, WriteReply, writeReply}
-use Rattle.spec_exi.specs.Examples.{numbers, inOctets, octets}
+use Rattle.spec_exi.specs.Writer.{Stored, write, WriteReply, writeReply}
+use Rattle.spec_exi.specs.Examples.{fullToWrite, numbers, inOctets, octets}
 use Rattle.spec_exi.specs.Examples.Places.{at, inUri, named}
 
+-- A list under these settings, and the answer for it.
 pub record WriteExample : Type 0 where
   pub numbers : SettingNumbers
   pub events : List Stored
   pub store : Text
   pub answer : Answer (List ℕ)
 
-unfoldable pub fullToWrite : WriterRoom
-fullToWrite = record { octets = maxStream; work = writerWork }
-
+-- The writer's answer.
 unfoldable pub writtenFor : WriteExample → Answer (List ℕ)
 writtenFor x = write fullToWrite (x .numbers) (x .events) (x .store)
 
@@ -35,6 +30,7 @@ pub record Written (xs : List WriteExample) : Type 0 where
 pub record WriteReplied (xs : List WriteExample) (ys : List WriteReply) : Type 0 where
   pub replies : map (λ x. writeReply (writtenFor x)) xs ≡ ys
 
+-- Number, index, octets.
 unfoldable pub wrote : ℕ → ℕ → ℕ → WriteReply
 wrote n i k = record { number = n; index = i; octets = k }
 
@@ -43,6 +39,7 @@ unfoldable pub listed : List Stored → Text → Answer (List ℕ) → WriteExam
 listed xs store a =
     record { numbers = inOctets; events = some startDocument ∷ xs; store = store; answer = a }
 
+-- Each of the writer's refusals, and where two tests fail the first.
 unfoldable pub writes : List WriteExample
 writes =
     -- K1
@@ -63,10 +60,9 @@ writes =
     ∷ listed (some (startElement (named 0 0)) ∷ []) [] (refused name 1)
     -- 1,025 code points that are no Chars: LIMIT. One: CHARACTER.
     ∷ listed (some (startElement (named 0 1025)) ∷ []) (replicate 1025 0) (refused limit 1)
-    ∷ listed (some (startElement (named 0 1)) ∷ []) (0 ∷ []) (refused character 1)
-    ∷ []
+    ∷ listed (some (startElement (named 0 1)) ∷ []) (0 ∷ []) (refused character 1) ∷ []
 
--- Number, index, octets.
+-- The replies to these.
 unfoldable pub writeReplies : List WriteReply
 writeReplies =
     wrote 0 0 5 ∷ wrote 2 0 0 ∷ wrote 14 1 0 ∷ wrote 14 1 0 ∷ wrote 14 1 0 ∷ wrote 15 1 0
@@ -74,30 +70,27 @@ writeReplies =
 
 -- ---- both sides of the scope's own sizes: a list that ends early, or LIMIT
 
--- n code points that count up from i.
-unfoldable pub counting : ℕ → ℕ → Text
-counting zero i = []
-counting (suc n) i = i ∷ counting n (suc i)
+-- What f gives for i, i + 1, .., n times.
+unfoldable pub upTo : {A : Type 0} → (ℕ → List A) → ℕ → ℕ → List A
+upTo f zero i = []
+upTo f (suc n) i = f i ++ upTo f n (suc i)
 
--- Names of one code point each, from place i on: of n start elements, one in the other; of n start
--- elements and an attribute of each; the URIs of n start elements.
+-- Start elements, one in the other, whose names, or URIs, are one code point at place i each.
 unfoldable pub nested : ℕ → ℕ → List Stored
-nested zero i = []
-nested (suc n) i = some (startElement (named i 1)) ∷ nested n (suc i)
-
-unfoldable pub withAttribute : ℕ → ℕ → List Stored
-withAttribute zero i = []
-withAttribute (suc n) i =
-    some (startElement (named i 1)) ∷ some (attribute (named (suc i) 1) (at 0 0))
-    ∷ withAttribute n (suc (suc i))
+nested = upTo (λ i. some (startElement (named i 1)) ∷ [])
 
 unfoldable pub inUris : ℕ → ℕ → List Stored
-inUris zero i = []
-inUris (suc n) i = some (startElement (inUri i 1 0 1)) ∷ inUris n (suc i)
+inUris = upTo (λ i. some (startElement (inUri i 1 0 1)) ∷ [])
 
+-- The same with an attribute each.
+unfoldable pub withAttribute : ℕ → ℕ → List Stored
+withAttribute = upTo (λ i. nested 1 i ++ (some (attribute (named (100 + i) 1) (at 0 0)) ∷ []))
+
+-- A store of different code points.
 unfoldable pub aRow : Text
-aRow = counting 200 1000
+aRow = upTo (λ i. i ∷ []) 200 1000
 
+-- At each size, and one past it.
 unfoldable pub atSizes : List WriteExample
 atSizes =
     -- 100 and 101 open elements of one name
@@ -108,10 +101,9 @@ atSizes =
     ∷ listed (nested 65 0) aRow (refused limit 65)
     -- 128 and 129 local names, the initial entries among them
     ∷ listed (withAttribute 61 0) aRow (refused shape 123)
-    ∷ listed (withAttribute 61 0 ++ nested 1 122) aRow (refused limit 123)
+    ∷ listed (withAttribute 61 0 ++ nested 1 90) aRow (refused limit 123)
     -- 16 and 17 URIs
     ∷ listed (inUris 13 0) aRow (refused shape 14)
     ∷ listed (inUris 14 0) aRow (refused limit 14)
     -- 1,024 code points (1,025 are above)
-    ∷ listed (some (startElement (named 0 1024)) ∷ []) (replicate 1024 97) (refused shape 2)
-    ∷ []
+    ∷ listed (some (startElement (named 0 1024)) ∷ []) (replicate 1024 97) (refused shape 2) ∷ []

@@ -1,12 +1,6 @@
 -- The words that the claims use, each from the module that defines it.
-pub use Prim.Native.Nat.{ℕ, _≤_, _<_}
-pub use mathlib.Core.Path.{_≡_}
-pub use mathlib.Core.Logic.{_↔_}
-pub use mathlib.Core.Bool.{not}
-pub use mathlib.Core.List.{List, [], _∷_, _++_, map}
-pub use mathlib.Core.Option.{some}
-pub use lib.ListN.{length}
-pub use lib.Dec.{T}
+pub use Rattle.spec_fields.specs.Prelude.{ℕ, _≤_, _<_, _≡_, _↔_, not, List, [], _∷_, _++_, map}
+pub use Rattle.spec_fields.specs.Prelude.{some, length, T}
 pub use Rattle.text.specs.Text.{Text}
 pub use Rattle.spec_fields.specs.Refusal.{numberOf, isZeroOr, room, settings, long, header}
 pub use Rattle.spec_fields.specs.Refusal.{character, name, limit, tail, shape, place, accepted}

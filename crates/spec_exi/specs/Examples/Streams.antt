@@ -1,10 +1,11 @@
--- Streams that show each of the scope's "mistakes that look right", which have its numbers here, and
--- more of what tables and grammars hold.
-use mathlib.Core.List.{List, [], _∷_}
+-- Streams for what tables and grammars hold, and for each setting.
+use Rattle.spec_fields.specs.Prelude.{List, [], _∷_}
 use Rattle.spec_fields.specs.Refusal.{loose, refused}
-use Rattle.spec_exi.specs.Examples.{Example, inBits, inOctets, example, twoLines, beginIn}
-use Rattle.spec_exi.specs.Examples.{begin, attrIn, attr, chars, end, whole}
+use Rattle.spec_exi.specs.Examples.{Example, numbers, inBits, inOctets, twoLines, example}
+use Rattle.spec_exi.specs.Examples.{beginIn, begin, attrIn, attr, chars, remark, instruct}
+use Rattle.spec_exi.specs.Examples.{end, whole}
 
+-- The scope's "mistakes that look right", by its numbers, and more of tables and grammars.
 unfoldable pub mistakes : List Example
 mistakes =
     -- 1: <r><a>x</a><b>x</b><b>y</b><b>y</b></r>. The value x under another name is a global hit
@@ -49,5 +50,31 @@ mistakes =
     -- content.
     ∷ example inOctets "80 01 02 61 01 01 02 6B 03 78 01 01 01 00 01 00" (refused loose 3)
     -- <a k="x" k="x"/> with a global hit for the second x, where a local one exists.
-    ∷ example inOctets "80 01 02 61 01 01 02 6B 03 78 00 01" (refused loose 3)
-    ∷ []
+    ∷ example inOctets "80 01 02 61 01 01 02 6B 03 78 00 01" (refused loose 3) ∷ []
+
+-- Comments and instructions kept, and the cookie.
+unfoldable pub kept : List Example
+kept =
+    -- Comments alone: <!--1--><a><!--2--><!--3--></a><!--4-->. CM is 1.0, 0.4.0, 1.2.0 and 1.0; its
+    -- last part is the one of its level, and has no bits.
+    example (numbers (1 ∷ 0 ∷ 1 ∷ []))
+    "80 01 01 31 00 01 02 61 04 01 32 01 02 01 33 00 01 01 34 00"
+    (whole (remark "1" ∷ begin "a" ∷ remark "2" ∷ remark "3" ∷ end ∷ remark "4" ∷ []))
+    -- An empty one.
+    ∷ example (numbers (1 ∷ 0 ∷ 1 ∷ [])) "80 01 00 00 01 02 61 00 00"
+    (whole (remark "" ∷ begin "a" ∷ end ∷ []))
+    -- Instructions alone: <?p 1?><a><?p 2?><?p 3?></a><?p 4?>. PI has closed up: it is 1.0, 0.4.0,
+    -- 1.2.0 and 1.0.
+    ∷ example (numbers (0 ∷ 0 ∷ 0 ∷ 1 ∷ []))
+    "80 80 B8 00 98 90 26 18 02 E0 02 65 80 5C 00 4C D0 17 00 13 40"
+    (whole (instruct "p" "1" ∷ begin "a" ∷ instruct "p" "2" ∷ instruct "p" "3" ∷ end
+    ∷ instruct "p" "4" ∷ []))
+    -- Both: <!--1--><?p 2?><a><!--3--><?p 4?><b><?p 5?><!--6--></b></a><!--7--><?p 8?>. CM and PI
+    -- have a last part, 0 and 1.
+    ∷ twoLines (numbers (1 ∷ 0 ∷ 1 ∷ 1 ∷ []))
+    "80 01 00 01 31 01 01 01 70 01 32 00 01 02 61 04 00 01 33 01 02 01 01 70 01 34 01 00 01 02 62"
+    "04 01 01 70 01 35 01 02 00 01 36 00 01 01 00 01 37 01 01 01 70 01 38 00"
+    (whole (remark "1" ∷ instruct "p" "2" ∷ begin "a" ∷ remark "3" ∷ instruct "p" "4" ∷ begin "b"
+    ∷ instruct "p" "5" ∷ remark "6" ∷ end ∷ end ∷ remark "7" ∷ instruct "p" "8" ∷ []))
+    -- The cookie, before K2.
+    ∷ example (numbers (0 ∷ 1 ∷ [])) "24 45 58 49 80 40 98 40" (whole (begin "a" ∷ end ∷ [])) ∷ []
