@@ -50,8 +50,8 @@ extern "C" {
 #define PLUMETHRIFT_EVENT_CELLS 36864       /* reader: events, 9 cells for each of 4,096 */
 #define PLUMETHRIFT_TEXT_CELLS 16384        /* reader: text store, one code point a cell */
 #define PLUMETHRIFT_STREAM_OCTETS 16384     /* writer: octets; the reader takes no longer stream */
-#define PLUMETHRIFT_READER_WORK_CELLS 4096  /* reader: work memory */
-#define PLUMETHRIFT_WRITER_WORK_CELLS 20480 /* writer: work memory */
+#define PLUMETHRIFT_READER_WORK_CELLS 18432 /* reader: work memory */
+#define PLUMETHRIFT_WRITER_WORK_CELLS 34816 /* writer: work memory */
 
 /* Cells of one event. */
 #define PLUMETHRIFT_CELLS_PER_EVENT 9
@@ -60,7 +60,7 @@ extern "C" {
  * Settings of a stream. They travel outside it: reader and writer have to be given the same. A
  * number other than those named here is refused (SETTINGS). All zero, as from `= {0}`, is
  * bit-packed, no cookie, nothing kept: name the members that differ, and leave out the others, as
- * in `= {.alignment = PLUMETHRIFT_BYTE_ALIGNED}`.
+ * in `= {.alignment = PLUMETHRIFT_BYTE_ALIGNED}`; in C++17, assign to members of a `= {}`.
  *
  * The last six are for what this version does not do: as yet, a number other than 0 is refused. The
  * struct stays as it is when they get their meanings.
@@ -121,15 +121,15 @@ enum plumethrift_string_of_an_event {
  * is 0 for ROOM, SETTINGS, LONG and HEADER, and counts all events for TAIL.
  *
  * LIMIT speaks of these sizes: 4,096 events; 100 elements open at once; 16 URIs and 128 local names
- * over all URIs, with those that every stream begins with (3 and 6); 512 distinct values that are
- * not empty; 64 element grammars; 512 learned productions; 1,024 code points in a string; 16,384 in
+ * over all URIs, with those that every stream begins with (3 and 6); 2,048 distinct values that are
+ * not empty; 64 element grammars; 512 learned productions; 4,096 code points in a string; 16,384 in
  * the reader's text store.
  */
 enum plumethrift_refusal {
   PLUMETHRIFT_OK = 0,        /* not refused */
   PLUMETHRIFT_ROOM = 1,      /* a lent part is shorter than asked for */
   PLUMETHRIFT_SETTINGS = 2,  /* a settings number has no meaning */
-  PLUMETHRIFT_LONG = 3,      /* reader: the input is over 16,384 octets; writer: it would be */
+  PLUMETHRIFT_LONG = 3,      /* over 16,384 octets: the reader's input, or the writer's result */
   PLUMETHRIFT_HEADER = 4,    /* an octet differs from the header that the settings ask for */
   PLUMETHRIFT_ENDED = 5,     /* the input ends inside the header or a field */
   PLUMETHRIFT_CODE = 6,      /* an event code part names no production */

@@ -154,15 +154,15 @@ pub valuesAt-is : valuesAt ≡ 432
 unfolding urisAt namesAt valuesAt maxUris maxNames
 valuesAt-is = refl
 
-pub learnedAt-is : learnedAt ≡ 1968
+pub learnedAt-is : learnedAt ≡ 6576
 unfolding urisAt namesAt valuesAt learnedAt maxUris maxNames maxValues
 learnedAt-is = refl
 
-pub grammarsAt-is : grammarsAt ≡ 3504
+pub grammarsAt-is : grammarsAt ≡ 8112
 unfolding urisAt namesAt valuesAt learnedAt grammarsAt maxUris maxNames maxValues maxLearned
 grammarsAt-is = refl
 
-pub tableCells-is : tableCells ≡ 3696
+pub tableCells-is : tableCells ≡ 8304
 unfolding urisAt namesAt valuesAt learnedAt grammarsAt tableCells maxUris maxNames maxValues maxLearned maxGrammars
 tableCells-is = refl
 

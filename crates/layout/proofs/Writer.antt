@@ -6,7 +6,7 @@ use Rattle.spec_exi.specs.Sizes.{maxUris, maxNames, maxValues, maxLearned, maxG
 use Rattle.layout.specs.Layout.{urisAt, namesAt, valuesAt, learnedAt, grammarsAt, tableCells}
 use Rattle.layout.specs.Writer.{storeAt}
 
-pub storeAt-is : storeAt ≡ 4096
+pub storeAt-is : storeAt ≡ 18432
 unfolding storeAt readerWork
 storeAt-is = refl
 

@@ -57,7 +57,7 @@ module _ (w : List ℕ) (st : State) (name : ℕ) {p : Pushed} (push : p ≡ pus
   unfolding entered withGrammarRow
   enter-deep e = let d = sym room ∙ not-true (p .ok) e in (rw d, rw d)
 
-  module _ (e : not (p .ok) ≡ false) {known : Bool} (asked : known ≡ hasKey name (rows w 3504 (st .grammars))) where
+  module _ (e : not (p .ok) ≡ false) {known : Bool} (asked : known ≡ hasKey name (rows w 8112 (st .grammars))) where
     within : ltb (st .stack .depth) maxOpen ≡ true
     within = sym room ∙ not-false (p .ok) e
 
@@ -72,7 +72,7 @@ module _ (w : List ℕ) (st : State) (name : ℕ) {p : Pushed} (push : p ≡ pus
         (k : known ≡ false)
         {added : Bool}
         {w′ : List ℕ}
-        (add : (added ≡ ltb (st .grammars) 64) × (w′ ≡ withRowBelow 64 w 3504 (st .grammars) (grammarRowOf name))) where
+        (add : (added ≡ ltb (st .grammars) 64) × (w′ ≡ withRowBelow 64 w 8112 (st .grammars) (grammarRowOf name))) where
       grammar-written : w′ ≡ withGrammarRow w st name
       unfolding withGrammarRow maxGrammars
       grammar-written = rw (grammarsAt-is, ← asked, k, within) (add .1)
@@ -127,7 +127,7 @@ module _ (w : List ℕ) (st : State) (kind name : ℕ) where
         rw two,
       )
 
-  pub learn-room : Room w learnedAt maxLearned → st .learned < 512 → {v : List ℕ} → v ≡ withTurn w st kind name → Room v 1968 (st .learned + 1)
+  pub learn-room : Room w learnedAt maxLearned → st .learned < 512 → {v : List ℕ} → v ≡ withTurn w st kind name → Room v 6576 (st .learned + 1)
   unfolding maxLearned
   learn-room r few turn =
       let r′ = rw learnedAt-is at r in
@@ -160,7 +160,7 @@ module _ (w : List ℕ) (st : State) (kind : ℕ) (teaches : Bool) (name : ℕ) 
           (rw (not-false teaches e, less, ← turn .0, o), rw (not-false teaches e, less, ← turn .0, o) (turn .1))
 
       pub grow-learnt : not (t .ok) ≡ false → {key : ℕ} → key ≡ keyOf st → {v′ : List ℕ}
-          → v′ ≡ withRow v 1968 (st .learned) (record { key = key; place = kind; size = name })
+          → v′ ≡ withRow v 6576 (st .learned) (record { key = key; place = kind; size = name })
           → Outcome w st kind teaches name
           (record { ok = true; state = regrown (t .state) (st .learned + 1) (t .state .grammars) (t .state .mode) (t .state .stack) })
           v′

@@ -23,21 +23,21 @@ stored-test true m n = not-over m n
 stored-test false m n = refl
 
 module _ (x : Text) (literal : Bool) (stored : ℕ) (allowed left : Bool) where
-  pub too-long : 1024 < length x → 12 ≡ faultNumber (stringFault x literal stored allowed left)
+  pub too-long : 4096 < length x → 12 ≡ faultNumber (stringFault x literal stored allowed left)
   unfolding faultNumber stringFault firstFailed short maxString numberOf
-  too-long h = rw (lt-leb (length x) 1024 h)
+  too-long h = rw (lt-leb (length x) 4096 h)
 
-  module _ (fits : length x ≤ 1024) where
+  module _ (fits : length x ≤ 4096) where
     pub too-much : literal && ltb 16384 (stored + length x) ≡ true → 12 ≡ faultNumber (stringFault x literal stored allowed left)
     unfolding faultNumber stringFault firstFailed short maxString maxStore numberOf
-    too-much h = rw (le-leb (length x) 1024 fits, stored-test literal 16384 (stored + length x), h)
+    too-much h = rw (le-leb (length x) 4096 fits, stored-test literal 16384 (stored + length x), h)
 
     -- cs is whether it has only Chars.
     module _ (room : literal && ltb 16384 (stored + length x) ≡ false) (cs : Bool) (e : cs ≡ allChars x) where
       -- The two limits are kept: the tests that are left.
       tests-left : stringFault x literal stored allowed left ≡ firstFailed ((cs, character) ∷ (allowed, name) ∷ (left, limit) ∷ [])
       unfolding stringFault firstFailed short maxString maxStore
-      tests-left = rw (le-leb (length x) 1024 fits, stored-test literal 16384 (stored + length x), room, e)
+      tests-left = rw (le-leb (length x) 4096 fits, stored-test literal 16384 (stored + length x), room, e)
 
       pub no-char : not cs ≡ true → 8 ≡ faultNumber (stringFault x literal stored allowed left)
       unfolding faultNumber firstFailed numberOf

@@ -43,7 +43,7 @@ padded-there zero bs h = refl
 padded-there (suc n) [] h = absurd (omega arith)
 padded-there (suc n) (b ∷ bs) h = ap (λ r. b ∷ r) (padded-there n bs (omega arith))
 
-value-append : (a b : Bits) → valueOf (a ++ b) ≡ valueOf a * 2 ^ length b + valueOf b
+pub value-append : (a b : Bits) → valueOf (a ++ b) ≡ valueOf a * 2 ^ length b + valueOf b
 unfolding valueOf
 value-append [] b = omega arith
 value-append (x ∷ a) b = rw (value-append a b, length-append a b, pow-add 2 (length a) (length b)) (omega arith)
@@ -56,7 +56,7 @@ ahead-is n bs = ap valueOf (padded-is n n bs (omega arith))
 pub ahead-there : (n : ℕ) (bs : Bits) → n ≤ length bs → ahead n bs ≡ valueOf (take n bs)
 ahead-there n bs h = ahead-is n bs ∙ ap valueOf (padded-there n bs h)
 
-ahead-bound : (n : ℕ) (bs : Bits) → ahead n bs < 2 ^ n
+pub ahead-bound : (n : ℕ) (bs : Bits) → ahead n bs < 2 ^ n
 ahead-bound n bs = rw (ahead-is n bs) (rw (length-padded n bs) at (value-bound (padded n bs)))
 
 pub ahead-add : (a b : ℕ) (bs : Bits) → ahead (a + b) bs ≡ ahead a bs * 2 ^ b + ahead b (drop a bs)
@@ -71,7 +71,7 @@ ahead-add a b bs =
     )
 
 -- The n bits after a bits, cut out of more.
-cut : (a n b : ℕ) (bs : Bits) → ahead (a + n + b) bs / 2 ^ b % 2 ^ n ≡ ahead n (drop a bs)
+pub cut : (a n b : ℕ) (bs : Bits) → ahead (a + n + b) bs / 2 ^ b % 2 ^ n ≡ ahead n (drop a bs)
 cut a n b bs =
     rw (
       ahead-add (a + n) b bs,
@@ -79,13 +79,6 @@ cut a n b bs =
       ahead-add a n bs,
       low (ahead a bs) n (ahead-bound n (drop a bs)),
     )
-
--- The first n of w bits.
-pub front : (n w : ℕ) (bs : Bits) → n ≤ w → ahead w bs / 2 ^ (w - n) ≡ ahead n bs
-front n w bs h =
-    let b = w - n in
-    let e : w ≡ n + b = omega arith in
-    ap (λ k. ahead k bs / 2 ^ b) e ∙ rw (ahead-add n b bs) (high (ahead n bs) b (ahead-bound b (drop n bs)))
 
 -- ---- octets
 
@@ -102,7 +95,7 @@ unfolding ahead unpack each bitsOf valueOf
 first-octet [] h = refl
 first-octet (o ∷ s) h = value-of-bits 8 o h
 
-octet-ahead : (s : List ℕ) (i : ℕ) {o : ℕ} → Octet s i o → ahead 8 (drop (8 * i) (unpack s)) ≡ o
+pub octet-ahead : (s : List ℕ) (i : ℕ) {o : ℕ} → Octet s i o → ahead 8 (drop (8 * i) (unpack s)) ≡ o
 octet-ahead s i {o} h =
     let e : getD (drop i s) 0 0 ≡ o = getD-drop i s 0 0 ∙ ap (λ k. getD s k 0) (add-zero i) ∙ sym (h .is) in
     let l : getD (drop i s) 0 0 < 256 = rw e (h .small) in

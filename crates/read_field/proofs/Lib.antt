@@ -1,5 +1,6 @@
 pub mod Ahead
+pub mod Window
 pub mod View
 pub mod Numbers
 pub mod Groups
-pub mod Doubling
+pub mod Zeros

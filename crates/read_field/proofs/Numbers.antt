@@ -1,14 +1,15 @@
 -- What n bits or their octets at a position are: the number of the bits ahead, or ENDED where the stream has fewer.
 use mathlib.Core.Path.{_≡_, refl, sym, ap, _∙_}
 use mathlib.Core.List.{List, [], _∷_}
-use Prim.Native.Nat.{ℕ, zero, suc, _+_, _*_, _-_, _/_, _^_, _≤_, _<_}
-use native.Mathlib.Nat.{add-zero}
+use Prim.Native.Nat.{ℕ, zero, suc, _+_, _*_, _-_, _/_, _%_, _^_, _≤_, _<_}
 use native.Mathlib.Omega.{arith}
 use lib.ListN.{length, take, drop, length-drop}
 use lib.Seq.{drop-drop}
+use lib.Pow.{shl-exact, shl-lt}
+use lib.Bits.{bitAnd}
 use lib.Dec.{leb}
 use borrow.Author.Tests.{leb-true, leb-false}
-use Rattle.spec_fields.specs.Bits.{Bits, unpack, octetsFrom, octetsFor}
+use Rattle.spec_fields.specs.Bits.{Bits, valueOf, unpack, octetsFrom, octetsFor}
 use Rattle.spec_fields.specs.Refusal.{ended, numberOf}
 use Rattle.spec_fields.specs.Parser.{bad, got, return, andThen, _>>=_, times}
 use Rattle.spec_fields.specs.Field.{bitPacked, byteAligned, bit, octet, littleValue, numberField}
@@ -16,8 +17,9 @@ use Rattle.spec_fields.proofs.Tests.{split}
 use Rattle.spec_fields.proofs.Pack.{length-unpack}
 use Rattle.read_field.specs.declared.Field.the-variants.{Value, Refused}
 use Rattle.read_field.specs.View.{fieldAt, InStream}
-use Rattle.read_field.specs.Parts.{ahead, Peeked}
-use Rattle.read_field.proofs.Ahead.{ahead-there, ahead-add, front}
+use Rattle.read_field.specs.Parts.{ahead, Octet, Peeked}
+use Rattle.read_field.proofs.Ahead.{ahead-there, ahead-add, ahead-bound}
+use Rattle.read_field.proofs.Window.{masked, spare, window}
 use Rattle.read_field.proofs.View.{field-got, field-bad}
 
 times-bits : (n : ℕ) (bs : Bits) → n ≤ length bs → times n bit bs ≡ got (take n bs) (drop n bs)
@@ -72,6 +74,22 @@ octets-ended : (n : ℕ) (bs : Bits) → length bs < 8 * octetsFor n → numberF
 unfolding numberField _>>=_ andThen
 octets-ended n bs h = rw (few-octets (octetsFor n) bs h)
 
+-- At most two octets, the least significant first: their bits as 16 with zeros behind them, and the
+-- octets of that number exchanged.
+little : (k : ℕ) (bs : Bits) → k ≤ 2
+    → ahead (k * 8) bs * 2 ^ (16 - k * 8) % 256 * 256 + ahead (k * 8) bs * 2 ^ (16 - k * 8) / 256
+    ≡ littleValue (octetsFrom k bs)
+unfolding ahead octetsFrom littleValue valueOf
+little zero bs h = omega arith
+little (suc zero) bs h = omega (arith, ahead-bound 8 bs)
+little (suc (suc zero)) bs h =
+    rw (ahead-add 8 8 bs) (omega (arith, ahead-bound 8 bs, ahead-bound 8 (drop 8 bs)))
+little (suc (suc (suc k))) bs h = absurd (omega arith)
+
+-- A number is no refusal.
+apart : {X : Type 0} {v q r : ℕ} → Value v q ≡ Refused r → X
+apart e = let z : _≡_ {A = ℕ} 0 1 = cc in absurd (omega arith)
+
 -- ---- at a position
 
 module _ (s : List ℕ) (at : ℕ) where
@@ -84,54 +102,95 @@ module _ (s : List ℕ) (at : ℕ) where
   pub octet-past : at ≤ 8 * length s → 8 * length s < at + 8 → octet (drop at (unpack s)) ≡ bad ended
   octet-past h l = octet-ended (drop at (unpack s)) (omega (arith, left))
 
-  -- n bits are the first of the w bits ahead.
-  bits-at : (n w x : ℕ) → x ≡ ahead w (drop at (unpack s)) → n ≤ w → at + n ≤ 8 * length s
-      → Value (x / 2 ^ (w - n)) (at + n) ≡ fieldAt (numberField bitPacked n) s at
-  bits-at n w x e h l =
+  bits-there : (n : ℕ) → at + n ≤ 8 * length s
+      → fieldAt (numberField bitPacked n) s at ≡ Value (ahead n (drop at (unpack s))) (at + n)
+  bits-there n l =
       let bs = drop at (unpack s) in
-      let v : x / 2 ^ (w - n) ≡ ahead n bs = rw e (front n w bs h) in
       let g = bits-got n bs (omega (arith, left)) in
-      rw v (sym (field-got (numberField bitPacked n) s at (ahead n bs) (at + n) l (rw (← drop-drop n at (unpack s)) g)))
-
-  pub one-peek : (n : ℕ) {x : ℕ} → Peeked s at x → n ≤ 8 → at + n ≤ 8 * length s
-      → Value (x / 2 ^ (8 - n)) (at + n) ≡ fieldAt (numberField bitPacked n) s at
-  one-peek n {x} p h l = bits-at n 8 x (p .is) h l
-
-  pub two-peeks : (n : ℕ) {x y : ℕ} → Peeked s at x → Peeked s (at + 8) y → n ≤ 16 → at + n ≤ 8 * length s
-      → Value ((x * 256 + y) / 2 ^ (16 - n)) (at + n) ≡ fieldAt (numberField bitPacked n) s at
-  two-peeks n {x} {y} p p′ h l =
-      let bs = drop at (unpack s) in
-      let e : ahead 16 bs ≡ x * 256 + y = ahead-add 8 8 bs ∙ rw (drop-drop 8 at (unpack s), p .is, p′ .is) in
-      bits-at n 16 (x * 256 + y) (sym e) h l
+      field-got (numberField bitPacked n) s at (ahead n bs) (at + n) l
+      (rw (← drop-drop n at (unpack s)) g)
 
   pub bits-past : (n : ℕ) → InStream s at → 8 * length s < at + n → Refused 5 ≡ fieldAt (numberField bitPacked n) s at
   unfolding numberOf
   bits-past n h l =
-      sym (field-bad (numberField bitPacked n) s at ended (bits-ended n (drop at (unpack s)) (omega (arith, left, h .place))))
+      let e = bits-ended n (drop at (unpack s)) (omega (arith, left, h .place)) in
+      sym (field-bad (numberField bitPacked n) s at ended e)
 
-  -- k octets, least significant first.
-  octets-at : (n k v q : ℕ) → octetsFor n ≡ k → q ≡ at + 8 * k → q ≤ 8 * length s → v ≡ littleValue (octetsFrom k (drop at (unpack s)))
-      → Value v q ≡ fieldAt (numberField byteAligned n) s at
-  octets-at n k v q e j l i =
-      let g = octets-got n k (drop at (unpack s)) e (omega (arith, left)) in
-      sym (field-got (numberField byteAligned n) s at v q l (rw (i, j, ← drop-drop (8 * k) at (unpack s)) g))
+  -- No bits.
+  pub bits-none : {n : ℕ} → n ≡ 0 → at + n ≤ 8 * length s
+      → Value 0 (at + n) ≡ fieldAt (numberField bitPacked n) s at
+  unfolding ahead valueOf
+  bits-none {n} e l =
+      sym (bits-there n l ∙ ap (λ k. Value (ahead k (drop at (unpack s))) (at + n)) e)
 
-  pub no-octet : {n q : ℕ} → n ≡ 0 → q ≡ at → q ≤ 8 * length s → Value 0 q ≡ fieldAt (numberField byteAligned n) s at
-  unfolding octetsFor octetsFrom littleValue
-  no-octet {n} {q} h e l = octets-at n 0 0 q (omega arith) (omega arith) l refl
+  -- n bits, cut out of a window of three octets.
+  pub bits-cut : (n : ℕ) {x y z : ℕ} → 0 < n → n ≤ 16 → at + n ≤ 8 * length s → Octet s (at / 8) x
+      → Octet s ((at / 8 + (at + n - 1) / 8) / 2) y → Octet s ((at + n - 1) / 8) z
+      → Value (bitAnd ((x * 65536 + y * 256 + z) / 2 ^ spare at n) ((1 * 2 ^ n) % 2 ^ 32 - 1)) (at + n)
+      ≡ fieldAt (numberField bitPacked n) s at
+  bits-cut n {x} {y} {z} p h l hx hy hz =
+      let w = (x * 65536 + y * 256 + z) / 2 ^ spare at n in
+      rw (masked w n h, window s at n p h hx hy hz) (sym (bits-there n l))
 
-  pub one-octet : {n q x : ℕ} → Peeked s at x → 0 < n → n ≤ 8 → q ≡ at + 8 → q ≤ 8 * length s
-      → Value x q ≡ fieldAt (numberField byteAligned n) s at
-  unfolding octetsFor octetsFrom littleValue ahead
-  one-octet {n} {q} {x} p h h′ e l = octets-at n 1 x q (omega arith) (omega arith) l (p .is ∙ sym (add-zero _))
+  -- ---- the octets that hold n bits are k: from the number of their bits
 
-  pub two-octets : {n q x y : ℕ} → Peeked s at x → Peeked s (at + 8) y → 8 < n → n ≤ 16 → q ≡ at + 16 → q ≤ 8 * length s
-      → Value (x + y * 256) q ≡ fieldAt (numberField byteAligned n) s at
-  unfolding octetsFor octetsFrom littleValue ahead
-  two-octets {n} {q} {x} {y} p p′ h h′ e l =
-      octets-at n 2 (x + y * 256) q (omega arith) (omega arith) l (rw (drop-drop 8 at (unpack s)) (omega (arith, p .is, p′ .is)))
+  module _ (n k : ℕ) (i : (n + 7) / 8 ≡ k) (h : InStream s at) where
+    octets-there : at + k * 8 ≤ 8 * length s
+        → fieldAt (numberField byteAligned n) s at
+        ≡ Value (littleValue (octetsFrom k (drop at (unpack s)))) (at + k * 8)
+    unfolding octetsFor
+    octets-there l =
+        let v = littleValue (octetsFrom k (drop at (unpack s))) in
+        let e : at + 8 * k ≡ at + k * 8 = omega arith in
+        let g = octets-got n k (drop at (unpack s)) i (omega (arith, left)) in
+        field-got (numberField byteAligned n) s at v (at + k * 8) l
+        (rw (← e, ← drop-drop (8 * k) at (unpack s)) g)
 
-  pub octets-past : (n : ℕ) → InStream s at → 8 * length s < at + (n + 7) / 8 * 8 → Refused 5 ≡ fieldAt (numberField byteAligned n) s at
-  unfolding numberOf octetsFor
-  octets-past n h l =
-      sym (field-bad (numberField byteAligned n) s at ended (octets-ended n (drop at (unpack s)) (omega (arith, left, h .place))))
+    octets-past : 8 * length s < at + k * 8 → Refused 5 ≡ fieldAt (numberField byteAligned n) s at
+    unfolding numberOf octetsFor
+    octets-past l =
+        let e = octets-ended n (drop at (unpack s)) (omega (arith, left, h .place)) in
+        sym (field-bad (numberField byteAligned n) s at ended e)
+
+    pub octets-none : {r : ℕ} → fieldAt (numberField bitPacked (k * 8)) s at ≡ Refused r
+        → Refused r ≡ fieldAt (numberField byteAligned n) s at
+    octets-none e =
+        split (leb (at + k * 8) (8 * length s))
+        (λ t. apart (sym (bits-there (k * 8) (leb-true (at + k * 8) (8 * length s) t)) ∙ e))
+        (λ t.
+        let l = leb-false (at + k * 8) (8 * length s) t in
+        sym e ∙ sym (bits-past (k * 8) h l) ∙ octets-past l)
+
+    module _ {v q : ℕ} (few : k ≤ 2)
+        (e : fieldAt (numberField bitPacked (k * 8)) s at ≡ Value v q) where
+      inside : at + k * 8 ≤ 8 * length s
+      inside =
+          split (leb (at + k * 8) (8 * length s)) (λ t. leb-true (at + k * 8) (8 * length s) t)
+          (λ t. apart (sym e ∙ sym (bits-past (k * 8) h (leb-false (at + k * 8) (8 * length s) t))))
+
+      same : Value (ahead (k * 8) (drop at (unpack s))) (at + k * 8) ≡ Value v q
+      same = sym (bits-there (k * 8) inside) ∙ e
+
+      is : v ≡ ahead (k * 8) (drop at (unpack s))
+      is = cc same
+
+      below : v < 2 ^ (k * 8)
+      below = rw is (ahead-bound (k * 8) (drop at (unpack s)))
+
+      -- With zeros behind them they are 16.
+      raised : (v * 2 ^ (16 - k * 8)) % 2 ^ 32 ≡ v * 2 ^ (16 - k * 8)
+      raised = shl-exact (k * 8) (16 - k * 8) 32 below (omega arith)
+
+      pub raised-fits : (v * 2 ^ (16 - k * 8)) % 2 ^ 32 < 65536
+      raised-fits =
+          let j : k * 8 + (16 - k * 8) ≡ 16 = omega arith in
+          rw raised (rw j at (shl-lt (k * 8) (16 - k * 8) below))
+
+      pub octets-found : {r : ℕ}
+          → r ≡ (v * 2 ^ (16 - k * 8)) % 2 ^ 32 % 256 * 256 + (v * 2 ^ (16 - k * 8)) % 2 ^ 32 / 256
+          → Value r q ≡ fieldAt (numberField byteAligned n) s at
+      octets-found {r} j =
+          let bs = drop at (unpack s) in
+          let m : r ≡ littleValue (octetsFrom k bs) = j ∙ rw (raised, is) (little k bs few) in
+          let o : at + k * 8 ≡ q = cc same in
+          rw (m, ← o) (sym (octets-there inside))

@@ -1,6 +1,7 @@
 // The fields of a stream, read at a bit position.
 ghost use mathlib.Core.Path.{_≡_};
-ghost use Prim.Native.Nat.{_≤_};
+ghost use Prim.Native.Nat.{_+_, _*_, _/_, _%_, _≤_, _<_};
+ghost use lib.ListN.{length};
 ghost use Rattle.spec_fields.specs.Field.{bitPacked, byteAligned, octet, numberField, width, unsigned};
 ghost use Rattle.read_field.specs.View.{fieldAt, alignmentOf, InStream, NumberIn};
 ghost use Rattle.read_field.specs.Parts.{Octet, Peeked, onward};
@@ -38,7 +39,15 @@ fn peek(s: &[u8], at: usize) -> u32
     ((high * 256 + low) >> (8 - at % 8)) % 256
 }
 
-// n bits, most significant first.
+fn octet_at(s: &[u8], i: usize) -> u32
+    requires { ⌜ i < length (now s) ⌝ }
+    ensures { λ r. ⌜ Octet (now (s .entry)) i r ⌝ }
+{
+    s[i] as u32
+}
+
+// n bits, most significant first, cut out of the octets that they touch: none to three. Where they
+// are fewer the first stands in the window more than once, and the mask takes that away.
 fn bits(s: &[u8], at: usize, n: u32) -> Field
     requires { ⌜ NumberIn (now s) at n 16 ⌝ }
     ensures { λ r. ⌜ r ≡ fieldAt (numberField bitPacked n) (now (s .entry)) at ⌝ }
@@ -47,18 +56,28 @@ fn bits(s: &[u8], at: usize, n: u32) -> Field
     if 8 * s.len() < next {
         return Field::Refused(ENDED);
     }
-    if n <= 8 {
-        return Field::Value {
-            value: peek(s, at) >> (8 - n),
-            next,
-        };
+    if next <= at {
+        return Field::Value { value: 0, next };
     }
-    let high = peek(s, at);
-    let low = peek(s, at + 8);
+    let first = at / 8;
+    let last = (next - 1) / 8;
+    let high = octet_at(s, first);
+    let middle = octet_at(s, (first + last) / 2);
+    let low = octet_at(s, last);
+    let window = high * 65536 + middle * 256 + low;
+    let power: u32 = 1 << n;
     Field::Value {
-        value: (high * 256 + low) >> (16 - n),
+        value: (window >> (7 - (next - 1) % 8)) & (power - 1),
         next,
     }
+}
+
+// The two octets of a number, exchanged.
+pub fn exchanged(x: u32) -> u32
+    requires { ⌜ x < 65536 ⌝ }
+    ensures { λ r. ⌜ r ≡ x % 256 * 256 + x / 256 ⌝ }
+{
+    (x & 255) * 256 + (x >> 8)
 }
 
 // The fewest octets that hold n bits, least significant first.
@@ -66,27 +85,13 @@ fn octets(s: &[u8], at: usize, n: u32) -> Field
     requires { ⌜ NumberIn (now s) at n 16 ⌝ }
     ensures { λ r. ⌜ r ≡ fieldAt (numberField byteAligned n) (now (s .entry)) at ⌝ }
 {
-    let after = at + ((n + 7) / 8 * 8) as usize;
-    if 8 * s.len() < after {
-        return Field::Refused(ENDED);
-    }
-    if n == 0 {
-        return Field::Value {
-            value: 0,
-            next: after,
-        };
-    }
-    if n <= 8 {
-        return Field::Value {
-            value: peek(s, at),
-            next: after,
-        };
-    }
-    let first = peek(s, at);
-    let second = peek(s, at + 8);
-    Field::Value {
-        value: first + second * 256,
-        next: after,
+    let size = (n + 7) / 8 * 8;
+    match bits(s, at, size) {
+        Field::Value { value, next } => Field::Value {
+            value: exchanged(value << (16 - size)),
+            next,
+        },
+        Field::Refused(k) => Field::Refused(k),
     }
 }
 
@@ -113,13 +118,10 @@ pub fn width(m: u32) -> u32
     requires { ⌜ m ≤ 65536 ⌝ }
     ensures { λ r. ⌜ r ≡ width m ⌝ }
 {
-    let mut n: u32 = 0;
-    let mut reach: u32 = 1;
-    while reach < m {
-        reach = reach * 2;
-        n = n + 1;
+    if m == 0 {
+        return 0;
     }
-    n
+    32 - u32::leading_zeros(m - 1)
 }
 
 // The number in the field of a choice among m. It may be m or more, which the caller judges.

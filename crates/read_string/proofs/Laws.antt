@@ -144,31 +144,31 @@ module _ {stream : List ℕ} {at : ℕ} {text : List ℕ} {stored n : ℕ} (fit 
 -- ---- a literal
 
 module _ {stream : List ℕ} {at : ℕ} {text : List ℕ} {stored n : ℕ} where
-  pub literal-long : 1024 < n → LiteralRead stream at text stored n text (record { number = 12; next = at })
+  pub literal-long : 4096 < n → LiteralRead stream at text stored n text (record { number = 12; next = at })
   unfolding readLiteral maxString numberOf
   literal-long h =
       record {
-        outcome = λ s t e. need-failed (leb n 1024) limit _ (lt-leb n 1024 h);
+        outcome = λ s t e. need-failed (leb n 4096) limit _ (lt-leb n 4096 h);
         unchanged = λ _. (refl, refl);
       }
 
-  pub literal-full : n ≤ 1024 → 16384 < stored + n → LiteralRead stream at text stored n text (record { number = 12; next = at })
+  pub literal-full : n ≤ 4096 → 16384 < stored + n → LiteralRead stream at text stored n text (record { number = 12; next = at })
   unfolding readLiteral maxString maxStore numberOf
   literal-full l h =
       record {
         outcome = λ s t e.
-            need-passed (leb n 1024) limit (le-leb n 1024 l)
+            need-passed (leb n 4096) limit (le-leb n 4096 l)
             (need-failed (leb (length (t .store) + n) 16384) limit _ (lt-leb (length (t .store) + n) 16384 (omega arith)));
         unchanged = λ _. (refl, refl);
       }
 
-  pub literal-read : n ≤ 1024 → stored + n ≤ 16384 → {text′ : List ℕ} {r : declared.Literal} → CharactersRead stream at text stored n text′ r
+  pub literal-read : n ≤ 4096 → stored + n ≤ 16384 → {text′ : List ℕ} {r : declared.Literal} → CharactersRead stream at text stored n text′ r
       → LiteralRead stream at text stored n text′ r
   unfolding readLiteral maxString maxStore laid
   literal-read l h c =
       record {
         outcome = λ s t e.
-            need-passed (leb n 1024) limit (le-leb n 1024 l)
+            need-passed (leb n 4096) limit (le-leb n 4096 l)
             (need-passed (leb (length (t .store) + n) 16384) limit (le-leb (length (t .store) + n) 16384 (omega arith))
             (outcome-map (λ x. (literal, laid t x)) (c .outcome s)
             (λ z x y. record { form = refl; place = e; size = y .1; text-is = y .0; ends = h; small = l })));

@@ -86,7 +86,7 @@ fits a b c k m n e =
     (λ g. (ltb-false a k f, ltb-false b m g, ltb-false c n (rw (f, g) at e))))
 
 abbrev short : List ℕ → List ℕ → List ℕ → Bool
-short events text work = ltb (length events) 36864 || ltb (length text) 16384 || ltb (length work) 4096
+short events text work = ltb (length events) 36864 || ltb (length text) 16384 || ltb (length work) 18432
 
 as-post : {s : SettingNumbers} {stream events text work events′ text′ work′ : List ℕ} {r : declared.ReadReply}
     → Answered (answerOf s stream (lent events text work)) (length events) (length text) (length work) events′ text′ work′ r
@@ -105,8 +105,8 @@ module _ (s : SettingNumbers) (stream events text work : List ℕ) {events₁ te
   same-work : length work₁ ≡ length work
   same-work = ap length w ∙ length-replicate {A = ℕ} (length work) 0
 
-  lent-is : (leb 36864 (length events) && leb 16384 (length text) && leb 4096 (length work)) ≡ not (short events₁ text₁ work₁)
-  lent-is = rw (← same-events, ← same-text, ← same-work) (enough (length events₁) (length text₁) (length work₁) 36864 16384 4096)
+  lent-is : (leb 36864 (length events) && leb 16384 (length text) && leb 18432 (length work)) ≡ not (short events₁ text₁ work₁)
+  lent-is = rw (← same-events, ← same-text, ← same-work) (enough (length events₁) (length text₁) (length work₁) 36864 16384 18432)
 
   pub no-room : short events₁ text₁ work₁ ≡ true → {r : declared.ReadReply} → r ≡ refusalOf 1 0
       → ReadPost s stream (lent events text work) (lent events₁ text₁ work₁) r
@@ -129,7 +129,7 @@ module _ (s : SettingNumbers) (stream events text work : List ℕ) {events₁ te
         pub stream-asks : StreamReady stream events₁ text₁ work₁
         unfolding eventCells cellsPerEvent maxEvents maxStore readerWork maxStream
         stream-asks =
-            let (a, b, c) = fits (length events₁) (length text₁) (length work₁) 36864 16384 4096 few in
+            let (a, b, c) = fits (length events₁) (length text₁) (length work₁) 36864 16384 18432 few in
             record {
               size = small;
               cells = a;

@@ -12,7 +12,7 @@ use borrow.Author.Tests.{eqb-true, eqb-false}
 use Rattle.spec_fields.proofs.Tests.{split}
 use Rattle.spec_fields.specs.Field.{Alignment, unsignedBits, choiceBits}
 use Rattle.text.specs.Text.{Text}
-use Rattle.spec_exi.specs.Sizes.{sizes, maxStore}
+use Rattle.spec_exi.specs.Sizes.{sizes, maxString, maxStore}
 use Rattle.spec_exi.specs.Tables.{Slot, Tables, Role, literals, partitionsOf, hit, literal, formOf, formBits, added, tablesAfter, nameAllowed}
 use Rattle.spec_exi.specs.Context.{item, afterItem}
 use Rattle.spec_exi.specs.Strict.{itemBits}
@@ -27,7 +27,7 @@ use Rattle.literal.specs.Fault.{faultNumber, stringFault}
 use Rattle.literal.proofs.Laws.{fault-kept, fault-added, Passed}
 use Rattle.write_field.specs.Written.{Put}
 use Rattle.write_field.proofs.Lengths.{unsigned-length, choice-length}
-use Rattle.write_form.specs.Form.{HitSent}
+use Rattle.write_form.specs.Form.{maxStringBits, HitSent}
 use Rattle.state.specs.Changed.{moved, recounted}
 use Rattle.write_form.specs.declared.Sent.{Sent}
 use Rattle.write_form.proofs.Laws.{sound}
@@ -48,12 +48,13 @@ module _ (t : Tables) (r : Role) (x : Text) {j i : ℕ} (e : formOf (partitionsO
 -- The hit is written, and only the position moves.
 pub record HitPut (a : Alignment) (r : Role) (x : Text) (j i : ℕ) (s w : List ℕ) (st : State) (s′ : List ℕ) (st′ : State) : Type 0 where
   pub put : Put s (st .at) (formBits a (partitionsOf (tablesOf w st) r) (hit j i) x) s′ (st′ .at)
-  pub near : st′ .at ≤ st .at + 65536
+  pub near : st′ .at ≤ st .at + maxStringBits
   pub state : st′ ≡ moved st (st′ .at) (st .stored)
 
 module _ {a : Alignment} {s w s′ : List ℕ} {st st′ : State} {j i : ℕ} (r : Role) (x : Text) (h : Ready s w st)
     (e : formOf (partitionsOf (tablesOf w st) r) x ≡ hit j i) where
   hit-wrote : HitPut a r x j i s w st s′ st′ → Wrote a (item r x ∷ []) s w st s′ w st′
+  unfolding maxString
   hit-wrote p =
       let t : Tables = tablesOf w st in
       record {
@@ -113,7 +114,7 @@ module _ (t : Tables) (r : Role) (x : Text) (e : formOf (partitionsOf t r) x ≡
 -- The literal is written and joins, so that the counts are these.
 pub record LiteralPut (a : Alignment) (r : Role) (x : Text) (u n v : ℕ) (s w : List ℕ) (st : State) (s′ w′ : List ℕ) (st′ : State) : Type 0 where
   pub put : Put s (st .at) (formBits a (partitionsOf (tablesOf w st) r) literal x) s′ (st′ .at)
-  pub near : st′ .at ≤ st .at + 65536
+  pub near : st′ .at ≤ st .at + maxStringBits
   pub state : st′ ≡ recounted st (st′ .at) (st .stored + length x) u n v
   pub after : After (writerMemory w) (writerMemory w′) (countsOf st) (countsAfter (countsOf st) (length x) u n v) r x
   pub moreUris : st .uris ≤ u
@@ -122,6 +123,7 @@ pub record LiteralPut (a : Alignment) (r : Role) (x : Text) (u n v : ℕ) (s w :
 module _ {a : Alignment} {s w s′ w′ : List ℕ} {st st′ : State} (r : Role) (x : Text) {u n v : ℕ} (h : Ready s w st)
     (e : formOf (partitionsOf (tablesOf w st) r) x ≡ literal) where
   literal-wrote : LiteralPut a r x u n v s w st s′ w′ st′ → Wrote a (item r x ∷ []) s w st s′ w′ st′
+  unfolding maxString
   literal-wrote p =
       let t : Tables = tablesOf w st in
       record {

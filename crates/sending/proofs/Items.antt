@@ -10,7 +10,7 @@ use mir.Val.{Fits}
 use Rattle.spec_fields.specs.Field.{Alignment}
 use Rattle.spec_fields.specs.Refusal.{Refusal}
 use Rattle.spec_fields.proofs.Refusal.{refusal-number}
-use Rattle.spec_exi.specs.Sizes.{sizes}
+use Rattle.spec_exi.specs.Sizes.{sizes, maxString}
 use Rattle.spec_exi.specs.Tables.{Tables}
 use Rattle.spec_exi.specs.Context.{Item, afterItem, afterItems}
 use Rattle.spec_exi.specs.Strict.{itemBits, itemsBits}
@@ -109,6 +109,7 @@ wrote-ready h p near = record { blank = put-blank (p .put); near = near; tidy = 
 module _ {a : Alignment} {is : List Item} {s w s′ w′ : List ℕ} {st st′ : State} where
   wrote-then : {js : List Item} {s″ w″ : List ℕ} {st″ : State} → Wrote a is s w st s′ w′ st′ → Wrote a js s′ w′ st′ s″ w″ st″
       → Wrote a (is ++ js) s w st s″ w″ st″
+  unfolding maxString
   wrote-then {js} p q =
       record {
         put = rw (bits-append a (tablesOf w st) is js, ← (p .tables)) (put-then (p .put) (q .put));

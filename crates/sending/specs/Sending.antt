@@ -20,7 +20,7 @@ use Rattle.state.specs.declared.State.{State}
 use Rattle.standing.specs.Standing.{countsOf, Kept}
 use Rattle.literal.specs.Fault.{faultNumber}
 use Rattle.write_field.specs.Written.{blankFrom, Put}
-use Rattle.write_form.specs.Form.{midway}
+use Rattle.write_form.specs.Form.{maxStringBits, midway}
 
 abbrev pub tablesOf : List ℕ → State → Tables
 tablesOf w st = tablesIn (writerMemory w) (countsOf st)
@@ -48,7 +48,7 @@ passed t (i ∷ is) = let later = passed (afterItem t i) is in unlessFailed (fir
 -- The items are written in the strict form, and the tables are what they leave.
 pub record Wrote (a : Alignment) (is : List Item) (stream w : List ℕ) (st : State) (stream′ w′ : List ℕ) (st′ : State) : Type 0 where
   pub put : Put stream (st .at) (itemsBits a (tablesOf w st) is) stream′ (st′ .at)
-  pub near : st′ .at ≤ st .at + 65536 * length is
+  pub near : st′ .at ≤ st .at + maxStringBits * length is
   pub tables : tablesOf w′ st′ ≡ afterItems (tablesOf w st) is
   pub kept : Kept (writerMemory w) st (writerMemory w′) st′
 

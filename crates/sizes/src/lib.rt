@@ -12,13 +12,13 @@ pub const MAX_URIS: usize = 16;
 // Local names over all URIs.
 pub const MAX_NAMES: usize = 128;
 // Distinct non-empty values.
-pub const MAX_VALUES: usize = 512;
+pub const MAX_VALUES: usize = 2048;
 // Element grammars.
 pub const MAX_GRAMMARS: usize = 64;
 // Learned productions in all.
 pub const MAX_LEARNED: usize = 512;
 // Code points of one string.
-pub const MAX_STRING: usize = 1024;
+pub const MAX_STRING: usize = 4096;
 // Code points of the text store.
 pub const MAX_STORE: usize = 16384;
 
@@ -28,6 +28,6 @@ pub const CELLS_PER_EVENT: usize = 9;
 
 pub const EVENT_CELLS: usize = CELLS_PER_EVENT * MAX_EVENTS;
 // Work memory of the reader, and of the writer, which has a text store behind it.
-pub const READER_WORK: usize = 4096;
+pub const READER_WORK: usize = 18432;
 
 pub const WRITER_WORK: usize = READER_WORK + MAX_STORE;

@@ -18,8 +18,8 @@ pub record SettingNumbers : Type 0 where
   pub cookie : ℕ
   pub comments : ℕ
   pub instructions : ℕ
-  -- reserved: 0 is EXI's default (EXI 5.4), and no other number has a meaning yet. Of the two
-  -- for values 0 is unbounded, and a bound n is to be n + 1
+  -- reserved: no number but 0 has a meaning yet. 0 is EXI's default for a fragment, the two for
+  -- values and prefixes (EXI 5.4); strict reading; and no cap. A bound or a cap n is to be n + 1
   pub fragment : ℕ
   pub valueLength : ℕ
   pub valueCapacity : ℕ

@@ -24,7 +24,7 @@ maxNames = 128
 
 -- distinct non-empty values
 unfoldable pub maxValues : ℕ
-maxValues = 512
+maxValues = 2048
 
 -- element grammars
 unfoldable pub maxGrammars : ℕ
@@ -36,7 +36,7 @@ maxLearned = 512
 
 -- code points of one string
 unfoldable pub maxString : ℕ
-maxString = 1024
+maxString = 4096
 
 -- code points of the text store
 unfoldable pub maxStore : ℕ
@@ -48,7 +48,7 @@ cellsPerEvent = 9
 
 -- cells of work memory (ours)
 unfoldable pub readerWork : ℕ
-readerWork = 4096
+readerWork = 18432
 
 -- The sizes that LONG, LIMIT and ROOM speak of. Definitions take them as z: a claim can speak of
 -- two sets.
@@ -66,7 +66,7 @@ pub record Sizes : Type 0 where
   -- cells of work memory
   pub work : ℕ
 
--- The scope's.
+-- The product's.
 abbrev pub sizes : Sizes
 sizes =
     record {
@@ -80,6 +80,23 @@ sizes =
       learned = maxLearned;
       string = maxString;
       store = maxStore;
+      work = readerWork;
+    }
+
+-- The scope's own, before strings and values grew.
+unfoldable pub baseSizes : Sizes
+baseSizes =
+    record {
+      stream = 16384;
+      events = 4096;
+      opened = 100;
+      uris = 16;
+      names = 128;
+      values = 512;
+      grammars = 64;
+      learned = 512;
+      string = 1024;
+      store = 16384;
       work = readerWork;
     }
 

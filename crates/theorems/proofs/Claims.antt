@@ -1,4 +1,8 @@
 -- The claims of specs/Claims.antt: one line each, which points to its proof.
+use native.Mathlib.Omega.{arith}
+use Rattle.spec_exi.specs.Sizes.{maxStream, maxEvents, maxOpen, maxUris, maxNames, maxValues}
+use Rattle.spec_exi.specs.Sizes.{maxGrammars, maxLearned, maxString, maxStore, sizes, baseSizes}
+use Rattle.spec_exi.specs.Sizes.{NoLarger}
 use Rattle.spec_exi.specs.Settings.{settingsOf}
 use Rattle.spec_exi.specs.Reader.{read}
 use Rattle.spec_exi.specs.Writer.{write}
@@ -9,6 +13,23 @@ use Rattle.spec_exi.proofs.Demands as demands
 use Rattle.spec_exi.proofs.Sizes.{accepted-still}
 use Rattle.spec_exi.proofs.Examples.{worked-examples}
 use Rattle.theorems.specs.Claims.{Theorems}
+
+scope-smaller : NoLarger baseSizes sizes
+unfolding baseSizes maxStream maxEvents maxOpen maxUris maxNames maxValues maxGrammars maxLearned
+    maxString maxStore
+scope-smaller =
+    record {
+      stream = omega arith;
+      events = omega arith;
+      opened = omega arith;
+      uris = omega arith;
+      names = omega arith;
+      values = omega arith;
+      grammars = omega arith;
+      learned = omega arith;
+      string = omega arith;
+      store = omega arith;
+    }
 
 pub theorems : Theorems
 theorems =
@@ -53,5 +74,6 @@ theorems =
         store = demands.store r o stream x e;
       };
       larger-sizes = λ y z h. record { accepted-still = accepted-still y z h };
+      scope-sizes = record { accepted-still = accepted-still baseSizes sizes scope-smaller };
       worked-examples = worked-examples;
     }

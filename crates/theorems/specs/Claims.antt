@@ -1,4 +1,4 @@
--- What is proved, of every input (scope, demands 1 to 3). The record `Theorems` at the end is
+-- What is proved, of every input (demands 1 to 3, in words in docs/CLAIMS.md). The record `Theorems` at the end is
 -- proved whole: proofs/Claims.antt has a line for each claim, which points to its proof.
 --
 -- `read`, `write` and `receive` are the answers by definition (crates/spec_exi/specs: Reader,
@@ -103,5 +103,7 @@ pub record Theorems : Type 0 where
   pub lookup : (r : ReaderRoom) (o : SettingNumbers) (stream : List ℕ) (x : Reading)
       → read r o stream ≡ accepted x → Lookup (settingsOf o) x
   pub larger-sizes : (y z : Sizes) → NoLarger y z → LargerSizes y z
+  -- from the scope's own sizes to ours
+  pub scope-sizes : LargerSizes baseSizes sizes
   -- K1 to K12, their replies in numbers, each number pinned, and examples by topic.
   pub worked-examples : WorkedExamples

@@ -16,7 +16,7 @@ use Rattle.spec_fields.specs.Refusal.{Refusal, numberOf, limit, shape, Answer, 
 use Rattle.text.specs.Text.{Text, Span, part}
 use Rattle.spec_exi.specs.Event.{Event, mapEvent}
 use Rattle.spec_exi.specs.Settings.{Settings}
-use Rattle.spec_exi.specs.Sizes.{sizes, maxEvents}
+use Rattle.spec_exi.specs.Sizes.{sizes, maxEvents, maxString}
 use Rattle.spec_exi.specs.Grammar.{isFinished}
 use Rattle.spec_exi.specs.Context.{Context, next}
 use Rattle.spec_exi.specs.Strict.{eventBits}
@@ -34,6 +34,7 @@ use Rattle.literal.specs.Fault.{faultNumber}
 use Rattle.literal.proofs.Laws.{some-fault, fault-none}
 use Rattle.write_field.specs.Written.{written, Put}
 use Rattle.write_field.proofs.Written.{put-then, put-blank, put-nothing}
+use Rattle.write_form.specs.Form.{maxEventBits, maxListBits}
 use Rattle.sending.specs.Sending.{unlessFailed}
 use Rattle.sending.proofs.Items.{some-refusal}
 use Rattle.write_event.specs.Step.{StepReady, eventPassed, Step, Done}
@@ -129,7 +130,7 @@ pub record Running (s : Settings) (cells : List ℕ) (store : Text) (stream₀ w
   pub answer : answerFor maxEvents s w₀ st store cells ≡ shifted (t .events) bits (answerFor (maxEvents - t .events) s w t store (drop cell cells))
   pub passed : passedOf maxEvents s w₀ st store cells ≡ bits ++ passedOf (maxEvents - t .events) s w t store (drop cell cells)
   pub put : Put stream₀ (st .at) bits stream (t .at)
-  pub near : t .at ≤ 64 + 262144 * t .events
+  pub near : t .at ≤ 64 + maxEventBits * t .events
   pub standing : Standing (writerMemory w) t
   pub few : t .events ≤ maxEvents
   pub place : cell ≡ 9 * t .events
@@ -137,6 +138,7 @@ pub record Running (s : Settings) (cells : List ℕ) (store : Text) (stream₀ w
 
 pub running-start : {s : Settings} {cells : List ℕ} {store : Text} {stream w : List ℕ} {st : State} → ((i : ℕ) → Fits w8 (getD stream i 0))
     → RunFits stream w st → Running s cells store stream w st stream w st 0
+unfolding maxString
 running-start {s} {cells} {store} {stream} {w} {st} known h =
     let e : maxEvents - st .events ≡ maxEvents = omega (arith, h .first) in
     record {
@@ -155,8 +157,8 @@ running-start {s} {cells} {store} {stream} {w} {st} known h =
 
 module _ {s : Settings} {cells : List ℕ} {store : Text} {stream₀ w₀ : List ℕ} {st : State} {stream w : List ℕ} {t : State} {cell : ℕ}
     (h : Running s cells store stream₀ w₀ st stream w t cell) where
-  near-end : t .at ≤ 2147483648
-  unfolding maxEvents
+  near-end : t .at ≤ maxListBits
+  unfolding maxEvents maxString
   near-end = omega (arith, h .near, h .few)
 
   -- What is left is refused at its first event.
@@ -236,7 +238,7 @@ module _ {s : Settings} {cells : List ℕ} {store : Text} {stream₀ w₀ : List
       cut-short l = shape-here (events-cut cells cell inside (omega arith))
 
       pub step-asks : RunFits stream₀ w₀ st → StepReady stream w t
-      unfolding maxEvents
+      unfolding maxEvents maxString
       step-asks f =
           record {
             blank = put-blank (h .put);
@@ -265,6 +267,7 @@ module _ {s : Settings} {cells : List ℕ} {store : Text} {stream₀ w₀ : List
 
           pub event-more : r .number ≡ 0
               → Running s cells store stream₀ w₀ st stream′ w′ (reached (r .state) (r .state .at) (r .state .events + 1)) (cell + 9)
+          unfolding maxString
           event-more zero-number =
               let c : Context = contextOf (writerMemory w) t in
               let e′ : Event Text = mapEvent (part store) e in

@@ -17,6 +17,7 @@ use Rattle.layout.specs.Writer.{writerMemory}
 use Rattle.state.specs.declared.State.{State}
 use Rattle.standing.specs.Standing.{contextOf, Standing}
 use Rattle.write_field.specs.Written.{written, blankFrom, Put}
+use Rattle.write_form.specs.Form.{maxListBits}
 use Rattle.sending.specs.Sending.{unlessFailed}
 use Rattle.write_event.specs.Step.{eventPassed}
 use Rattle.write_body.specs.declared.Run.{Run}
@@ -46,4 +47,4 @@ pub record Ran (s : format.Settings) (xs : List Stored) (store : Text) (stream w
       → (r .number ≡ 0) × (r .index ≡ 0) × Put stream (st .at) bs stream′ (r .at)
   pub octets : stream′ ≡ written stream (st .at) (listPassed maxEvents s (contextOf (writerMemory w) st) store xs)
   pub few : r .index ≤ maxEvents
-  pub near : r .at ≤ 2147483648
+  pub near : r .at ≤ maxListBits

@@ -13,7 +13,7 @@ use Rattle.spec_fields.proofs.Refusal.{refusal-number}
 use Rattle.text.specs.Text.{Text, Span, inside, part}
 use Rattle.spec_exi.specs.Event.{Event, startDocument, endDocument, endElement, startElement, attribute, characters, comment, instruction, mapEvent, stringsOf, kindOf, nameOf}
 use Rattle.spec_exi.specs.Settings.{Settings}
-use Rattle.spec_exi.specs.Sizes.{sizes, writerWork}
+use Rattle.spec_exi.specs.Sizes.{sizes, maxEvents, maxString, writerWork}
 use Rattle.spec_exi.specs.Grammar.{State, Production, codeBits, kindNumber}
 use Rattle.spec_exi.specs.Context.{Context, levelsIn, nameItems, items, entriesOf, after, afterCode, next}
 use Rattle.spec_exi.specs.Strict.{itemsBits, eventBits}
@@ -32,6 +32,7 @@ use Rattle.literal.specs.Fault.{faultNumber}
 use Rattle.literal.proofs.Laws.{fault-none, some-fault, none-fault}
 use Rattle.write_field.specs.Written.{written, Put}
 use Rattle.write_field.proofs.Written.{put-then, put-blank, put-nothing}
+use Rattle.write_form.specs.Form.{maxListBits}
 use Rattle.write_form.specs.declared.Sent.{Sent}
 use Rattle.sending.specs.Sending.{tablesOf, passed, Wrote}
 use Rattle.sending.proofs.Items.{some-refusal, sent-wrote}
@@ -97,7 +98,8 @@ module _ {s : Settings} {w : List ℕ} {st : state.State} {ev : Event Text} {str
     code-standing = subst (Standing (writerMemory w)) (sym (enc .moved-is)) (reached-standing (code .state .at) (st .events) stand)
 
     -- What the strings ask.
-    pub items-ask : st .at ≤ 1073741824 → writerWork ≤ length w → ItemsFit stream₁ w (code .state) (code .learned) (code .row) ev
+    pub items-ask : st .at ≤ maxListBits → writerWork ≤ length w → ItemsFit stream₁ w (code .state) (code .learned) (code .row) ev
+    unfolding maxEvents maxString
     items-ask near room =
         record {
           ready = record { blank = put-blank (enc .put); near = omega (arith, enc .near); tidy = code-standing .tidy; room = room };
@@ -180,6 +182,7 @@ module _ {s : Settings} {w : List ℕ} {st : state.State} {ev : Event Text} {str
 
         event-done : Put stream (st .at) (eventBits s (contextOf (writerMemory w) st) ev) stream₂ (r .state .at)
             → Above (r .state .stack) (g .state .stack) → g .ok ≡ true → Done s ev stream w st stream₂ w₃ (g .state)
+        unfolding maxString
         event-done put above ok =
             record {
               put = rw (grew .at) put;

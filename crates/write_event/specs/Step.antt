@@ -21,6 +21,7 @@ use Rattle.state.specs.declared.State.{State}
 use Rattle.standing.specs.Standing.{contextOf, Standing}
 use Rattle.literal.specs.Fault.{faultNumber}
 use Rattle.write_field.specs.Written.{written, blankFrom, Put}
+use Rattle.write_form.specs.Form.{maxEventBits, maxListBits}
 use Rattle.sending.specs.Sending.{passed}
 use Rattle.write_code.specs.Coding.{CodeSent}
 use Rattle.write_code.specs.declared.Coding.{Coding}
@@ -37,14 +38,14 @@ pub record NamedCode (s : Settings) (kind : ℕ) (u l : Text) (w : List ℕ) (st
 
 pub record StepReady (stream w : List ℕ) (st : State) : Type 0 where
   pub blank : T (blankFrom stream (st .at))
-  pub near : st .at ≤ 1073741824
+  pub near : st .at ≤ maxListBits
   pub standing : Standing (writerMemory w) st
   pub room : writerWork ≤ length w
 
 -- The event's bits are written, and memory and state mean what the event leaves.
 pub record Done (s : Settings) (e : Event Text) (stream w : List ℕ) (st : State) (stream′ w′ : List ℕ) (st′ : State) : Type 0 where
   pub put : Put stream (st .at) (eventBits s (contextOf (writerMemory w) st) e) stream′ (st′ .at)
-  pub near : st′ .at ≤ st .at + 262144
+  pub near : st′ .at ≤ st .at + maxEventBits
   pub context : contextOf (writerMemory w′) st′ ≡ next s (contextOf (writerMemory w) st) e
   pub standing : Standing (writerMemory w′) st′
   pub events : st′ .events ≡ st .events

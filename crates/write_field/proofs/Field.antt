@@ -1,115 +1,279 @@
--- Numbers and choices as the octets that they are put together from: what each part asks, and what the parts together leave.
-use mathlib.Core.Path.{_≡_, sym, ap, subst, _∙_}
-use Prim.Native.Nat.{ℕ, _+_, _*_, _-_, _/_, _%_, _^_, _≤_, _<_}
-use native.Mathlib.Nat.{add-zero, lt-of-lt-of-le, mod-lt, mod-eq-of-lt}
+-- Numbers and choices as the parts that they are put together from: what each part asks, and what
+-- the parts together leave.
+use mathlib.Core.Path.{_≡_, refl, sym, ap, ap₂, subst, _∙_}
+use Prim.Native.Nat.{ℕ, zero, suc, _+_, _*_, _-_, _/_, _%_, _^_, _≤_, _<_}
+use native.Mathlib.Nat.{lt-of-lt-of-le, mul-assoc, mul-mod-left}
 use native.Mathlib.Omega.{arith}
 use mathlib.Core.Bool.{false}
-use mathlib.Core.List.{List, _++_, append-nil}
+use mathlib.Core.List.{List, [], _++_, append-nil}
 use lib.ListN.{length, getD, replicate, length-replicate}
-use lib.Pow.{pow-mono, pow-pos, shl-lt, shr-lt}
 use mir.Syntax.{w8}
 use mir.Val.{Fits}
-use Rattle.spec_fields.specs.Bits.{Bits, bitsOf, each, unpack, octetsFor}
-use Rattle.spec_fields.specs.Field.{Alignment, bitPacked, byteAligned, littleEndian, numberBits, width, choiceBits}
+use lib.Pow.{pow-mono, pow-pos, pow-add, shl-lt, shl-exact, shl-shr, shr-lt, shr-shr}
+use lib.Bits.{bitAnd, and-mask, mask-lt}
+use lib.Dec.{T}
+use Rattle.spec_fields.specs.Bits.{bitsOf, each, unpack, octetsFor}
+use Rattle.spec_fields.specs.Field.{Alignment, byteAligned, littleEndian, numberBits}
+use Rattle.spec_fields.specs.Field.{width, choiceBits}
 use Rattle.spec_fields.proofs.Number.{length-bits, bits-of-value, width-enough, width-least}
-use Rattle.write_field.specs.Written.{written, Put, farthest, NumberFits, ChoiceFits, ShortFits}
+use Rattle.write_field.specs.Written.{written, blankFrom, Put, farthest}
+use Rattle.write_field.specs.Written.{NumberFits, ChoiceFits, ShortFits}
 use Rattle.write_field.proofs.Written.{written-zeros, put-then, put-blank, put-nothing}
-use Rattle.write_field.proofs.Octet.{value-zeros, bits-join, raised}
+use Rattle.write_field.proofs.Octet.{value-zeros, bits-join}
 
-widened : {n m v : ℕ} → n ≤ m → v < 2 ^ n → v < 2 ^ m
-widened l h = lt-of-lt-of-le h (pow-mono l)
+-- ---- a window of three octets: the bits of the first one that are used, n bits, and zeros
 
--- The next octet of a field.
-pub next-asks : {buf after : List ℕ} {at r : ℕ} {w : Bits} (o : ℕ) → Put buf at w after r → at + length w ≤ farthest + 64 → o < 256
-    → ShortFits after r 8 o
-next-asks o a l h = record { blank = put-blank a; near = omega (arith, a .next); narrow = omega arith; fits = h }
+abbrev behind : ℕ → ℕ → ℕ
+behind at n = 24 - at % 8 - n
 
--- ---- at most 8 bits: an octet with zeros behind them
+abbrev window : ℕ → ℕ → ℕ → ℕ
+window at n v = (v * 2 ^ behind at n) % 2 ^ 32
+
+abbrev first : ℕ → ℕ → ℕ → ℕ
+first at n v = window at n v / 65536
+
+abbrev second : ℕ → ℕ → ℕ → ℕ
+second at n v = bitAnd (window at n v / 256) 255
+
+abbrev third : ℕ → ℕ → ℕ → ℕ
+third at n v = bitAnd (window at n v) 255
 
 bits-zero : (n : ℕ) → bitsOf n 0 ≡ replicate n false
 bits-zero n = rw (length-replicate n false, value-zeros n) at (bits-of-value (replicate n false))
 
-module _ {buf : List ℕ} {at n v : ℕ} (h : ShortFits buf at n v) where
-  as-octet : bitsOf 8 (v * 256 / 2 ^ n) ≡ bitsOf n v ++ replicate (8 - n) false
-  as-octet =
-      let e : n + (8 - n) ≡ 8 = omega arith in
-      rw (raised v n (h .narrow), ← bits-zero (8 - n)) (rw (e, add-zero (v * 2 ^ (8 - n))) at (bits-join n (8 - n) v 0 (h .fits) (pow-pos (8 - n))))
+-- A product by 2 ^ k has no bit below bit j.
+none-below : (v j k : ℕ) → j ≤ k → v * 2 ^ k % 2 ^ j ≡ 0
+none-below v j k h =
+    let e : k ≡ (k - j) + j = omega arith in
+    let p : 2 ^ k ≡ 2 ^ (k - j) * 2 ^ j = ap (λ x. 2 ^ x) e ∙ pow-add 2 (k - j) j in
+    rw (p, ← mul-assoc v (2 ^ (k - j)) (2 ^ j)) (mul-mod-left (v * 2 ^ (k - j)) (2 ^ j))
 
-  pub short-below : v < 256
-  short-below = widened (h .narrow) (h .fits)
+module _ (at n v : ℕ) (small : n ≤ 16) (fits : v < 2 ^ n) where
+  exact : window at n v ≡ v * 2 ^ behind at n
+  exact = shl-exact n (behind at n) 32 fits (omega arith)
 
-  pub short-asks : ShortFits buf at 8 (v * 256 / 2 ^ n)
-  short-asks =
-      let e : n + (8 - n) ≡ 8 = omega arith in
+  first-fits : first at n v < 2 ^ (8 - at % 8)
+  first-fits =
+      let e : n + behind at n ≡ 8 - at % 8 + 16 = omega arith in
+      rw exact (shr-lt (8 - at % 8) 16 (rw e at (shl-lt n (behind at n) fits)))
+
+  first-none : n ≡ 0 → first at n v ≡ 0
+  first-none e =
+      let z : v < 2 ^ 0 = rw e at fits in
+      let i : v ≡ 0 = omega arith in
+      rw (exact, i) (omega arith)
+
+  second-none : at % 8 + n ≤ 8 → second at n v ≡ 0
+  second-none l =
+      let w = v * 2 ^ behind at n in
+      rw exact (omega (arith, and-mask (w / 256) 8, none-below v 16 (behind at n) (omega arith)))
+
+  third-none : at % 8 + n ≤ 16 → third at n v ≡ 0
+  third-none l =
+      let w = v * 2 ^ behind at n in
+      rw exact (omega (arith, and-mask w 8, none-below v 8 (behind at n) (omega arith)))
+
+  -- The three parts are the field, and zeros.
+  parts :
+      bitsOf (8 - at % 8) (first at n v) ++ (bitsOf 8 (second at n v) ++ bitsOf 8 (third at n v))
+      ≡ bitsOf n v ++ replicate (behind at n) false
+  parts =
+      let w = window at n v in
+      let b = w / 256 % 256 in
+      let d = w % 256 in
+      let mb : second at n v ≡ b = and-mask (w / 256) 8 in
+      let md : third at n v ≡ d = and-mask w 8 in
+      let low = bits-join 8 8 b d (omega arith) (omega arith) in
+      let all = bits-join (8 - at % 8) 16 (first at n v) (b * 256 + d) first-fits (omega arith) in
+      let field = bits-join n (behind at n) v 0 fits (pow-pos (behind at n)) in
+      let a = first at n v in
+      let e : a * 65536 + (b * 256 + d) ≡ v * 2 ^ behind at n + 0 = omega (arith, exact) in
+      let i : (8 - at % 8) + 16 ≡ n + behind at n = omega arith in
+      rw (mb, md, ← low, ← bits-zero (behind at n)) (sym all ∙ ap₂ bitsOf i e ∙ field)
+
+-- ---- n bits
+
+-- Octets, as a slice holds them.
+abbrev Known : List ℕ → Type 0
+Known os = (i : ℕ) → Fits w8 (getD os i 0)
+
+-- Zeros change nothing.
+put-zeros : {buf : List ℕ} {at o : ℕ} (n : ℕ) → Known buf → T (blankFrom buf at) → o ≡ 0
+    → Put buf at (bitsOf n o) buf (at + n)
+put-zeros {buf} {at} {o} n known t e =
+    let w : written buf at (bitsOf n o) ≡ written buf at [] =
+    rw (e, bits-zero n) (written-zeros buf at [] n) in
+    record { octets = put-nothing known t .octets ∙ sym w; next = omega (arith, length-bits n o) }
+
+-- What the parts of n bits ask: at a position that a field was begun before.
+abbrev pub BitsFit : List ℕ → ℕ → ℕ → ℕ → Type 0
+BitsFit buf at n v = T (blankFrom buf at) × (at ≤ farthest + 40) × (n ≤ 16) × (v < 2 ^ n)
+
+module _ (buf : List ℕ) {at n v : ℕ} (h : BitsFit buf at n v) where
+  pub first-asks : ShortFits buf at (8 - at % 8) (first at n v)
+  first-asks =
       record {
-        blank = h .blank;
-        near = h .near;
+        blank = h .0;
+        near = omega arith;
         narrow = omega arith;
-        fits = rw (raised v n (h .narrow)) (rw e at (shl-lt n (8 - n) (h .fits)));
+        fits = first-fits at n v (h .2) (h .3);
       }
 
-  pub put-short : {after : List ℕ} {r : ℕ} → Put buf at (bitsOf 8 (v * 256 / 2 ^ n)) after r → Put buf at (bitsOf n v) after (at + n)
-  put-short a =
-      record {
-        octets = a .octets ∙ ap (written buf at) as-octet ∙ written-zeros buf at (bitsOf n v) (8 - n);
-        next = rw (length-bits n v);
-      }
+  module _ {mid : List ℕ} {p : ℕ} (a : Put buf at (bitsOf (8 - at % 8) (first at n v)) mid p) where
+    second-at : p ≡ at - at % 8 + 8
+    second-at = omega (arith, a .next, length-bits (8 - at % 8) (first at n v))
 
--- ---- n-bit numbers
+    second-whole : 8 - p % 8 ≡ 8
+    second-whole = omega (arith, second-at)
+
+    pub second-asks : ShortFits mid p (8 - p % 8) (second at n v)
+    second-asks =
+        record {
+          blank = put-blank a;
+          near = omega (arith, second-at);
+          narrow = omega arith;
+          fits = rw second-whole (mask-lt (window at n v / 256) 8);
+        }
+
+    module _ {far : List ℕ} {q : ℕ} (b : Put mid p (bitsOf (8 - p % 8) (second at n v)) far q) where
+      third-at : q ≡ at - at % 8 + 16
+      third-at = omega (arith, second-at, b .next, length-bits (8 - p % 8) (second at n v))
+
+      third-whole : 8 - q % 8 ≡ 8
+      third-whole = omega (arith, third-at)
+
+      pub third-asks : ShortFits far q (8 - q % 8) (third at n v)
+      third-asks =
+          record {
+            blank = put-blank b;
+            near = omega (arith, third-at);
+            narrow = omega arith;
+            fits = rw third-whole (mask-lt (window at n v) 8);
+          }
+
+      pub put-three : {after : List ℕ} {r : ℕ}
+          → Put far q (bitsOf (8 - q % 8) (third at n v)) after r → Put buf at (bitsOf n v) after (at + n)
+      put-three c =
+          let all = put-then a (rw second-whole at (put-then b (rw third-whole at c))) in
+          let w = ap (written buf at) (parts at n v (h .2) (h .3)) in
+          record {
+            octets = all .octets ∙ w ∙ written-zeros buf at (bitsOf n v) (behind at n);
+            next = rw (length-bits n v);
+          }
+
+      -- Where the field ends before a part, this part is zeros, and so are those behind it.
+      pub put-two : Known far → at + n ≤ q → Put buf at (bitsOf n v) far (at + n)
+      put-two known l =
+          let z = third-none at n v (h .2) (h .3) (omega (arith, third-at)) in
+          put-three (put-zeros (8 - q % 8) known (put-blank b) z)
+
+    pub put-one : Known mid → at + n ≤ p → Put buf at (bitsOf n v) mid (at + n)
+    put-one known l =
+        let z = second-none at n v (h .2) (h .3) (omega (arith, second-at)) in
+        put-two (put-zeros (8 - p % 8) known (put-blank a) z) known (omega (arith, second-at))
+
+  pub put-none : Known buf → at + n ≤ at → Put buf at (bitsOf n v) buf (at + n)
+  put-none known l =
+      let z = first-none at n v (h .2) (h .3) (omega arith) in
+      put-one (put-zeros (8 - at % 8) known (h .0) z) known (omega arith)
+
+-- ---- an octet: its window has no third part
+
+module _ (at o : ℕ) (h : o < 256) where
+  octet-exact : window at 8 o ≡ o * 2 ^ (16 - at % 8)
+  octet-exact =
+      let e : behind at 8 ≡ 16 - at % 8 = omega arith in
+      exact at 8 o (omega arith) h ∙ ap (λ k. o * 2 ^ k) e
+
+  octet-first : first at 8 o ≡ o / 2 ^ (at % 8)
+  octet-first =
+      let e : 16 - at % 8 + at % 8 ≡ 16 = omega arith in
+      let s = shr-shr (o * 2 ^ (16 - at % 8)) (16 - at % 8) (at % 8) in
+      rw octet-exact (sym (rw e at s) ∙ ap (λ x. x / 2 ^ (at % 8)) (shl-shr o (16 - at % 8)))
+
+  octet-second : second at 8 o ≡ bitAnd ((o * 2 ^ (8 - at % 8)) % 2 ^ 32) 255
+  octet-second =
+      let e : 16 - at % 8 ≡ (8 - at % 8) + 8 = omega arith in
+      let p : 2 ^ (16 - at % 8) ≡ 2 ^ (8 - at % 8) * 2 ^ 8 =
+      ap (λ k. 2 ^ k) e ∙ pow-add 2 (8 - at % 8) 8 in
+      let x = shl-exact 8 (8 - at % 8) 32 h (omega arith) in
+      let d : o * 2 ^ (16 - at % 8) / 256 ≡ o * 2 ^ (8 - at % 8) =
+      rw (p, ← mul-assoc o (2 ^ (8 - at % 8)) (2 ^ 8)) (shl-shr (o * 2 ^ (8 - at % 8)) 8) in
+      rw (octet-exact, d, x)
+
+module _ (buf : List ℕ) {at o : ℕ}
+    (h : T (blankFrom buf at) × (at ≤ farthest + 40) × (o < 256)) where
+  eight : BitsFit buf at 8 o
+  eight = (h .0, h .1, omega arith, h .2)
+
+  pub octet-asks : ShortFits buf at (8 - at % 8) (o / 2 ^ (at % 8))
+  octet-asks =
+      subst (ShortFits buf at (8 - at % 8)) (octet-first at o (h .2)) (first-asks buf eight)
+
+  module _ {mid : List ℕ} {p : ℕ}
+      (a : Put buf at (bitsOf (8 - at % 8) (o / 2 ^ (at % 8))) mid p) where
+    begun : Put buf at (bitsOf (8 - at % 8) (first at 8 o)) mid p
+    begun = subst (λ x. Put buf at (bitsOf (8 - at % 8) x) mid p) (sym (octet-first at o (h .2))) a
+
+    pub octet-whole : Known mid → at % 8 ≡ 0 → Put buf at (bitsOf 8 o) mid (at + 8)
+    octet-whole known e = put-one buf eight begun known (omega (arith, second-at buf eight begun))
+
+    pub rest-asks : ShortFits mid p (8 - p % 8) (bitAnd ((o * 2 ^ (8 - at % 8)) % 2 ^ 32) 255)
+    rest-asks =
+        subst (ShortFits mid p (8 - p % 8)) (octet-second at o (h .2)) (second-asks buf eight begun)
+
+    pub octet-split : {far : List ℕ} {q : ℕ}
+        → Put mid p (bitsOf (8 - p % 8) (bitAnd ((o * 2 ^ (8 - at % 8)) % 2 ^ 32) 255)) far q
+        → Known far → Put buf at (bitsOf 8 o) far (at + 8)
+    octet-split {far} {q} b known =
+        let e = sym (octet-second at o (h .2)) in
+        let c = subst (λ x. Put mid p (bitsOf (8 - p % 8) x) far q) e b in
+        put-two buf eight begun c known (omega (arith, third-at buf eight begun c))
+
+-- ---- the fewest octets that hold n bits
+
+-- At most two octets, the least significant first: the first bits of the number exchanged.
+little : (k v : ℕ) → k ≤ 2 → v < 2 ^ (k * 8)
+    → bitsOf (k * 8) ((v % 256 * 256 + v / 256) / 2 ^ (16 - k * 8)) ≡ unpack (littleEndian k v)
+unfolding littleEndian unpack each bitsOf
+little zero v l h = refl
+little (suc zero) v l h =
+    let e : (v % 256 * 256 + v / 256) / 256 ≡ v % 256 = omega arith in
+    ap (bitsOf 8) e ∙ sym (append-nil (bitsOf 8 (v % 256)))
+little (suc (suc zero)) v l h =
+    let e : (v % 256 * 256 + v / 256) / 1 ≡ v % 256 * 256 + v / 256 % 256 = omega arith in
+    ap (bitsOf 16) e
+    ∙ bits-join 8 8 (v % 256) (v / 256 % 256) (omega arith) (omega arith)
+    ∙ ap (λ b. bitsOf 8 (v % 256) ++ b) (sym (append-nil (bitsOf 8 (v / 256 % 256))))
+little (suc (suc (suc k))) v l h = absurd (omega arith)
 
 module _ {buf : List ℕ} {at n v : ℕ} (h : NumberFits buf at n v) where
-  pub put-packed : {after : List ℕ} {r : ℕ} → Put buf at (bitsOf n v) after r → Put buf at (numberBits bitPacked n v) after r
-  unfolding numberBits
-  put-packed a = a
+  pub as-bits : BitsFit buf at n v
+  as-bits = (h .blank, omega (arith, h .near), h .narrow, h .fits)
 
-  high-fits : 8 < n → v / 256 < 2 ^ (n - 8)
-  high-fits l = let e : (n - 8) + 8 ≡ n = omega arith in shr-lt (n - 8) 8 (rw e (h .fits))
+  pub sixteen : v < 65536
+  sixteen = lt-of-lt-of-le (h .fits) (pow-mono (h .narrow))
 
-  high-octet : v / 256 < 256
-  high-octet = let b : v < 65536 = widened (h .narrow) (h .fits) in omega arith
+  module _ {k x : ℕ} (i : (n + 7) / 8 ≡ k) (e : x ≡ v % 256 * 256 + v / 256) where
+    pub octets-ask : NumberFits buf at (k * 8) (x / 2 ^ (16 - k * 8))
+    octets-ask =
+        let j : k * 8 + (16 - k * 8) ≡ 16 = omega (arith, h .narrow) in
+        let b : x < 2 ^ (k * 8 + (16 - k * 8)) = rw j (omega (arith, sixteen)) in
+        record {
+          blank = h .blank;
+          near = h .near;
+          narrow = omega (arith, h .narrow);
+          fits = shr-lt (k * 8) (16 - k * 8) b;
+        }
 
-  -- Bit-packed, two parts: all but 8 bits, and these.
-  pub high-asks : 8 < n → ShortFits buf at (n - 8) (v / 256)
-  high-asks l = record { blank = h .blank; near = omega arith; narrow = omega arith; fits = high-fits l }
-
-  module _ {mid : List ℕ} {p : ℕ} (l : 8 < n) (a : Put buf at (bitsOf (n - 8) (v / 256)) mid p) where
-    pub low-asks : ShortFits mid p 8 (v % 256)
-    low-asks = next-asks (v % 256) a (rw (length-bits (n - 8) (v / 256)) (omega arith)) (mod-lt v (omega arith))
-
-    pub put-packed-two : {after : List ℕ} {r : ℕ} → Put mid p (bitsOf 8 (v % 256)) after r → Put buf at (numberBits bitPacked n v) after r
-    unfolding numberBits
-    put-packed-two {after} {r} b =
-        let e : (n - 8) + 8 ≡ n = omega arith in
-        let s : v / 256 * 256 + v % 256 ≡ v = omega arith in
-        let w : bitsOf n v ≡ bitsOf (n - 8) (v / 256) ++ bitsOf 8 (v % 256) =
-        rw (e, s) at (bits-join (n - 8) 8 (v / 256) (v % 256) (high-fits l) (mod-lt v (omega arith))) in
-        subst (λ u. Put buf at u after r) (sym w) (put-then a b)
-
-  -- Byte-aligned: no octet, one, or two.
-  pub put-aligned-none : ((i : ℕ) → Fits w8 (getD buf i 0)) → n ≡ 0 → Put buf at (numberBits byteAligned n v) buf at
-  unfolding numberBits littleEndian octetsFor unpack each
-  put-aligned-none known e = rw e (put-nothing known (h .blank))
-
-  pub octet-asks : n ≤ 8 → ShortFits buf at 8 v
-  octet-asks l = record { blank = h .blank; near = omega arith; narrow = omega arith; fits = widened l (h .fits) }
-
-  pub put-aligned-one : {after : List ℕ} {r : ℕ} → 0 < n → n ≤ 8 → Put buf at (bitsOf 8 v) after r
-      → Put buf at (numberBits byteAligned n v) after r
-  unfolding numberBits littleEndian octetsFor unpack each
-  put-aligned-one p l a =
-      let e : (n + 7) / 8 ≡ 1 = omega arith in
-      rw (e, mod-eq-of-lt (widened l (h .fits)), append-nil (bitsOf 8 v)) a
-
-  module _ {mid : List ℕ} {p : ℕ} (a : Put buf at (bitsOf 8 (v % 256)) mid p) where
-    pub second-asks : ShortFits mid p 8 (v / 256)
-    second-asks = next-asks (v / 256) a (rw (length-bits 8 (v % 256)) (omega arith)) high-octet
-
-    pub put-aligned-two : {after : List ℕ} {r : ℕ} → 8 < n → Put mid p (bitsOf 8 (v / 256)) after r
+    pub put-little : {after : List ℕ} {r : ℕ}
+        → Put buf at (bitsOf (k * 8) (x / 2 ^ (16 - k * 8))) after r
         → Put buf at (numberBits byteAligned n v) after r
-    unfolding numberBits littleEndian octetsFor unpack each
-    put-aligned-two l b =
-        let e : (n + 7) / 8 ≡ 2 = omega arith in
-        rw (e, mod-eq-of-lt high-octet, append-nil (bitsOf 8 (v / 256))) (put-then a b)
+    unfolding numberBits octetsFor
+    put-little {after} {r} p =
+        let b : v < 2 ^ (k * 8) = lt-of-lt-of-le (h .fits) (pow-mono (omega (arith, h .narrow))) in
+        let w = little k v (omega (arith, h .narrow)) b in
+        rw i (subst (λ u. Put buf at u after r) w (rw e at p))
 
 -- ---- a choice among m
 

@@ -1,8 +1,11 @@
 // The fields of a stream, written at a bit position. Each function gives the position after the field.
 ghost use mathlib.Core.Path.{_≡_};
+ghost use Prim.Native.Nat.{_+_, _-_, _%_, _≤_, _<_};
+ghost use lib.Dec.{T};
 ghost use Rattle.spec_fields.specs.Bits.{bitsOf};
-ghost use Rattle.spec_fields.specs.Field.{bitPacked, byteAligned, numberBits, choiceBits, unsignedBits};
-ghost use Rattle.write_field.specs.Written.{alignmentOf, Put, NumberFits, ChoiceFits, UnsignedFits, ShortFits};
+ghost use Rattle.spec_fields.specs.Field.{byteAligned, numberBits, choiceBits, unsignedBits};
+ghost use Rattle.write_field.specs.Written.{alignmentOf, farthest, blankFrom, Put};
+ghost use Rattle.write_field.specs.Written.{NumberFits, ChoiceFits, UnsignedFits, ShortFits};
 
 fn wide(x: u8) -> u32
     ensures { λ r. ⌜ r ≡ x ⌝ }
@@ -10,58 +13,49 @@ fn wide(x: u8) -> u32
     x as u32
 }
 
-// An octet, in the cell that holds bit `at` and the next one.
-fn put_octet(buf: &mut [u8], at: usize, v: u32) -> usize
-    requires { ⌜ ShortFits (now buf) at 8 v ⌝ }
-    ensures { λ r. ⌜ Put (now (buf .entry)) at (bitsOf 8 v) (now (buf .exit)) r ⌝ }
+// The bits of o, from bit `place` to the end of its octet. Gives the position behind the octet.
+fn put_part(buf: &mut [u8], place: usize, o: u32) -> usize
+    requires { ⌜ ShortFits (now buf) place (8 - place % 8) o ⌝ }
+    ensures { λ r. ⌜ Put (now (buf .entry)) place (bitsOf (8 - place % 8) o) (now (buf .exit)) r ⌝ }
 {
-    let i = at / 8;
-    let k = at % 8;
+    let i = place / 8;
+    let after = place - place % 8 + 8;
     if buf.len() <= i {
-        return at + 8;
+        return after;
     }
-    buf[i] = (wide(buf[i]) + (v >> k)) as u8;
-    if buf.len() <= i + 1 {
-        return at + 8;
-    }
-    buf[i + 1] = (((v * 256) >> k) % 256) as u8;
-    at + 8
+    buf[i] = (wide(buf[i]) + o) as u8;
+    after
 }
 
-// At most 8 bits: the octet that they begin, since blank bits are zeros.
-fn put_short(buf: &mut [u8], at: usize, n: u32, v: u32) -> usize
-    requires { ⌜ ShortFits (now buf) at n v ⌝ }
-    ensures { λ r. ⌜ Put (now (buf .entry)) at (bitsOf n v) (now (buf .exit)) r ⌝ }
-{
-    put_octet(buf, at, (v * 256) >> n);
-    at + (n as usize)
-}
-
-// Bit-packed, most significant bit first.
+// n bits, most significant first, in the octets that they touch: none to three.
 fn put_bits(buf: &mut [u8], at: usize, n: u32, v: u32) -> usize
     requires { ⌜ NumberFits (now buf) at n v ⌝ }
-    ensures { λ r. ⌜ Put (now (buf .entry)) at (numberBits bitPacked n v) (now (buf .exit)) r ⌝ }
+    ensures { λ r. ⌜ Put (now (buf .entry)) at (bitsOf n v) (now (buf .exit)) r ⌝ }
 {
-    if n <= 8 {
-        return put_short(buf, at, n, v);
+    let next = at + n as usize;
+    let window = v << (24 - (at % 8) as u32 - n);
+    if next <= at {
+        return next;
     }
-    let next = put_short(buf, at, n - 8, v / 256);
-    put_octet(buf, next, v % 256)
+    let second = put_part(buf, at, window >> 16);
+    if next <= second {
+        return next;
+    }
+    let third = put_part(buf, second, (window >> 8) & 255);
+    if next <= third {
+        return next;
+    }
+    put_part(buf, third, window & 255);
+    next
 }
 
-// Byte-aligned, least significant octet first.
+// The fewest octets that hold n bits, least significant first.
 fn put_octets(buf: &mut [u8], at: usize, n: u32, v: u32) -> usize
     requires { ⌜ NumberFits (now buf) at n v ⌝ }
     ensures { λ r. ⌜ Put (now (buf .entry)) at (numberBits byteAligned n v) (now (buf .exit)) r ⌝ }
 {
-    if n == 0 {
-        return at;
-    }
-    if n <= 8 {
-        return put_octet(buf, at, v);
-    }
-    let next = put_octet(buf, at, v % 256);
-    put_octet(buf, next, v / 256)
+    let size = (n + 7) / 8 * 8;
+    put_bits(buf, at, size, read_field::exchanged(v) >> (16 - size))
 }
 
 // n-bit Unsigned Integer.
@@ -81,6 +75,20 @@ pub fn put_choice(aligned: bool, buf: &mut [u8], at: usize, m: u32, v: u32) -> u
     ensures { λ r. ⌜ Put (now (buf .entry)) at (choiceBits (alignmentOf aligned) m v) (now (buf .exit)) r ⌝ }
 {
     put_number(aligned, buf, at, read_field::width(m), v)
+}
+
+// An octet of an Unsigned Integer, in the one or two octets that it touches.
+fn put_octet(buf: &mut [u8], at: usize, o: u32) -> usize
+    requires { ⌜ T (blankFrom (now buf) at) × (at ≤ farthest + 40) × (o < 256) ⌝ }
+    ensures { λ r. ⌜ Put (now (buf .entry)) at (bitsOf 8 o) (now (buf .exit)) r ⌝ }
+{
+    let used = at % 8;
+    let second = put_part(buf, at, o >> used);
+    if used == 0 {
+        return at + 8;
+    }
+    put_part(buf, second, (o << (8 - used)) & 255);
+    at + 8
 }
 
 // Unsigned Integer: 7 bits an octet, least significant first.

@@ -7,7 +7,7 @@ use lib.ListN.{length, take, drop}
 use lib.Dec.{T, ltb}
 use Rattle.spec_fields.specs.Field.{Alignment, unsignedBits, choiceBits}
 use Rattle.text.specs.Text.{Text, allChars}
-use Rattle.spec_exi.specs.Sizes.{maxString, maxStore}
+use Rattle.spec_exi.specs.Sizes.{maxEvents, maxString, maxStore}
 use Rattle.spec_exi.specs.Tables.{stringBits}
 use Rattle.rows.specs.Rows.{withRow}
 use Rattle.layout.specs.Writer.{storeAt}
@@ -16,6 +16,20 @@ use Rattle.state.specs.Changed.{moved}
 use Rattle.write_field.specs.Written.{blankFrom, farthest, Put}
 use Rattle.literal.specs.Fault.{faultNumber, stringFault}
 use Rattle.write_form.specs.declared.Sent.{Sent}
+
+-- ---- how many bits there can be
+
+-- Of a string: 40 for its length and for each code point, and as many for the number before them.
+abbrev pub maxStringBits : ℕ
+maxStringBits = 40 * (maxString + 2)
+
+-- Of an event: its code, and three strings.
+abbrev pub maxEventBits : ℕ
+maxEventBits = 48 + maxStringBits * 3
+
+-- Of a stream, its header counted.
+abbrev pub maxListBits : ℕ
+maxListBits = 64 + maxEventBits * maxEvents
 
 -- The farthest position at which a string of an event begins: what the event writes from there on stays below `farthest`.
 abbrev pub midway : ℕ
@@ -40,7 +54,7 @@ pub record HitFits (stream : List ℕ) (at partition among i : ℕ) : Type 0 whe
 
 pub record LiteralFits (stream w : List ℕ) (st : State) (raised : ℕ) (x : Text) : Type 0 where
   pub blank : T (blankFrom stream (st .at))
-  pub near : st .at ≤ midway + 65536
+  pub near : st .at ≤ midway + 64
   pub few : raised ≤ 2
   pub small : length x ≤ maxString
   pub chars : T (allChars x)

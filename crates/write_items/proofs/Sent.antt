@@ -9,7 +9,7 @@ use lib.ListN.{length}
 use Rattle.spec_fields.specs.Field.{Alignment}
 use Rattle.text.specs.Text.{Text}
 use Rattle.spec_exi.specs.Event.{QName, Event, startElement, attribute, characters, kindOf, nameOf}
-use Rattle.spec_exi.specs.Sizes.{maxOpen}
+use Rattle.spec_exi.specs.Sizes.{maxOpen, maxString}
 use Rattle.spec_exi.specs.Tables.{value, target, plain}
 use Rattle.spec_exi.specs.Grammar.{kindNumber}
 use Rattle.spec_exi.specs.Context.{Item, item}
@@ -19,7 +19,7 @@ use Rattle.layout.proofs.Kept.{name-placed}
 use Rattle.state.specs.Stack.{topOf}
 use Rattle.state.specs.declared.State.{State}
 use Rattle.standing.proofs.Laws.{top-below}
-use Rattle.write_form.specs.Form.{midway}
+use Rattle.write_form.specs.Form.{maxStringBits, midway}
 use Rattle.write_form.specs.declared.Sent.{Sent}
 use Rattle.sending.specs.Sending.{Ready, Sending}
 use Rattle.sending.proofs.Items.{wrote-ready, sent-wrote, sending-then, sending-refused}
@@ -66,8 +66,9 @@ module _ {s w : List ℕ} {st : State} {learned : Bool} {name : ℕ} where
 -- ---- one behind another
 
 -- Strings that were written leave all ready for the next.
-pub behind : {a : Alignment} {is : List Item} {s w s′ w′ : List ℕ} {st st′ : State} {n : ℕ} → Ready s w st → st .at + 65536 * length is ≤ midway
+pub behind : {a : Alignment} {is : List Item} {s w s′ w′ : List ℕ} {st st′ : State} {n : ℕ} → Ready s w st → st .at + maxStringBits * length is ≤ midway
     → Sending a is s w st s′ w′ n st′ → n ≡ 0 → Ready s′ w′ st′
+unfolding maxString
 behind h early f z = wrote-ready h (sent-wrote f z) (omega (arith, sent-wrote f z .near))
 
 -- ---- an attribute

@@ -1,5 +1,5 @@
 -- What writing the strings of an event asks and leaves, in the definitions' terms.
-use Prim.Native.Nat.{ℕ, _+_, _≤_, _<_}
+use Prim.Native.Nat.{ℕ, _+_, _*_, _≤_, _<_}
 use mathlib.Core.Path.{_≡_}
 use mathlib.Core.Bool.{Bool, true, cond, not}
 use mathlib.Core.List.{List, [], _∷_, _++_}
@@ -15,7 +15,7 @@ use Rattle.layout.specs.Writer.{writerMemory}
 use Rattle.productions.specs.Numbered.{Numbered}
 use Rattle.state.specs.declared.State.{State}
 use Rattle.standing.specs.Standing.{countsOf, contextOf, Standing}
-use Rattle.write_form.specs.Form.{midway}
+use Rattle.write_form.specs.Form.{maxStringBits, midway}
 use Rattle.write_form.specs.declared.Sent.{Sent}
 use Rattle.sending.specs.Sending.{Ready, Sending}
 use Rattle.write_name.specs.Name.{ReadyName, NameRow, nameAs}
@@ -29,7 +29,7 @@ productionOf m learned name e = cond learned (productionAt m (kindOf e) name) (u
 
 pub record ItemsFit (stream w : List ℕ) (st : State) (learned : Bool) (name : ℕ) (e : Event Text) : Type 0 where
   pub ready : Ready stream w st
-  pub early : st .at + 131072 ≤ midway
+  pub early : st .at + maxStringBits * 2 ≤ midway
   pub standing : Standing (writerMemory w) st
   pub row : learned ≡ true → Numbered (writerMemory w) (countsOf st) e name
   -- characters and end elements stand in an element
@@ -51,7 +51,7 @@ pub record ItemsSent (a : Alignment) (learned : Bool) (name : ℕ) (e : Event Te
 -- The value begins behind the two parts of the name.
 pub record AttributeFit (stream w : List ℕ) (st : State) (learned : Bool) (name : ℕ) (q : QName Text) : Type 0 where
   pub named : ReadyName stream w st learned name q
-  pub early : st .at + 131072 ≤ midway
+  pub early : st .at + maxStringBits * 2 ≤ midway
 
 pub record AttributeSent (a : Alignment) (q : QName Text) (v : Text) (learned : Bool) (stream w : List ℕ) (st : State) (stream′ w′ : List ℕ) (r : Sent) : Type 0 where
   pub sent : Sending a (nameAs (not learned) true q ++ (item (value q) v ∷ [])) stream w st stream′ w′ (r .number) (r .state)

@@ -4,7 +4,7 @@ ghost use Rattle.text.specs.Text.{part};
 ghost use Rattle.spec_exi.specs.Event.{mapEvent};
 ghost use Rattle.event.specs.Cells.{meaning};
 ghost use Rattle.read_field.specs.View.{alignmentOf};
-ghost use Rattle.write_form.specs.Form.{midway};
+ghost use Rattle.write_form.specs.Form.{maxStringBits, midway};
 ghost use Rattle.sending.specs.Sending.{Ready};
 ghost use Rattle.write_items.specs.Items.{ItemsFit, ItemsSent, AttributeFit, AttributeSent, InstructionSent};
 use event::Event;
@@ -50,7 +50,7 @@ fn put_instruction(
     work: &mut [u32],
 ) -> Sent
     requires { ⌜ Ready (now stream) (now work) st ⌝ }
-    requires { ⌜ st .at + 65536 ≤ midway ⌝ }
+    requires { ⌜ st .at + maxStringBits ≤ midway ⌝ }
     ensures { λ r. ⌜ InstructionSent (now (target .entry)) (now (x .entry)) (now (stream .entry)) (now (work .entry)) st (now (stream .exit)) (now (work .exit)) r ⌝ }
 {
     let sent = write_value::put_text(stream, st, true, target, work);

@@ -13,7 +13,7 @@ use Rattle.layout.specs.Meaning.{uriText, nameAt}
 use Rattle.layout.specs.Writer.{writerMemory}
 use Rattle.state.specs.declared.State.{State}
 use Rattle.literal.specs.Fault.{stringFault}
-use Rattle.write_form.specs.Form.{midway}
+use Rattle.write_form.specs.Form.{maxStringBits, midway}
 use Rattle.write_form.specs.declared.Sent.{Sent}
 use Rattle.sending.specs.Sending.{Ready}
 
@@ -28,7 +28,7 @@ pub record ReadyLocal (stream w : List ℕ) (st : State) (key : ℕ) (u : Text) 
 -- Where a learned production carries the name, it has this row. Where not, its second part begins behind the first.
 pub record ReadyName (stream w : List ℕ) (st : State) (learned : Bool) (name : ℕ) (q : QName Text) : Type 0 where
   pub ready : Ready stream w st
-  pub early : st .at + 65536 ≤ midway
+  pub early : st .at + maxStringBits ≤ midway
   pub row : learned ≡ true → name < st .names
   pub is : learned ≡ true → nameAt (writerMemory w) name ≡ q
 

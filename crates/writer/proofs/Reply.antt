@@ -151,16 +151,16 @@ fits a b m n e =
     split (ltb a m) (λ f. absurd (true≢false (rw f at e))) (λ f. (ltb-false a m f, ltb-false b n (rw f at e)))
 
 module _ (s : SettingNumbers) (stream events : List ℕ) (store : Text) (work : List ℕ) where
-  pub no-room : (after : List ℕ) → (ltb (length stream) 16384 || ltb (length work) 20480) ≡ true
+  pub no-room : (after : List ℕ) → (ltb (length stream) 16384 || ltb (length work) 34816) ≡ true
       → Attempted (answerOf s events store (lent stream work)) stream after (record { number = 1; index = 0; octets = 0 })
   unfolding answerOf writerRoom format-writer.write enoughToWrite maxStream writerWork numberOf readerWork maxStore
-  no-room after e = attempted-refused room 0 1 0 (rw (enough (length stream) (length work) 16384 20480, e)) refl refl
+  no-room after e = attempted-refused room 0 1 0 (rw (enough (length stream) (length work) 16384 34816, e)) refl refl
 
-  module _ (few : (ltb (length stream) 16384 || ltb (length work) 20480) ≡ false) where
+  module _ (few : (ltb (length stream) 16384 || ltb (length work) 34816) ≡ false) where
     pub list-asks : {zeros : List ℕ} → zeros ≡ replicate (length stream) 0 → ListFits zeros work
     unfolding maxStream writerWork readerWork maxStore
     list-asks e =
-        let (a, b) = fits (length stream) (length work) 16384 20480 few in
+        let (a, b) = fits (length stream) (length work) 16384 34816 few in
         rw e (record { blank = zeros-blank (length stream); octets = rw (length-replicate {A = ℕ} (length stream) 0) a; room = b })
 
     module _ {asked : Bool} (meant : asked ≡ meaningful (numbersOf s)) where
@@ -168,11 +168,11 @@ module _ (s : SettingNumbers) (stream events : List ℕ) (store : Text) (work : 
           → Attempted (answerOf s events store (lent stream work)) stream after (record { number = 2; index = 0; octets = 0 })
       unfolding answerOf writerRoom format-writer.write enoughToWrite maxStream writerWork numberOf readerWork maxStore
       no-meaning after e =
-          attempted-refused settings 0 2 0 (rw (enough (length stream) (length work) 16384 20480, few, ← meant, e)) refl refl
+          attempted-refused settings 0 2 0 (rw (enough (length stream) (length work) 16384 34816, few, ← meant, e)) refl refl
 
       answer-list : not asked ≡ false → answerOf s events store (lent stream work) ≡ writeList sizes (settingsOf (numbersOf s)) (eventsOf events) store
       unfolding answerOf writerRoom format-writer.write enoughToWrite maxStream writerWork readerWork maxStore
-      answer-list e = rw (enough (length stream) (length work) 16384 20480, few, ← meant, e)
+      answer-list e = rw (enough (length stream) (length work) 16384 34816, few, ← meant, e)
 
       pub list-answered : {o : Settings} {zeros after : List ℕ} {r : declared.WriteReply} → not asked ≡ false → o ≡ settingsMeant s → zeros ≡ replicate (length stream) 0
           → ListPut (settingsFrom o) (eventsOf events) store zeros after r → Attempted (answerOf s events store (lent stream work)) stream after r

@@ -21,7 +21,7 @@ use Rattle.write_field.proofs.Written.{put-blank}
 use Rattle.write_header.specs.Header.{HeaderPut}
 use Rattle.write_body.specs.Body.{RunFits}
 
-tables-before : tableCells ≤ 4096
+tables-before : tableCells ≤ 18432
 unfolding tableCells grammarsAt learnedAt valuesAt namesAt urisAt maxUris maxNames maxValues maxLearned maxGrammars
 tables-before = omega arith
 
@@ -39,16 +39,16 @@ module _ (w : List ℕ) (room : writerWork ≤ length w) where
   unfolding writerWork readerWork maxStore
   tables-fit = omega (arith, tables-before)
 
-  pub text-fits : 4096 + 99 ≤ length (withTables w 4096)
+  pub text-fits : 18432 + 99 ≤ length (withTables w 18432)
   unfolding writerWork readerWork maxStore
-  text-fits = rw (withTables-length w 4096) (omega arith)
+  text-fits = rw (withTables-length w 18432) (omega arith)
 
-  begun : Begun (writerMemory (withText (withTables w 4096) 4096))
+  begun : Begun (writerMemory (withText (withTables w 18432) 18432))
   unfolding storeAt writerWork readerWork maxStore
-  begun = begun-inside w 4096 tables-before (omega arith)
+  begun = begun-inside w 18432 tables-before (omega arith)
 
   -- The rows are laid, then the text.
-  module _ (at : ℕ) {tables w′ : List ℕ} {st : State} (rows : tables ≡ withTables w 4096) (text : w′ ≡ withText tables 4096)
+  module _ (at : ℕ) {tables w′ : List ℕ} {st : State} (rows : tables ≡ withTables w 18432) (text : w′ ≡ withText tables 18432)
       (begins : st ≡ started at 99 3 6) where
     pub events-ask : (s : Settings) {stream mid : List ℕ} → HeaderPut s stream mid at → RunFits mid w′ st
     unfolding startCounts started
@@ -57,8 +57,8 @@ module _ (w : List ℕ) (room : writerWork ≤ length w) where
         (record {
           blank = put-blank put;
           near = omega (arith, put .next, length-unpack (headerOf s), short-header s);
-          standing = start-standing (writerMemory (withText (withTables w 4096) 4096)) at 99 3 6 (start-tidy _ begun);
-          room = rw (withText-length (withTables w 4096) 4096 text-fits, withTables-length w 4096) room;
+          standing = start-standing (writerMemory (withText (withTables w 18432) 18432)) at 99 3 6 (start-tidy _ begun);
+          room = rw (withText-length (withTables w 18432) 18432 text-fits, withTables-length w 18432) room;
           first = refl;
         })
 
@@ -68,5 +68,5 @@ module _ (w : List ℕ) (room : writerWork ≤ length w) where
         rw (text, rows, begins)
         (record {
           there = refl;
-          context = rw (start-context (writerMemory (withText (withTables w 4096) 4096)) at 99 3 6, start-tables _ begun s);
+          context = rw (start-context (writerMemory (withText (withTables w 18432) 18432)) at 99 3 6, start-tables _ begun s);
         })

@@ -5,10 +5,11 @@
 //! says, where the scope determines it, the number and index to be answered.
 //!
 //! The tests are in `tests/`: `streams` (those that the scope lists, and more of the kind), `sizes`
-//! (both sides of each), `primer` (the EXI Primer's worked examples), `vectors` (requests and
-//! answers from files), `differential` (random and damaged lists and streams), `batch` (the program
-//! of that name). Run them in a release build. The programs are `batch`, which answers request
-//! lines, and `bench`, which times both implementations.
+//! (both sides of each), `fields` (n-bit fields that end with what is lent, or are cut), `primer`
+//! (the EXI Primer's worked examples), `vectors` (requests and answers from files), `differential`
+//! (random and damaged lists and streams), `batch` (the program of that name). Run them in a
+//! release build. The programs are `batch`, which answers request lines, `bench`, which times both
+//! implementations, and `fields`, which times n-bit fields by themselves.
 
 #![forbid(unsafe_code)]
 
@@ -21,5 +22,5 @@ pub mod lent;
 pub mod prng;
 pub mod protocol;
 
-/// The sizes of the scope; what is to be lent the library says, see [`lent::sizes`].
+/// The sizes; what is to be lent the library says, see [`lent::sizes`].
 pub use ordinary::sizes;

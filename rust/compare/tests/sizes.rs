@@ -1,5 +1,5 @@
 //! Both sides of every size, in both alignments. The indices are those of the scope, and the sizes
-//! are held to it by a test of their own.
+//! are held to it, and to document 02, by a test of their own.
 
 #![forbid(unsafe_code)]
 
@@ -8,7 +8,8 @@ use compare::check::{
 };
 use compare::encode::{encode, encode_loosely, unsigned_octets, Encoded, Loose, Role, Shape};
 use compare::event::{
-    attribute, characters, comment, document, element, text, Event, Stored, Text, CELLS,
+    attribute, characters, comment, document, element, events as events_of, text, Event, Stored,
+    Text, CELLS,
 };
 use compare::lent::{
     ReaderMemory, ReaderSizes, Settings, WriterMemory, WriterSizes, BOTH, CHARACTER, ENDED, HEADER,
@@ -68,25 +69,28 @@ fn cut_after(mut strict: Encoded, role: Role, event: usize) -> Vec<u8> {
 }
 
 #[test]
-fn sizes_are_the_scopes() {
+fn sizes_are_as_agreed() {
     let streams = [MAX_STREAM, MAX_EVENTS, MAX_OPEN, MAX_STRING, MAX_STORE];
-    assert_eq!(streams, [16_384, 4_096, 100, 1_024, 16_384]);
+    assert_eq!(streams, [16_384, 4_096, 100, 4_096, 16_384]);
     let tables = [MAX_URIS, MAX_NAMES, MAX_VALUES, MAX_GRAMMARS, MAX_LEARNED];
-    assert_eq!(tables, [16, 128, 512, 64, 512]);
+    assert_eq!(tables, [16, 128, 2_048, 64, 512]);
     assert_eq!(CELLS, CELLS_PER_EVENT);
 }
 
 /// The library asks for what the scope says, and for work memory that it may choose up to 1,048,576
-/// octets.
+/// octets; the writer's has a text store behind the reader's.
 #[test]
 fn lent_sizes_follow_from_the_scopes() {
     let stated = ReaderSizes::stated();
     assert_eq!(stated.events, CELLS * MAX_EVENTS);
     assert_eq!(stated.text, MAX_STORE);
     assert!(4 * stated.work <= 1_048_576);
+    assert_eq!(stated.work, 18_432);
+    let reader = stated;
     let stated = WriterSizes::stated();
     assert_eq!(stated.octets, MAX_STREAM);
     assert!(4 * stated.work <= 1_048_576);
+    assert_eq!(stated.work, reader.work + MAX_STORE);
 }
 
 #[test]
@@ -186,6 +190,85 @@ fn string_lengths() {
             read_is_refused(Settings::BYTE_ALIGNED, &octets, number, index);
         }
     }
+}
+
+/// The list of event 2 with `length` code points in this place.
+fn with_length(place: &str, length: usize) -> Vec<Event> {
+    let all = with_string(&vec![97; length]);
+    let (_, list) = all.into_iter().find(|(it, _)| *it == place).expect(place);
+    list
+}
+
+/// Both implementations read a string of the longest length in this place, and refuse one more.
+fn read_at_the_length(settings: Settings, place: &str) {
+    let longest = with_length(place, MAX_STRING);
+    let octets = encode(settings, &longest).octets();
+    for codec in BOTH {
+        let mut memory = ReaderMemory::new();
+        let reply = memory.read(codec, settings, &octets);
+        assert_eq!((reply.number, reply.index), (0, 0), "{codec:?}");
+        assert_eq!(memory.fault(&reply), None, "{codec:?}");
+        let (cells, store) = (memory.events(&reply), memory.text(&reply));
+        let list = cells.zip(store).and_then(|(c, s)| events_of(c, s));
+        assert_eq!(list.as_deref(), Some(&longest[..]), "{codec:?}");
+    }
+    let over = encode(settings, &with_length(place, MAX_STRING + 1)).octets();
+    read_is_refused(settings, &over, LIMIT, 2);
+}
+
+/// Both implementations write a string of the longest length in this place, and refuse one more.
+fn write_at_the_length(settings: Settings, place: &str) {
+    let longest = with_length(place, MAX_STRING);
+    let octets = encode(settings, &longest).octets();
+    let list = Stored::plain(&longest);
+    for codec in BOTH {
+        let mut memory = WriterMemory::new();
+        let reply = memory.write(codec, settings, &list.cells, &list.store);
+        assert_eq!((reply.number, reply.index), (0, 0), "{codec:?}");
+        assert_eq!(memory.octets(&reply), Some(&octets[..]), "{codec:?}");
+        assert_eq!(memory.fault(&reply), None, "{codec:?}");
+    }
+    let over = Stored::plain(&with_length(place, MAX_STRING + 1));
+    write_is_refused(settings, &over, LIMIT, 2);
+}
+
+/// A test for each place of a string, reading and writing, in both alignments: 4,096 code points
+/// and 4,097.
+macro_rules! at_the_length {
+    ($($module:ident: $place:literal),*) => {
+        $(mod $module {
+            use super::*;
+
+            #[test]
+            fn read_bit_packed() {
+                read_at_the_length(Settings::BIT_PACKED.keeping(), $place);
+            }
+
+            #[test]
+            fn read_byte_aligned() {
+                read_at_the_length(Settings::BYTE_ALIGNED.keeping(), $place);
+            }
+
+            #[test]
+            fn written_bit_packed() {
+                write_at_the_length(Settings::BIT_PACKED.keeping(), $place);
+            }
+
+            #[test]
+            fn written_byte_aligned() {
+                write_at_the_length(Settings::BYTE_ALIGNED.keeping(), $place);
+            }
+        })*
+    };
+}
+
+at_the_length! {
+    uri_of_4096: "element URI",
+    local_name_of_4096: "element name",
+    value_of_4096: "characters",
+    comment_of_4096: "comment",
+    target_of_4096: "target",
+    instruction_text_of_4096: "instruction text"
 }
 
 #[test]
@@ -360,6 +443,47 @@ fn value_numbers_of_two_octets() {
         let octets = encode(settings, &list).octets();
         assert!(octets.ends_with(&hex(tail)));
         is_strict_form(settings, &octets, &list);
+    }
+}
+
+/// From 1,025 values on a number has 11 bits: one bit more than before, and still two octets.
+#[test]
+fn value_numbers_of_eleven_bits() {
+    let with_hit = |count: usize, value: &str| {
+        let mut list = values(count);
+        list.insert(2 + count, characters(value));
+        list
+    };
+    let hit_bits = |count: usize| {
+        let bits = |list: &[Event]| encode(Settings::BIT_PACKED, list).octets_and_bits().1;
+        bits(&with_hit(count, "v0")) - bits(&values(count))
+    };
+    let ten = hit_bits(1_024);
+    assert_eq!(hit_bits(513), ten);
+    assert_eq!(hit_bits(1_025), ten + 1);
+    assert_eq!(hit_bits(MAX_VALUES), ten + 1);
+    for settings in ALIGNMENTS {
+        for count in [1_024, 1_025, MAX_VALUES] {
+            list_is_accepted(settings, &with_hit(count, "v0"));
+            list_is_accepted(settings, &with_hit(count, &numbered("v", count - 1)));
+        }
+        // Of the name's own values, and of all.
+        let mut list = with_hit(MAX_VALUES, "v1027");
+        let child = [element("", "s"), characters("v2047"), END];
+        list.splice(3 + MAX_VALUES..3 + MAX_VALUES, child);
+        list_is_accepted(settings, &list);
+    }
+    let octets = encode(Settings::BYTE_ALIGNED, &with_hit(MAX_VALUES, "v1027")).octets();
+    assert!(octets.ends_with(&hex("00 00 03 04 01")));
+}
+
+/// Three strings of 4,096 fit into the store, and a fourth does not: <a> with four of them.
+#[test]
+fn four_strings_of_4096() {
+    let list = |count: usize| in_root(literals(&vec![MAX_STRING; count]));
+    for settings in all_settings() {
+        list_is_accepted(settings, &list(3));
+        list_is_refused(settings, &list(4), LIMIT, 5);
     }
 }
 

@@ -3,6 +3,8 @@
 
 #![forbid(unsafe_code)]
 
+use std::collections::HashMap;
+
 use compare::lent::BOTH;
 use compare::protocol::{Asker, Request};
 
@@ -10,14 +12,29 @@ const EDGES: &str = include_str!("../vectors/edges.txt");
 const RANDOM: &str = include_str!("../vectors/random.txt");
 const ROOM: &str = include_str!("../vectors/room.txt");
 const CROSS: &str = include_str!("../vectors/cross.txt");
+const P2_BASE: &str = include_str!("../vectors/p2-base.txt");
+const P2_EDGES: &str = include_str!("../vectors/p2-edges.txt");
+const P2_RANDOM: &str = include_str!("../vectors/p2-random.txt");
+
+/// Lines of the base whose answers changed, in the order of landing: the last that has a line holds.
+const CHANGED: [&str; 1] = [P2_BASE];
 
 /// The requests of document 02 that have landed, by their numbers. Each landing adds its own.
-const LANDED: [u32; 0] = [];
+const LANDED: [u32; 1] = [2];
 
 /// The lines of a file, each as a request and its answer.
 fn lines(file: &str) -> impl Iterator<Item = (&str, &str)> {
     file.lines()
         .map(|line| line.split_once(" => ").expect("a request and its answer"))
+}
+
+/// The lines of a file of the base, with the answers that hold now, and how many of these changed.
+fn base(file: &'static str) -> (Vec<(&'static str, &'static str)>, usize) {
+    let changed: HashMap<_, _> = CHANGED.into_iter().flat_map(lines).collect();
+    let now = |(request, answer)| (request, *changed.get(request).unwrap_or(&answer));
+    let all: Vec<_> = lines(file).map(now).collect();
+    let count = all.iter().zip(lines(file)).filter(|(a, b)| *a != b).count();
+    (all, count)
 }
 
 /// Both implementations answer these requests as they have to.
@@ -39,12 +56,24 @@ fn run<'a>(lines: impl Iterator<Item = (&'a str, &'a str)>, count: usize) {
 
 #[test]
 fn both_sides_of_every_size() {
-    run(lines(EDGES), 400);
+    let (all, changed) = base(EDGES);
+    assert_eq!(changed, 30);
+    run(all.into_iter(), 400);
 }
 
 #[test]
 fn random_lists_and_streams() {
-    run(lines(RANDOM), 1_500);
+    let (all, changed) = base(RANDOM);
+    assert_eq!(changed, 44);
+    run(all.into_iter(), 1_500);
+}
+
+/// P2: strings of 4,096 code points and 2,048 values.
+#[test]
+fn longer_strings_and_more_values() {
+    run(lines(P2_BASE), 74);
+    run(lines(P2_EDGES), 109);
+    run(lines(P2_RANDOM), 472);
 }
 
 /// ROOM and SETTINGS of the base.
@@ -97,7 +126,8 @@ fn understood() -> impl Iterator<Item = &'static str> {
 
 #[test]
 fn requests_are_printed_as_they_stand() {
-    let all = lines(EDGES).chain(lines(RANDOM)).chain(lines(ROOM));
+    let files = [EDGES, RANDOM, ROOM, P2_EDGES, P2_RANDOM];
+    let all = files.into_iter().flat_map(lines);
     let mut printed = 0;
     for request in all.map(|(request, _)| request).chain(understood()) {
         // A number over 32 bits has another in its place.
@@ -107,7 +137,7 @@ fn requests_are_printed_as_they_stand() {
             printed += 1;
         }
     }
-    assert_eq!(printed, 2_392);
+    assert_eq!(printed, 2_973);
 }
 
 /// What a setting asks for that has not landed is SETTINGS before anything else; but ROOM comes

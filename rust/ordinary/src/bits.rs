@@ -139,11 +139,14 @@ impl<'a> BitWriter<'a> {
         self.pending &= (1 << self.pending_bits) - 1;
     }
 
+    #[inline]
     pub fn octet(&mut self, octet: u8) {
         if self.pending_bits == 0 {
             self.put(octet);
         } else {
-            self.bits(u32::from(octet), 8);
+            let all = self.pending << 8 | u32::from(octet);
+            self.put((all >> self.pending_bits) as u8);
+            self.pending = all & ((1 << self.pending_bits) - 1);
         }
     }
 
@@ -159,6 +162,7 @@ impl<'a> BitWriter<'a> {
         }
     }
 
+    #[inline]
     pub fn unsigned(&mut self, mut value: u32) {
         while value >= 0x80 {
             self.octet(value as u8 | 0x80);

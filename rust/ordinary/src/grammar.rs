@@ -1,5 +1,6 @@
 //! The built-in document grammar and the built-in element grammars, which learn (EXI 8.4.1, 8.4.3).
 
+use crate::buckets::{Buckets, Link};
 use crate::refusal::Refusal;
 use crate::settings::Options;
 use crate::sizes::{MAX_GRAMMARS, MAX_LEARNED, MAX_NAMES, MAX_OPEN};
@@ -24,6 +25,19 @@ pub struct Symbol {
     pub name: Option<NameId>,
 }
 
+impl Symbol {
+    /// A number of its own for each symbol in each of the states that learn.
+    fn key(self, site: usize) -> u32 {
+        let name = self.name.map_or(0, |name| name.index() + 1);
+        ((site << 8 | name) << 3 | self.terminal as usize) as u32
+    }
+}
+
+/// Spreads keys over buckets.
+fn hash(key: u32) -> u32 {
+    key.wrapping_mul(0x9E37_79B1) >> 16
+}
+
 impl From<Terminal> for Symbol {
     fn from(terminal: Terminal) -> Self {
         Symbol {
@@ -37,7 +51,17 @@ impl From<Terminal> for Symbol {
 #[derive(Clone, Copy, Debug, PartialEq, Eq)]
 pub enum Production {
     Learned,
+    /// One with two parts, inside an element: it gets one of one part.
+    Teaching,
     Initial,
+}
+
+/// Where an initial production of the current state stands: how many parts its event code has but
+/// one, and the value of the last.
+#[derive(Clone, Copy)]
+pub struct Place {
+    depth: usize,
+    value: usize,
 }
 
 #[derive(Clone, Copy, PartialEq, Eq)]
@@ -50,71 +74,152 @@ enum State {
     Finished,
 }
 
-/// What has been learned for one element name, oldest first. The newest has event code 0.
+/// The initial productions of a state.
+#[derive(Clone, Copy)]
+struct Initial {
+    /// By the number of parts in their event codes.
+    levels: [&'static [Terminal]; 3],
+    /// By terminal.
+    places: [Option<Place>; 8],
+    /// How many values they give to each part of an event code.
+    choices: [usize; 3],
+    /// Whether those of two parts teach one of one part.
+    learns: bool,
+}
+
+impl Initial {
+    const fn new(levels: [&'static [Terminal]; 3], learns: bool) -> Initial {
+        let mut places = [None; 8];
+        let mut choices = [0; 3];
+        let mut depth = 0;
+        while depth < 3 {
+            let level = levels[depth];
+            let mut value = 0;
+            while value < level.len() {
+                places[level[value] as usize] = Some(Place { depth, value });
+                value += 1;
+            }
+            let deeper = depth < 2 && !levels[depth + 1].is_empty();
+            choices[depth] = level.len() + deeper as usize;
+            depth += 1;
+        }
+        Initial {
+            levels,
+            places,
+            choices,
+            learns,
+        }
+    }
+
+    /// One that has this many parts and one.
+    fn production(&self, depth: usize) -> Production {
+        if self.learns && depth == 1 {
+            Production::Teaching
+        } else {
+            Production::Initial
+        }
+    }
+
+    /// All states, by their numbers, with these of comments and instructions kept.
+    const fn all(kept: &'static [Terminal]) -> [Initial; 6] {
+        use Terminal::*;
+        let in_tag = &[EndElement, Attribute, StartElement, Characters];
+        [
+            Initial::new([&[StartDocument], &[], &[]], false),
+            Initial::new([&[StartElement], kept, &[]], false),
+            Initial::new([&[], in_tag, kept], true),
+            Initial::new([&[EndElement], &[StartElement, Characters], kept], true),
+            Initial::new([&[EndDocument], kept, &[]], false),
+            Initial::new([&[], &[], &[]], false),
+        ]
+    }
+}
+
+static NOTHING_KEPT: [Initial; 6] = Initial::all(&[]);
+static COMMENTS: [Initial; 6] = Initial::all(&[Terminal::Comment]);
+static INSTRUCTIONS: [Initial; 6] = Initial::all(&[Terminal::ProcessingInstruction]);
+static BOTH: [Initial; 6] = Initial::all(&[Terminal::Comment, Terminal::ProcessingInstruction]);
+
+/// What has been learned for one element name, in the start tag and in the content, oldest first.
+/// The newest has event code 0.
 struct ElementGrammar {
     element: NameId,
-    start_tag: Vec<Symbol>,
-    content: Vec<Symbol>,
+    learned: [Vec<Symbol>; 2],
+}
+
+/// A learned production, by its symbol's key.
+struct Learned {
+    key: u32,
+    /// How many older ones its state has.
+    older: u16,
+    next_in_bucket: Link,
 }
 
 pub struct Grammars {
     state: State,
-    /// Comments and instructions, those of them that are kept.
-    kept: &'static [Terminal],
+    /// The initial productions, by state.
+    initial: &'static [Initial; 6],
     elements: Vec<ElementGrammar>,
     /// Indices into `elements`.
     by_name: [Option<u8>; MAX_NAMES],
-    /// Indices into `elements`, innermost last.
-    open: Vec<u8>,
-    learned_count: usize,
+    /// Indices into `elements`, innermost last: so many of these.
+    open: [u8; MAX_OPEN],
+    depth: usize,
+    learned: Vec<Learned>,
+    learned_by_symbol: Buckets<512>,
 }
 
 impl Grammars {
     pub fn new(options: &Options) -> Self {
-        use Terminal::*;
         Grammars {
             state: State::Document,
-            kept: match (options.comments, options.instructions) {
-                (false, false) => &[],
-                (true, false) => &[Comment],
-                (false, true) => &[ProcessingInstruction],
-                (true, true) => &[Comment, ProcessingInstruction],
+            initial: match (options.comments, options.instructions) {
+                (false, false) => &NOTHING_KEPT,
+                (true, false) => &COMMENTS,
+                (false, true) => &INSTRUCTIONS,
+                (true, true) => &BOTH,
             },
             elements: Vec::with_capacity(4),
             by_name: [None; MAX_NAMES],
-            open: Vec::with_capacity(8),
-            learned_count: 0,
+            open: [0; MAX_OPEN],
+            depth: 0,
+            learned: Vec::with_capacity(8),
+            learned_by_symbol: Buckets::new(),
         }
     }
 
-    /// The initial productions of the current state, by the number of parts in their event codes.
-    fn levels(&self) -> [&'static [Terminal]; 3] {
-        use Terminal::*;
-        match self.state {
-            State::Document => [&[StartDocument], &[], &[]],
-            State::DocContent => [&[StartElement], self.kept, &[]],
-            State::StartTagContent => [
-                &[],
-                &[EndElement, Attribute, StartElement, Characters],
-                self.kept,
-            ],
-            State::ElementContent => [&[EndElement], &[StartElement, Characters], self.kept],
-            State::DocEnd => [&[EndDocument], self.kept, &[]],
-            State::Finished => [&[], &[], &[]],
-        }
+    /// The initial productions of the current state.
+    fn initial(&self) -> &'static Initial {
+        &self.initial[self.state as usize]
     }
 
-    fn current(&self) -> Option<&ElementGrammar> {
-        self.open.last().map(|&i| &self.elements[usize::from(i)])
+    /// The index of the innermost open element's grammar.
+    fn innermost(&self) -> Option<usize> {
+        self.open[..self.depth].last().copied().map(usize::from)
     }
 
     /// The learned productions of the current state.
     fn learned(&self) -> &[Symbol] {
-        match (self.state, self.current()) {
-            (State::StartTagContent, Some(grammar)) => &grammar.start_tag,
-            (State::ElementContent, Some(grammar)) => &grammar.content,
-            _ => &[],
+        match self.innermost() {
+            Some(grammar) => &self.elements[grammar].learned[self.in_content()],
+            None => &[],
         }
+    }
+
+    /// Inside an element, 1 behind its start tag, else 0.
+    fn in_content(&self) -> usize {
+        usize::from(self.state == State::ElementContent)
+    }
+
+    /// The learned production of the current state with this symbol: how many older ones there are.
+    fn find_learned(&self, symbol: Symbol) -> Option<usize> {
+        let key = symbol.key(2 * self.innermost()? + self.in_content());
+        let found = self.learned_by_symbol.find(
+            hash(key),
+            |i| self.learned[i].next_in_bucket,
+            |i| self.learned[i].key == key,
+        )?;
+        Some(usize::from(self.learned[found].older))
     }
 
     /// Whether the whole document has been seen.
@@ -122,19 +227,19 @@ impl Grammars {
         self.state == State::Finished
     }
 
-    /// Whether an event of this kind can come next.
-    pub fn allows(&self, terminal: Terminal) -> bool {
-        self.levels().iter().any(|level| level.contains(&terminal))
+    /// The place of the initial production for events of this kind, if one can come next.
+    pub fn place(&self, terminal: Terminal) -> Option<Place> {
+        self.initial().places[terminal as usize]
     }
 
     /// The innermost open element.
     pub fn open_element(&self) -> Option<NameId> {
-        self.current().map(|grammar| grammar.element)
+        Some(self.elements[self.innermost()?].element)
     }
 
     /// Whether a learned production fits.
     pub fn has_learned(&self, symbol: Symbol) -> bool {
-        self.learned().contains(&symbol)
+        self.find_learned(symbol).is_some()
     }
 
     /// Reads an event code; `read_part` reads a choice among the number given to it.
@@ -142,10 +247,10 @@ impl Grammars {
         &self,
         mut read_part: impl FnMut(usize) -> Result<usize, Refusal>,
     ) -> Result<(Symbol, Production), Refusal> {
-        let levels = self.levels();
+        let initial = self.initial();
         let mut learned = self.learned();
-        for (depth, level) in levels.iter().enumerate() {
-            let choices = learned.len() + choices(&levels, depth);
+        for (depth, level) in initial.levels.iter().enumerate() {
+            let choices = learned.len() + initial.choices[depth];
             let part = read_part(choices)?;
             if part >= choices {
                 return Err(Refusal::Code);
@@ -155,32 +260,40 @@ impl Grammars {
                 return Ok((symbol, Production::Learned));
             }
             if let Some(&terminal) = level.get(part - learned.len()) {
-                return Ok((terminal.into(), Production::Initial));
+                return Ok((terminal.into(), initial.production(depth)));
             }
             learned = &[];
         }
         Err(Refusal::Code)
     }
 
-    /// Writes the event code of a symbol that is allowed here; `write_part` takes a value and the
-    /// number of choices.
-    pub fn encode(&self, symbol: Symbol, mut write_part: impl FnMut(usize, usize)) -> Production {
-        let levels = self.levels();
-        let mut learned = self.learned();
-        if let Some(code) = learned.iter().rev().position(|&known| known == symbol) {
-            write_part(code, learned.len() + choices(&levels, 0));
-            return Production::Learned;
-        }
-        for (depth, level) in levels.iter().enumerate() {
-            let choices = learned.len() + choices(&levels, depth);
-            let place = level.iter().position(|&other| other == symbol.terminal);
-            write_part(learned.len() + place.unwrap_or(level.len()), choices);
-            if place.is_some() {
-                break;
+    /// Writes the event code of a symbol whose initial production has this place; `write_part` takes
+    /// a value and the number of choices.
+    pub fn encode(
+        &self,
+        symbol: Symbol,
+        place: Place,
+        mut write_part: impl FnMut(usize, usize),
+    ) -> Production {
+        let initial = self.initial();
+        let production = initial.production(place.depth);
+        let mut learned = self.learned().len();
+        if production == Production::Teaching && learned > 0 {
+            if let Some(older) = self.find_learned(symbol) {
+                write_part(learned - 1 - older, learned + initial.choices[0]);
+                return Production::Learned;
             }
-            learned = &[];
         }
-        Production::Initial
+        for depth in 0..place.depth {
+            let deeper = learned + initial.levels[depth].len();
+            write_part(deeper, learned + initial.choices[depth]);
+            learned = 0;
+        }
+        write_part(
+            learned + place.value,
+            learned + initial.choices[place.depth],
+        );
+        production
     }
 
     /// Moves past an event and learns from it.
@@ -190,14 +303,14 @@ impl Grammars {
                 terminal: Terminal::StartElement,
                 name: Some(name),
             } => {
-                if self.open.len() == MAX_OPEN {
+                if self.depth == MAX_OPEN {
                     return Err(Refusal::Limit);
                 }
                 Some(self.element_grammar(name)?)
             }
             _ => None,
         };
-        if production == Production::Initial {
+        if production == Production::Teaching {
             self.learn(symbol)?;
         }
 
@@ -205,13 +318,16 @@ impl Grammars {
             Terminal::StartDocument => self.state = State::DocContent,
             Terminal::EndDocument => self.state = State::Finished,
             Terminal::StartElement => {
-                self.open.extend(entered);
+                if let Some(grammar) = entered {
+                    self.open[self.depth] = grammar;
+                    self.depth += 1;
+                }
                 self.state = State::StartTagContent;
             }
             Terminal::Attribute => {}
             Terminal::EndElement => {
-                self.open.pop();
-                self.state = if self.open.is_empty() {
+                self.depth = self.depth.saturating_sub(1);
+                self.state = if self.depth == 0 {
                     State::DocEnd
                 } else {
                     State::ElementContent
@@ -237,38 +353,30 @@ impl Grammars {
         let grammar = self.elements.len() as u8;
         self.elements.push(ElementGrammar {
             element,
-            start_tag: Vec::new(),
-            content: Vec::new(),
+            learned: [Vec::new(), Vec::new()],
         });
         self.by_name[element.index()] = Some(grammar);
         Ok(grammar)
     }
 
-    /// Inside an element, what has an event code of two parts gets one of one part.
+    /// What had an event code of two parts gets one of one part.
     fn learn(&mut self, symbol: Symbol) -> Result<(), Refusal> {
-        let Some(&grammar) = self.open.last() else {
+        let Some(grammar) = self.innermost() else {
             return Ok(());
         };
-        let [_, two_parts, _] = self.levels();
-        if !two_parts.contains(&symbol.terminal) {
-            return Ok(());
-        }
-        if self.learned_count == MAX_LEARNED {
+        let count = self.learned.len();
+        if count == MAX_LEARNED {
             return Err(Refusal::Limit);
         }
-        self.learned_count += 1;
-        let grammar = &mut self.elements[usize::from(grammar)];
-        if self.state == State::StartTagContent {
-            grammar.start_tag.push(symbol);
-        } else {
-            grammar.content.push(symbol);
-        }
+        let in_content = self.in_content();
+        let key = symbol.key(2 * grammar + in_content);
+        let here = &mut self.elements[grammar].learned[in_content];
+        self.learned.push(Learned {
+            key,
+            older: here.len() as u16,
+            next_in_bucket: self.learned_by_symbol.add(hash(key), count),
+        });
+        here.push(symbol);
         Ok(())
     }
-}
-
-/// The number of values that the initial productions give to the event code part at this depth.
-fn choices(levels: &[&[Terminal]; 3], depth: usize) -> usize {
-    let deeper = levels.get(depth + 1).is_some_and(|level| !level.is_empty());
-    levels[depth].len() + usize::from(deeper)
 }

@@ -94,7 +94,7 @@ impl Reader<'_> {
                 Event::ProcessingInstruction { target, text }
             }
         };
-        if production == Production::Initial && self.grammars.has_learned(symbol) {
+        if production == Production::Teaching && self.grammars.has_learned(symbol) {
             return Err(Refusal::Loose);
         }
         self.grammars.advance(symbol, production)?;
@@ -129,9 +129,9 @@ impl Reader<'_> {
     fn local_name(&mut self, uri: UriId, terminal: Terminal) -> Result<NameId, Refusal> {
         match self.bits.unsigned()? {
             0 => {
-                let names = self.strings.local_names(uri);
-                let hit = self.bits.choice(names.len())?;
-                let name = *names.get(hit).ok_or(Refusal::Reference)?;
+                let hit = self.bits.choice(self.strings.local_name_count(uri))?;
+                let name = self.strings.local_name(uri, hit);
+                let name = name.ok_or(Refusal::Reference)?;
                 if terminal == Terminal::Attribute && name.is_reserved_attribute() {
                     return Err(Refusal::Name);
                 }
@@ -139,14 +139,11 @@ impl Reader<'_> {
             }
             length => {
                 let text = self.literal(length - 1)?;
-                let known = self.strings.find_name(self.text, uri, text.of(self.text));
-                if known.is_some() {
-                    return Err(Refusal::Loose);
+                match self.strings.find_name(self.text, uri, text.of(self.text)) {
+                    Ok(_) => Err(Refusal::Loose),
+                    Err(_) if text.is_empty() => Err(Refusal::Name),
+                    Err(hash) => self.strings.add_name(uri, text, hash),
                 }
-                if text.is_empty() {
-                    return Err(Refusal::Name);
-                }
-                self.strings.add_name(uri, text)
             }
         }
     }
@@ -173,7 +170,7 @@ impl Reader<'_> {
                 if !text.is_empty() {
                     match self.strings.find_value(self.text, text.of(self.text)) {
                         Ok(_) => return Err(Refusal::Loose),
-                        Err(bucket) => self.strings.add_value(owner, text, bucket)?,
+                        Err(hash) => self.strings.add_value(owner, text, hash)?,
                     }
                 }
                 Ok(text)

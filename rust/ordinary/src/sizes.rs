@@ -1,4 +1,4 @@
-//! The sizes of the scope, each by one name, and how many cells an event takes.
+//! The sizes, each by one name, and how many cells an event takes.
 
 /// Octets in a stream.
 pub const MAX_STREAM: usize = 16_384;
@@ -11,13 +11,13 @@ pub const MAX_URIS: usize = 16;
 /// Local names over all URIs, those included that every stream begins with.
 pub const MAX_NAMES: usize = 128;
 /// Distinct values that are not empty.
-pub const MAX_VALUES: usize = 512;
+pub const MAX_VALUES: usize = 2_048;
 /// Element grammars.
 pub const MAX_GRAMMARS: usize = 64;
 /// Learned productions in all.
 pub const MAX_LEARNED: usize = 512;
 /// Code points in one string.
-pub const MAX_STRING: usize = 1_024;
+pub const MAX_STRING: usize = 4_096;
 /// Code points in the text store.
 pub const MAX_STORE: usize = 16_384;
 

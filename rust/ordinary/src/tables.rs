@@ -2,6 +2,7 @@
 //!
 //! Entries are parts of the text store. The functions that compare texts are handed that store.
 
+use crate::buckets::{hash, Buckets, Link};
 use crate::refusal::Refusal;
 use crate::sizes::{MAX_NAMES, MAX_URIS, MAX_VALUES};
 use crate::text::Span;
@@ -13,8 +14,15 @@ pub const INITIAL_TEXT: [u32; 99] = code_points(
       baseidlangspaceniltype",
 );
 
-/// Lengths of the initial URIs, each with the lengths of its local names.
-const INITIAL_ENTRIES: [(usize, &[usize]); 3] = [(0, &[]), (36, &[4, 2, 4, 5]), (41, &[3, 4])];
+/// The initial URIs, each with its length and its local names.
+const INITIAL_URIS: [(usize, &[NameId]); 3] = [
+    (0, &[]),
+    (36, &[NameId(0), NameId(1), NameId(2), NameId(3)]),
+    (41, &[XSI_NIL, XSI_TYPE]),
+];
+
+/// The lengths of the initial local names.
+const INITIAL_NAMES: [usize; 6] = [4, 2, 4, 5, 3, 4];
 
 const XSI_NIL: NameId = NameId(4);
 const XSI_TYPE: NameId = NameId(5);
@@ -56,7 +64,9 @@ impl NameId {
 
 struct Uri {
     text: Span,
-    local_names: Vec<NameId>,
+    /// Its local names: first those that it began with.
+    initial_names: &'static [NameId],
+    more_names: Vec<NameId>,
 }
 
 struct Name {
@@ -66,6 +76,7 @@ struct Name {
     text: Span,
     /// Global identifiers of the values in the local partition of this name.
     values: Vec<u16>,
+    next_in_bucket: Link,
 }
 
 /// A value belongs to one local partition: that of the name it first came with.
@@ -74,19 +85,16 @@ pub struct Value {
     pub text: Span,
     pub owner: NameId,
     pub local_id: usize,
-    next_in_bucket: u16,
+    next_in_bucket: Link,
 }
 
 pub struct StringTable {
     uris: Vec<Uri>,
     names: Vec<Name>,
+    names_by_text: Buckets<128>,
     values: Vec<Value>,
-    /// The newest value of each hash bucket; older ones follow by `next_in_bucket`.
-    buckets: [u16; BUCKETS],
+    values_by_text: Buckets<1_024>,
 }
-
-const BUCKETS: usize = 256;
-const NO_VALUE: u16 = u16::MAX;
 
 impl StringTable {
     /// The initial entries, over a store that begins with [`INITIAL_TEXT`].
@@ -94,20 +102,23 @@ impl StringTable {
         let mut table = StringTable {
             uris: Vec::with_capacity(4),
             names: Vec::with_capacity(16),
+            names_by_text: Buckets::new(),
             values: Vec::new(),
-            buckets: [NO_VALUE; BUCKETS],
+            values_by_text: Buckets::new(),
         };
         let mut place = 0;
         let mut next = |length| {
             place += length;
             Span::new(place - length, length)
         };
-        for (length, _) in INITIAL_ENTRIES {
-            table.insert_uri(next(length));
+        for (length, names) in INITIAL_URIS {
+            table.insert_uri(next(length), names);
         }
-        for (uri, (_, lengths)) in INITIAL_ENTRIES.iter().enumerate() {
-            for &length in *lengths {
-                table.insert_name(UriId(uri as u8), next(length));
+        for (uri, (_, names)) in INITIAL_URIS.iter().enumerate() {
+            for (local_id, name) in names.iter().enumerate() {
+                let text = next(INITIAL_NAMES[name.index()]);
+                let found_by = INITIAL_HASHES[name.index()];
+                table.push_name(UriId(uri as u8), local_id, text, found_by);
             }
         }
         table
@@ -133,46 +144,65 @@ impl StringTable {
         if self.uris.len() == MAX_URIS {
             return Err(Refusal::Limit);
         }
-        Ok(self.insert_uri(text))
+        Ok(self.insert_uri(text, &[]))
     }
 
-    fn insert_uri(&mut self, text: Span) -> UriId {
+    fn insert_uri(&mut self, text: Span, initial_names: &'static [NameId]) -> UriId {
         self.uris.push(Uri {
             text,
-            local_names: Vec::new(),
+            initial_names,
+            more_names: Vec::new(),
         });
         UriId((self.uris.len() - 1) as u8)
     }
 
-    pub fn local_names(&self, uri: UriId) -> &[NameId] {
-        &self.uris[uri.index()].local_names
+    /// How many local names a URI has.
+    pub fn local_name_count(&self, uri: UriId) -> usize {
+        let uri = &self.uris[uri.index()];
+        uri.initial_names.len() + uri.more_names.len()
     }
 
-    pub fn find_name(&self, store: &[u32], uri: UriId, text: &[u32]) -> Option<NameId> {
-        self.local_names(uri)
-            .iter()
-            .copied()
-            .find(|name| self.names[name.index()].text.of(store) == text)
+    /// The name with this compact identifier among the local names of a URI.
+    pub fn local_name(&self, uri: UriId, local_id: usize) -> Option<NameId> {
+        let uri = &self.uris[uri.index()];
+        match local_id.checked_sub(uri.initial_names.len()) {
+            None => Some(uri.initial_names[local_id]),
+            Some(more) => uri.more_names.get(more).copied(),
+        }
     }
 
-    pub fn add_name(&mut self, uri: UriId, text: Span) -> Result<NameId, Refusal> {
+    /// The name of these texts, or else the hash to hand to [`Self::add_name`].
+    pub fn find_name(&self, store: &[u32], uri: UriId, text: &[u32]) -> Result<NameId, u32> {
+        let hash = hash(u32::from(uri.0), text);
+        let found = self.names_by_text.find(
+            hash,
+            |id| self.names[id].next_in_bucket,
+            |id| self.names[id].uri == uri && self.names[id].text.of(store) == text,
+        );
+        found.map(|id| NameId(id as u8)).ok_or(hash)
+    }
+
+    pub fn add_name(&mut self, uri: UriId, text: Span, hash: u32) -> Result<NameId, Refusal> {
         if self.names.len() == MAX_NAMES {
             return Err(Refusal::Limit);
         }
-        Ok(self.insert_name(uri, text))
+        let local_id = self.local_name_count(uri);
+        let id = self.push_name(uri, local_id, text, hash);
+        self.uris[uri.index()].more_names.push(id);
+        Ok(id)
     }
 
-    fn insert_name(&mut self, uri: UriId, text: Span) -> NameId {
-        let id = NameId(self.names.len() as u8);
-        let local_names = &mut self.uris[uri.index()].local_names;
+    fn push_name(&mut self, uri: UriId, local_id: usize, text: Span, hash: u32) -> NameId {
+        let id = self.names.len();
+        let next_in_bucket = self.names_by_text.add(hash, id);
         self.names.push(Name {
             uri,
-            local_id: local_names.len(),
+            local_id,
             text,
             values: Vec::new(),
+            next_in_bucket,
         });
-        local_names.push(id);
-        id
+        NameId(id as u8)
     }
 
     /// The compact identifier of a name among the local names of its URI.
@@ -196,43 +226,52 @@ impl StringTable {
         &self.names[name.index()].values
     }
 
-    /// The global identifier of a value, or else the bucket to hand to [`Self::add_value`].
-    pub fn find_value(&self, store: &[u32], text: &[u32]) -> Result<usize, usize> {
-        let bucket = bucket(text);
-        let mut id = self.buckets[bucket];
-        while id != NO_VALUE {
-            let value = &self.values[usize::from(id)];
-            if value.text.of(store) == text {
-                return Ok(usize::from(id));
-            }
-            id = value.next_in_bucket;
-        }
-        Err(bucket)
+    /// The global identifier of a value, or else the hash to hand to [`Self::add_value`].
+    pub fn find_value(&self, store: &[u32], text: &[u32]) -> Result<usize, u32> {
+        let hash = hash(0, text);
+        let found = self.values_by_text.find(
+            hash,
+            |id| self.values[id].next_in_bucket,
+            |id| self.values[id].text.of(store) == text,
+        );
+        found.ok_or(hash)
     }
 
     /// Adds a value to the global partition and to the local one of `owner`.
-    pub fn add_value(&mut self, owner: NameId, text: Span, bucket: usize) -> Result<(), Refusal> {
-        if self.values.len() == MAX_VALUES {
+    pub fn add_value(&mut self, owner: NameId, text: Span, hash: u32) -> Result<(), Refusal> {
+        let id = self.values.len();
+        if id == MAX_VALUES {
             return Err(Refusal::Limit);
         }
-        let id = self.values.len() as u16;
         let local = &mut self.names[owner.index()].values;
         self.values.push(Value {
             text,
             owner,
             local_id: local.len(),
-            next_in_bucket: self.buckets[bucket],
+            next_in_bucket: self.values_by_text.add(hash, id),
         });
-        local.push(id);
-        self.buckets[bucket] = id;
+        local.push(id as u16);
         Ok(())
     }
 }
 
-/// FNV-1a, a code point at a time.
-fn bucket(text: &[u32]) -> usize {
-    let hash = text.iter().fold(0x811C_9DC5_u32, |hash, &code_point| {
-        (hash ^ code_point).wrapping_mul(0x0100_0193)
-    });
-    (hash ^ hash >> 16) as usize % BUCKETS
-}
+/// The hashes of the initial local names.
+const INITIAL_HASHES: [u32; 6] = {
+    let mut hashes = [0; 6];
+    let mut place = INITIAL_URIS[1].0 + INITIAL_URIS[2].0;
+    let mut uri = 0;
+    while uri < INITIAL_URIS.len() {
+        let names = INITIAL_URIS[uri].1;
+        let mut i = 0;
+        while i < names.len() {
+            let name = names[i].0 as usize;
+            let (_, rest) = INITIAL_TEXT.split_at(place);
+            let (text, _) = rest.split_at(INITIAL_NAMES[name]);
+            hashes[name] = hash(uri as u32, text);
+            place += INITIAL_NAMES[name];
+            i += 1;
+        }
+        uri += 1;
+    }
+    hashes
+};

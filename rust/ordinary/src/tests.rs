@@ -1,4 +1,6 @@
-use crate::sizes::{CELLS_PER_EVENT as CELLS, MAX_EVENTS, MAX_STORE, MAX_STREAM};
+use crate::sizes::{
+    CELLS_PER_EVENT as CELLS, MAX_EVENTS, MAX_STORE, MAX_STREAM, MAX_STRING, MAX_VALUES,
+};
 use crate::{read, write, ReadReply, Refusal, Settings, WriteReply};
 
 /// Work memory that is asked for.
@@ -590,25 +592,26 @@ fn open_elements() {
 fn lengths_of_strings() {
     for s in [BITS, settings(1, 0, 1, 1)] {
         let x = |length| "x".repeat(length);
-        let longest = x(1024);
+        let longest = x(MAX_STRING);
         round_trip(
             s,
-            &document(vec![
-                se_in(&longest, &longest),
-                at(&longest, &longest),
-                ch(&longest),
-                Ee,
-            ]),
+            &document(vec![se_in(&longest, &longest), ch(&longest), Ee]),
         );
-        write_refused(s, &[Sd, se(&x(1025))], Refusal::Limit, 1);
-        write_refused(s, &[Sd, se_in(&x(1025), "a")], Refusal::Limit, 1);
-        write_refused(s, &[Sd, se("a"), ch(&x(1025))], Refusal::Limit, 2);
-        write_refused(s, &[Sd, se("a"), at("k", &x(1025))], Refusal::Limit, 2);
+        round_trip(s, &document(vec![se("a"), at(&longest, &longest), Ee]));
+        write_refused(s, &[Sd, se(&x(MAX_STRING + 1))], Refusal::Limit, 1);
+        write_refused(s, &[Sd, se_in(&x(MAX_STRING + 1), "a")], Refusal::Limit, 1);
+        write_refused(s, &[Sd, se("a"), ch(&x(MAX_STRING + 1))], Refusal::Limit, 2);
+        write_refused(
+            s,
+            &[Sd, se("a"), at("k", &x(MAX_STRING + 1))],
+            Refusal::Limit,
+            2,
+        );
     }
-    read_refused(BYTES, "80 01 81 08", Refusal::Ended, 1);
-    read_refused(BYTES, "80 01 82 08", Refusal::Limit, 1);
-    read_refused(BYTES, "80 01 02 61 03 82 08", Refusal::Ended, 2);
-    read_refused(BYTES, "80 01 02 61 03 83 08", Refusal::Limit, 2);
+    read_refused(BYTES, "80 01 81 20", Refusal::Ended, 1);
+    read_refused(BYTES, "80 01 82 20", Refusal::Limit, 1);
+    read_refused(BYTES, "80 01 02 61 03 82 20", Refusal::Ended, 2);
+    read_refused(BYTES, "80 01 02 61 03 83 20", Refusal::Limit, 2);
 }
 
 #[test]
@@ -680,8 +683,8 @@ fn entries_of_the_string_tables() {
         write_refused(s, &uris(14), Refusal::Limit, 15);
         round_trip(s, &names(121));
         write_refused(s, &names(122), Refusal::Limit, 123);
-        round_trip(s, &values(512));
-        write_refused(s, &values(513), Refusal::Limit, 514);
+        round_trip(s, &values(MAX_VALUES));
+        write_refused(s, &values(MAX_VALUES + 1), Refusal::Limit, 2050);
     }
 
     // The reader's seventeenth URI: LIMIT before the local name.
@@ -765,14 +768,14 @@ fn the_text_store_and_the_length_of_a_stream() {
     // 99 initial code points, the name, and comments up to the rest.
     let list = |rest: &str| {
         let mut list = vec![Sd, se("a")];
-        list.extend(vec![cm(&"x".repeat(1024)); 15]);
+        list.extend(vec![cm(&"x".repeat(MAX_STRING)); 3]);
         list.extend([cm(rest), Ee, Ed]);
         list
     };
-    let rest = MAX_STORE - 100 - 15 * 1024;
+    let rest = MAX_STORE - 100 - 3 * MAX_STRING;
     let stream = round_trip(s, &list(&"x".repeat(rest)));
     assert_eq!(do_read(s, &stream).reply.code_points, 16_384);
-    write_refused(s, &list(&"x".repeat(rest + 1)), Refusal::Limit, 17);
+    write_refused(s, &list(&"x".repeat(rest + 1)), Refusal::Limit, 5);
 
     // Code points from 128 on take one octet more.
     let spare = MAX_STREAM - stream.len();

@@ -1,6 +1,6 @@
 use crate::bits::BitWriter;
 use crate::event::Event;
-use crate::grammar::{Grammars, Production, Symbol, Terminal};
+use crate::grammar::{Grammars, Place, Production, Symbol, Terminal};
 use crate::refusal::Refusal;
 use crate::settings::Options;
 use crate::sizes::{CELLS_PER_EVENT, MAX_EVENTS, MAX_STORE, MAX_STREAM, MAX_STRING};
@@ -59,22 +59,22 @@ impl<'a> Writer<'a> {
     fn event(&mut self, cells: &[u32]) -> Result<(), Refusal> {
         let event = Event::from_cells(cells).ok_or(Refusal::Shape)?;
         let terminal = terminal(event);
-        if !self.grammars.allows(terminal) {
-            return Err(Refusal::Shape);
-        }
+        let place = self.grammars.place(terminal).ok_or(Refusal::Shape)?;
 
         let mut symbol = Symbol::from(terminal);
         let production = match event {
-            Event::StartDocument | Event::EndDocument | Event::EndElement => self.code(symbol),
+            Event::StartDocument | Event::EndDocument | Event::EndElement => {
+                self.code(symbol, place)
+            }
             Event::StartElement { uri, name } => {
                 let [uri, name] = self.texts([uri, name])?;
-                let (name, production) = self.qname(terminal, uri, name)?;
+                let (name, production) = self.qname(terminal, place, uri, name)?;
                 symbol.name = Some(name);
                 production
             }
             Event::Attribute { uri, name, value } => {
                 let [uri, name, value] = self.texts([uri, name, value])?;
-                let (name, production) = self.qname(terminal, uri, name)?;
+                let (name, production) = self.qname(terminal, place, uri, name)?;
                 symbol.name = Some(name);
                 self.value(name, value)?;
                 production
@@ -82,19 +82,19 @@ impl<'a> Writer<'a> {
             Event::Characters(text) => {
                 let [text] = self.texts([text])?;
                 let owner = self.grammars.open_element().ok_or(Refusal::Shape)?;
-                let production = self.code(symbol);
+                let production = self.code(symbol, place);
                 self.value(owner, text)?;
                 production
             }
             Event::Comment(text) => {
                 let [text] = self.texts([text])?;
-                let production = self.code(symbol);
+                let production = self.code(symbol, place);
                 self.literal(text, 0)?;
                 production
             }
             Event::ProcessingInstruction { target, text } => {
                 let [target, text] = self.texts([target, text])?;
-                let production = self.code(symbol);
+                let production = self.code(symbol, place);
                 self.literal(target, 0)?;
                 if target.is_empty() {
                     return Err(Refusal::Name);
@@ -115,9 +115,9 @@ impl<'a> Writer<'a> {
         Ok(texts)
     }
 
-    fn code(&mut self, symbol: Symbol) -> Production {
+    fn code(&mut self, symbol: Symbol, place: Place) -> Production {
         self.grammars
-            .encode(symbol, |value, m| self.bits.choice(value, m))
+            .encode(symbol, place, |value, m| self.bits.choice(value, m))
     }
 
     /// Writes the event code of an element or attribute, and its name unless a learned production
@@ -125,21 +125,25 @@ impl<'a> Writer<'a> {
     fn qname(
         &mut self,
         terminal: Terminal,
+        place: Place,
         uri: &[u32],
         name: &[u32],
     ) -> Result<(NameId, Production), Refusal> {
         let known_uri = self.strings.find_uri(&self.store, uri);
-        let known_name = known_uri.and_then(|id| self.strings.find_name(&self.store, id, name));
+        let known_name = known_uri.map(|id| self.strings.find_name(&self.store, id, name));
 
-        let production = self.code(Symbol {
+        let symbol = Symbol {
             terminal,
-            name: known_name,
-        });
-        if let (Some(name), Production::Learned) = (known_name, production) {
+            name: known_name.and_then(Result::ok),
+        };
+        let production = self.code(symbol, place);
+        if let (Some(Ok(name)), Production::Learned) = (known_name, production) {
             return Ok((name, production));
         }
 
         let uri = self.uri(known_uri, uri)?;
+        let known_name =
+            known_name.unwrap_or_else(|| self.strings.find_name(&self.store, uri, name));
         let name = self.local_name(known_name, uri, name)?;
         if terminal == Terminal::Attribute && name.is_reserved_attribute() {
             return Err(Refusal::Name);
@@ -164,23 +168,23 @@ impl<'a> Writer<'a> {
 
     fn local_name(
         &mut self,
-        known: Option<NameId>,
+        known: Result<NameId, u32>,
         uri: UriId,
         text: &[u32],
     ) -> Result<NameId, Refusal> {
         match known {
-            Some(name) => {
+            Ok(name) => {
                 self.bits.unsigned(0);
-                let choices = self.strings.local_names(uri).len();
+                let choices = self.strings.local_name_count(uri);
                 self.bits.choice(self.strings.local_name_id(name), choices);
                 Ok(name)
             }
-            None => {
+            Err(hash) => {
                 let text = self.literal(text, 1)?;
                 if text.is_empty() {
                     return Err(Refusal::Name);
                 }
-                self.strings.add_name(uri, text)
+                self.strings.add_name(uri, text, hash)
             }
         }
     }
@@ -204,9 +208,9 @@ impl<'a> Writer<'a> {
                 }
                 Ok(())
             }
-            Err(bucket) => {
+            Err(hash) => {
                 let text = self.literal(text, 2)?;
-                self.strings.add_value(owner, text, bucket)
+                self.strings.add_value(owner, text, hash)
             }
         }
     }

@@ -44,10 +44,10 @@ pub const TEXT_CELLS: usize = 16_384;
 pub const STREAM_OCTETS: usize = 16_384;
 
 /// Work memory to lend to the reader, at least, in cells.
-pub const READER_WORK_CELLS: usize = 4_096;
+pub const READER_WORK_CELLS: usize = 18_432;
 
 /// Work memory to lend to the writer, at least, in cells.
-pub const WRITER_WORK_CELLS: usize = 20_480;
+pub const WRITER_WORK_CELLS: usize = 34_816;
 
 /// Settings of a stream, as numbers. A number other than those named is refused as SETTINGS.
 ///

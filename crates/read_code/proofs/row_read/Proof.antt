@@ -12,8 +12,8 @@ use Rattle.read_code.proofs.row_read.Statement.{statement}
 use Rattle.read_code.proofs.row_read.Tie as tie
 
 hit : (c : tie.After-row) → let a = c .before .before .before .before .args in
-    Hit false (a .key) (now (a .work)) 1968 (a .n) (a .number) (c .row .given .0 .1 .0)
-hit c = nth-hit false _ _ 1968 _ _ (c .before .before .nth .ensures) (c .row .given .1) .1
+    Hit false (a .key) (now (a .work)) 6576 (a .n) (a .number) (c .row .given .0 .1 .0)
+hit c = nth-hit false _ _ 6576 _ _ (c .before .before .nth .ensures) (c .row .given .1) .1
 
 nth-requires : tie.Need-nth-requires
 unfolding urisAt namesAt valuesAt learnedAt maxUris maxNames maxValues
@@ -41,7 +41,7 @@ returns c = record { row = c .before .before .row .given .0 .1 .0; nth = rw (hit
 
 returns-2 : tie.Need-returns-2
 unfolding urisAt namesAt valuesAt learnedAt maxUris maxNames maxValues
-returns-2 c = absurd (omega (arith, c .before .before .before .before .before .pre .below, nth-miss false _ _ 1968 _ _ (c .before .before .before .nth .ensures) (c .before .enum-told .given .1)))
+returns-2 c = absurd (omega (arith, c .before .before .before .before .before .pre .below, nth-miss false _ _ 6576 _ _ (c .before .before .before .nth .ensures) (c .before .enum-told .given .1)))
 
 pub row-read-spec : {M : Type 1} → statement M
 row-read-spec =

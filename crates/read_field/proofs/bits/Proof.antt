@@ -1,51 +1,77 @@
--- `read_field::bits` meets its contract: n bits are the first of the 8 or 16 bits ahead.
+-- `read_field::bits` meets its contract: n bits are cut out of the window of three octets.
 use native.Mathlib.Omega.{arith}
-use Rattle.read_field.proofs.Numbers.{bits-past, one-peek, two-peeks}
+use lib.Pow.{pow-pos}
+use Rattle.read_field.proofs.Window.{power}
+use Rattle.read_field.proofs.Numbers.{bits-past, bits-none, bits-cut}
+use borrow.Author.Needs.{needs}
 use Rattle.read_field.proofs.bits.Statement.{statement}
 use Rattle.read_field.proofs.bits.Tie as tie
 
 add-next : tie.Need-add-next
-add-next c = omega arith
+add-next c = search needs
 
 mul-if1 : tie.Need-mul-if1
-mul-if1 c = omega arith
+mul-if1 c = search needs
 
 returns : tie.Need-returns
 returns c = bits-past _ _ _ (c .before .before .pre .there) (c .if1 .taken)
 
-peek-requires : tie.Need-peek-requires
-peek-requires c κs = tt
-
-shr-t12 : tie.Need-shr-t12
-shr-t12 c = omega arith
-
 returns-2 : tie.Need-returns-2
-returns-2 c = one-peek _ _ _ (c .peek .ensures) (c .before .if2 .taken) (c .before .before .if1 .left)
+returns-2 c = bits-none _ _ (omega (arith, c .if2 .taken)) (c .before .if1 .left)
 
-peek-requires-2 : tie.Need-peek-requires-2
-peek-requires-2 c κs = tt
+sub-last : tie.Need-sub-last
+sub-last c = search needs
 
-add-peek : tie.Need-add-peek
-add-peek c = omega arith
+octet-at-requires : tie.Need-octet-at-requires
+octet-at-requires c κs = search needs
 
-peek-requires-3 : tie.Need-peek-requires-3
-peek-requires-3 c κs = tt
+add-octet-at : tie.Need-add-octet-at
+add-octet-at c = search needs
 
-mul-t13 : tie.Need-mul-t13
-mul-t13 c = omega arith
+octet-at-requires-2 : tie.Need-octet-at-requires-2
+octet-at-requires-2 c κs = search needs
 
-add-t14 : tie.Need-add-t14
-add-t14 c = omega arith
+octet-at-requires-3 : tie.Need-octet-at-requires-3
+octet-at-requires-3 c κs = search needs
 
-sub-t15 : tie.Need-sub-t15
-sub-t15 c = omega arith
+mul-window : tie.Need-mul-window
+mul-window c = search needs
 
-shr-t16 : tie.Need-shr-t16
-shr-t16 c = omega arith
+mul-window-2 : tie.Need-mul-window-2
+mul-window-2 c = search needs
+
+add-window : tie.Need-add-window
+add-window c = search needs
+
+add-window-2 : tie.Need-add-window-2
+add-window-2 c = search needs
+
+shl-power : tie.Need-shl-power
+shl-power c = search needs
+
+sub-t13 : tie.Need-sub-t13
+sub-t13 c = search needs
+
+sub-t18 : tie.Need-sub-t18
+sub-t18 c = search needs
+
+cast-t17 : tie.Need-cast-t17
+cast-t17 c = search needs
+
+shr-t15 : tie.Need-shr-t15
+shr-t15 c = search needs
+
+sub-t16 : tie.Need-sub-t16
+sub-t16 c =
+    let n = c .before .before .before .before .before .before .args .n in
+    rw (power n (omega arith)) (pow-pos n)
 
 returns-3 : tie.Need-returns-3
-returns-3 c = let b = c .before .before .before in
-    two-peeks _ _ _ (c .before .peek2 .ensures) (c .peek3 .ensures) (b .before .before .pre .small) (b .if1 .left)
+returns-3 c =
+    let b = c .before .before .before in
+    let a = b .before in
+    bits-cut _ _ _ (omega (arith, b .if2 .left)) (a .before .before .pre .small) (a .if1 .left)
+    (c .before .before .octet-at .ensures) (c .before .octet-at2 .ensures) (c .octet-at3 .ensures)
 
 pub bits-spec : {M : Type 1} → statement M
 bits-spec =
@@ -54,14 +80,20 @@ bits-spec =
     add-next
     mul-if1
     returns
-    peek-requires
-    shr-t12
     returns-2
-    peek-requires-2
-    add-peek
-    peek-requires-3
-    mul-t13
-    add-t14
-    sub-t15
-    shr-t16
+    sub-last
+    octet-at-requires
+    add-octet-at
+    octet-at-requires-2
+    octet-at-requires-3
+    mul-window
+    mul-window-2
+    add-window
+    add-window-2
+    shl-power
+    sub-t13
+    sub-t18
+    cast-t17
+    shr-t15
+    sub-t16
     returns-3)

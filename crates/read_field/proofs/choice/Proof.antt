@@ -1,5 +1,5 @@
 -- `read_field::choice` meets its contract: a number as wide as the choice.
-use Rattle.read_field.proofs.Doubling.{at-most}
+use Rattle.read_field.proofs.Zeros.{at-most}
 use native.Mathlib.Omega.{arith}
 use Rattle.read_field.proofs.choice.Statement.{statement}
 use Rattle.read_field.proofs.choice.Tie as tie

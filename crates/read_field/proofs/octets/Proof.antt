@@ -1,73 +1,61 @@
--- `read_field::octets` meets its contract: no octet, one or two, the least significant first.
-use Rattle.read_field.proofs.Numbers.{no-octet, one-octet, two-octets, octets-past}
+-- `read_field::octets` meets its contract: all bits are one number, and its octets exchanged.
+use mathlib.Core.Path.{refl, sym, _∙_}
 use native.Mathlib.Omega.{arith}
+use Rattle.read_field.proofs.Numbers.{octets-none, raised-fits, octets-found}
+use borrow.Author.Needs.{needs}
 use Rattle.read_field.proofs.octets.Statement.{statement}
 use Rattle.read_field.proofs.octets.Tie as tie
 
-add-after : tie.Need-add-after
-add-after c = omega arith
+add-size : tie.Need-add-size
+add-size c = search needs
 
-mul-after : tie.Need-mul-after
-mul-after c = omega arith
+mul-size : tie.Need-mul-size
+mul-size c = search needs
 
-cast-after : tie.Need-cast-after
-cast-after c = omega arith
+bits-requires : tie.Need-bits-requires
+bits-requires c κs = search needs
 
-add-after-2 : tie.Need-add-after-2
-add-after-2 c = omega arith
+enum-known-value : tie.Need-enum-known-value
+enum-known-value c = search needs
 
-mul-if1 : tie.Need-mul-if1
-mul-if1 c = omega arith
+sub-exchanged : tie.Need-sub-exchanged
+sub-exchanged c = search needs
+
+shl-exchanged : tie.Need-shl-exchanged
+shl-exchanged c = search needs
+
+exchanged-requires : tie.Need-exchanged-requires
+exchanged-requires c κs =
+    let b = c .before in
+    raised-fits _ _ _ _ refl (b .before .before .before .before .pre .there) (omega arith)
+    (sym (b .before .before .bits .ensures) ∙ b .value .given .1)
+
+enum-known-k : tie.Need-enum-known-k
+enum-known-k c = search needs
 
 returns : tie.Need-returns
-returns c = octets-past _ _ _ (c .before .before .pre .there) (c .if1 .taken)
+returns c =
+    let b = c .before .before in
+    octets-found _ _ _ _ refl (b .before .before .before .before .pre .there) (omega arith)
+    (sym (b .before .before .bits .ensures) ∙ b .value .given .1) (c .exchanged .ensures)
 
 returns-2 : tie.Need-returns-2
-returns-2 c = no-octet _ _ (c .if2 .taken) (omega arith) (c .before .if1 .left)
-
-peek-requires : tie.Need-peek-requires
-peek-requires c κs = tt
-
-returns-3 : tie.Need-returns-3
-returns-3 c = one-octet _ _ (c .peek .ensures) (omega arith) (c .before .if3 .taken) (omega arith) (c .before .before .before .if1 .left)
-
-peek-requires-2 : tie.Need-peek-requires-2
-peek-requires-2 c κs = tt
-
-add-peek : tie.Need-add-peek
-add-peek c = omega arith
-
-peek-requires-3 : tie.Need-peek-requires-3
-peek-requires-3 c κs = tt
-
-mul-t7 : tie.Need-mul-t7
-mul-t7 c = omega arith
-
-add-t8 : tie.Need-add-t8
-add-t8 c = omega arith
-
-returns-4 : tie.Need-returns-4
-returns-4 c =
-    let b = c .before .before in
-    let a = b .before .before in
-    two-octets _ _ (c .before .peek2 .ensures) (c .peek3 .ensures) (b .if3 .left) (a .before .before .pre .small) (omega arith) (a .if1 .left)
+returns-2 c =
+    let b = c .before in
+    octets-none _ _ _ _ refl (b .before .before .before .before .pre .there)
+    (sym (b .before .before .bits .ensures) ∙ b .k .given .1)
 
 pub octets-spec : {M : Type 1} → statement M
 octets-spec =
     tie.close
     (tie.spec
-    add-after
-    mul-after
-    cast-after
-    add-after-2
-    mul-if1
+    add-size
+    mul-size
+    bits-requires
+    enum-known-value
+    sub-exchanged
+    shl-exchanged
+    exchanged-requires
+    enum-known-k
     returns
-    returns-2
-    peek-requires
-    returns-3
-    peek-requires-2
-    add-peek
-    peek-requires-3
-    mul-t7
-    add-t8
-    returns-4)
+    returns-2)

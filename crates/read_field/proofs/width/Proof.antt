@@ -1,37 +1,24 @@
--- `read_field::width` meets its contract. The loop's invariant: `reach` is 2 ^ n, and n is at most the width. The measure is what is left
--- of the width.
-use Rattle.read_field.proofs.Doubling.{Doubling, doubled, reached, at-most}
-use Rattle.spec_fields.specs.Field.{width}
-use Prim.Native.Nat.{_-_}
-use mathlib.Core.Path.{refl}
+-- `read_field::width` meets its contract: 0 for a choice among none, else the length of m - 1.
 use native.Mathlib.Omega.{arith}
+use lib.Count.{leading-le}
+use borrow.Author.Needs.{needs}
+use Rattle.spec_fields.specs.Field.{width, widthFrom}
+use Rattle.read_field.proofs.Zeros.{by-zeros}
 use Rattle.read_field.proofs.width.Statement.{statement}
 use Rattle.read_field.proofs.width.Tie as tie
 
-abbrev Inv-loop : tie.InvT-loop
-Inv-loop m n₀ reach₀ n reach = Doubling m n reach
+returns : tie.Need-returns
+unfolding width widthFrom
+returns c = rw (c .if1 .taken)
 
-abbrev μ-loop : tie.MeasureT-loop
-μ-loop m n₀ reach₀ n reach = width m - n
+sub-result : tie.Need-sub-result
+sub-result c = search needs
 
-loop-holds : tie.Need-loop-holds Inv-loop μ-loop
-loop-holds c = record { power = refl; early = omega arith }
+sub-result-2 : tie.Need-sub-result-2
+sub-result-2 c = leading-le 32 _
 
-mul-reach : tie.Need-mul-reach Inv-loop μ-loop
-mul-reach c = omega arith
-
-add-n : tie.Need-add-n Inv-loop μ-loop
-add-n c = omega (arith, at-most (c .before .before .pre))
-
-loop-less : tie.Need-loop-less Inv-loop μ-loop
-loop-less c = omega (arith, doubled (c .before .loop .inv) (c .loop-test .taken) .early)
-
-loop-again : tie.Need-loop-again Inv-loop μ-loop
-loop-again c = doubled (c .before .loop .inv) (c .loop-test .taken)
-
-returns : tie.Need-returns Inv-loop μ-loop
-returns c = reached (c .before .loop .inv) (c .loop-test .left)
+returns-2 : tie.Need-returns-2
+returns-2 c = by-zeros _ (omega arith) (omega arith)
 
 pub width-spec : {M : Type 1} → statement M
-width-spec =
-    tie.close (tie.spec Inv-loop μ-loop loop-holds mul-reach add-n loop-less loop-again returns)
+width-spec = tie.close (tie.spec returns sub-result sub-result-2 returns-2)

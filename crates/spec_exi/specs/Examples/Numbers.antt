@@ -44,17 +44,17 @@ writerRoom k w = record { octets = k; work = w }
 -- Just enough, then each part one short.
 unfoldable pub readerRooms : List ReaderRoom
 readerRooms =
-    readerRoom 36864 16384 4096 ∷ readerRoom 36863 16384 4096 ∷ readerRoom 36864 16383 4096
-    ∷ readerRoom 36864 16384 4095 ∷ []
+    readerRoom 36864 16384 18432 ∷ readerRoom 36863 16384 18432 ∷ readerRoom 36864 16383 18432
+    ∷ readerRoom 36864 16384 18431 ∷ []
 
 unfoldable pub writerRooms : List WriterRoom
-writerRooms = writerRoom 16384 20480 ∷ writerRoom 16383 20480 ∷ writerRoom 16384 20479 ∷ []
+writerRooms = writerRoom 16384 34816 ∷ writerRoom 16383 34816 ∷ writerRoom 16384 34815 ∷ []
 
 -- What the scope says in numbers.
 pub record Pinned : Type 0 where
   pub refusals : Numbered
   pub sizesAre : sizes
-      ≡ sizesAs (16384 ∷ 4096 ∷ 100 ∷ 16 ∷ 128 ∷ 512 ∷ 64 ∷ 512 ∷ 1024 ∷ 16384 ∷ 4096 ∷ [])
+      ≡ sizesAs (16384 ∷ 4096 ∷ 100 ∷ 16 ∷ 128 ∷ 2048 ∷ 64 ∷ 512 ∷ 4096 ∷ 16384 ∷ 18432 ∷ [])
   -- Of a stream, and of a list, without octets and events: SETTINGS. ROOM comes before it.
   pub readerSettings : map (λ o. readReply (read full o []) .number) meaningless ≡ replicate 10 2
   pub writerSettings : map (λ o. writeReply (write fullToWrite o [] []) .number) meaningless

@@ -18,8 +18,10 @@ orders =
     ∷ example inOctets "80" (refused ended 1)
     -- A URI number past the table: REFERENCE.
     ∷ example inOctets "80 04" (refused reference 1)
-    -- 1,025 code points, and the first is no Char: LIMIT. So many that they are NUMBER: NUMBER.
-    ∷ example inOctets "80 01 82 08 00" (refused limit 1)
+    -- 4,096 code points that are not there: ENDED. 4,097, and the first is no Char: LIMIT. So many
+    -- that they are NUMBER: NUMBER.
+    ∷ example inOctets "80 01 81 20" (refused ended 1)
+    ∷ example inOctets "80 01 82 20 00" (refused limit 1)
     ∷ example inOctets "80 01 FF FF FF FF 07" (refused limit 1)
     ∷ example inOctets "80 01 FF FF FF FF 08" (refused number 1)
     -- A fifth octet that continues: NUMBER, and not ENDED.

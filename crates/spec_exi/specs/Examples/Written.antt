@@ -58,8 +58,8 @@ writes =
     ∷ listed (some (startElement (named 9 0)) ∷ []) [] (refused place 1)
     -- An empty one inside: NAME.
     ∷ listed (some (startElement (named 0 0)) ∷ []) [] (refused name 1)
-    -- 1,025 code points that are no Chars: LIMIT. One: CHARACTER.
-    ∷ listed (some (startElement (named 0 1025)) ∷ []) (replicate 1025 0) (refused limit 1)
+    -- 4,097 code points that are no Chars: LIMIT. One: CHARACTER.
+    ∷ listed (some (startElement (named 0 4097)) ∷ []) (replicate 4097 0) (refused limit 1)
     ∷ listed (some (startElement (named 0 1)) ∷ []) (0 ∷ []) (refused character 1) ∷ []
 
 -- The replies to these.
@@ -105,5 +105,5 @@ atSizes =
     -- 16 and 17 URIs
     ∷ listed (inUris 13 0) aRow (refused shape 14)
     ∷ listed (inUris 14 0) aRow (refused limit 14)
-    -- 1,024 code points (1,025 are above)
-    ∷ listed (some (startElement (named 0 1024)) ∷ []) (replicate 1024 97) (refused shape 2) ∷ []
+    -- 4,096 code points (4,097 are above)
+    ∷ listed (some (startElement (named 0 4096)) ∷ []) (replicate 4096 97) (refused shape 2) ∷ []

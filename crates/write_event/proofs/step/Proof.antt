@@ -6,6 +6,7 @@ use borrow.Author.Needs.{needs}
 use Rattle.learning.proofs.Growth.{grow-writer, grow-asks}
 use Rattle.learning.proofs.Kept.{grown-above, grown-refused}
 use Rattle.settings.specs.Meant.{settingsFrom}
+use Rattle.spec_exi.specs.Sizes.{maxEvents, maxString}
 use Rattle.spec_exi.specs.Grammar.{kindNumber}
 use Rattle.write_event.proofs.Assembly.{shape-step, place-step, content-step, limit-step, done-step, items-ask, items-grow}
 use Rattle.write_event.proofs.Events.{same-kind}
@@ -13,6 +14,7 @@ use Rattle.write_event.proofs.step.Statement.{statement}
 use Rattle.write_event.proofs.step.Tie as tie
 
 put-event-code-requires : tie.Need-put-event-code-requires
+unfolding maxEvents maxString
 put-event-code-requires c κs =
     let start = c .before .before .before .before .before in
     record { blank = start .pre .blank; near = omega (arith, start .pre .near); standing = start .pre .standing }

@@ -1,4 +1,5 @@
 -- `put_number` meets its contract.
+use Rattle.spec_fields.specs.Field.{numberBits}
 use Rattle.write_field.specs.Written.{alignmentOf}
 use Rattle.write_field.proofs.Written.{put-length}
 use Rattle.write_field.proofs.put_number.Statement.{statement}
@@ -21,7 +22,7 @@ same-length-2 : tie.Need-same-length-2
 same-length-2 c = put-length (c .before .before .put-bits .ensures)
 
 returns-2 : tie.Need-returns-2
-unfolding alignmentOf
+unfolding alignmentOf numberBits
 returns-2 c = rw (c .before .before .before .before .if1 .left) (c .before .before .put-bits .ensures)
 
 pub put-number-spec : {M : Type 1} → statement M

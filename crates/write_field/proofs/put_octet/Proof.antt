@@ -1,108 +1,73 @@
--- `put_octet` meets its contract.
-use Prim.Native.Nat.{_+_, _/_, _%_, _^_, _<_}
-use native.Mathlib.Omega.{arith}
-use lib.ListN.{length-set}
+-- `put_octet` meets its contract: one part, or two.
+use mathlib.Core.Path.{_∙_}
+use Rattle.write_field.proofs.Written.{put-length}
+use Rattle.write_field.proofs.Field.{octet-asks, octet-whole, rest-asks, octet-split}
 use borrow.Author.Needs.{needs}
-use Rattle.write_field.proofs.Octet.{put-outside, put-last, put-both, here-fits}
 use Rattle.write_field.proofs.put_octet.Statement.{statement}
 use Rattle.write_field.proofs.put_octet.Tie as tie
 
+cast-put-part : tie.Need-cast-put-part
+cast-put-part c = search needs
+
+shr-put-part : tie.Need-shr-put-part
+shr-put-part c = search needs
+
+put-part-requires : tie.Need-put-part-requires
+put-part-requires c κs = octet-asks _ (c .before .before .pre)
+
 add-result : tie.Need-add-result
-add-result c = omega arith
-
-returns : tie.Need-returns
-returns c = put-outside (c .before .slice-known .given) (c .before .before .pre) (c .if1 .taken)
-
-slice-read-wide : tie.Need-slice-read-wide
-slice-read-wide c = omega arith
-
-wide-requires : tie.Need-wide-requires
-wide-requires c κs = search needs
-
-cast-buf : tie.Need-cast-buf
-cast-buf c = omega arith
-
-shr-buf : tie.Need-shr-buf
-shr-buf c = omega arith
-
-fits : (c : tie.After-wide) → c .wide .result + c .before .before .before .before .args .v / 2 ^ (c .before .before .before .before .args .at % 8) < 256
-fits c = here-fits (c .before .before .before .slice-known .given) (c .before .before .before .before .pre) (c .wide .ensures) (c .before .before .if1 .left)
-
-add-buf : tie.Need-add-buf
-add-buf c = omega (arith, fits c)
-
-cast-buf-2 : tie.Need-cast-buf-2
-cast-buf-2 c = omega (arith, fits c)
-
-slice-write-buf : tie.Need-slice-write-buf
-slice-write-buf c = omega arith
-
-add-if2 : tie.Need-add-if2
-add-if2 c = omega arith
-
-add-result-2 : tie.Need-add-result-2
-add-result-2 c = omega arith
+add-result c = search needs
 
 same-length : tie.Need-same-length
-same-length c = simp length-set
+same-length c = put-length (c .before .before .before .put-part .ensures)
 
-returns-2 : tie.Need-returns-2
-returns-2 c =
-    put-last (c .before .before .before .before .slice-known .given) (c .before .before .before .before .before .pre)
-    (c .before .wide .ensures) (rw length-set at (c .if2 .taken))
+returns : tie.Need-returns
+returns c = let a = c .before .before .before in
+    octet-whole _ (a .before .before .before .pre) (a .put-part .ensures)
+    (c .before .slice-known2 .given) (c .if1 .taken)
 
-mul-buf : tie.Need-mul-buf
-mul-buf c = omega arith
+sub-put-part : tie.Need-sub-put-part
+sub-put-part c = search needs
 
-cast-buf-3 : tie.Need-cast-buf-3
-cast-buf-3 c = omega arith
+cast-put-part-2 : tie.Need-cast-put-part-2
+cast-put-part-2 c = search needs
 
-shr-buf-2 : tie.Need-shr-buf-2
-shr-buf-2 c = omega arith
+shl-put-part : tie.Need-shl-put-part
+shl-put-part c = search needs
 
-cast-buf-4 : tie.Need-cast-buf-4
-cast-buf-4 c = omega arith
+put-part-requires-2 : tie.Need-put-part-requires-2
+put-part-requires-2 c κs = let a = c .before .before .before .before in
+    rest-asks _ (a .before .before .before .pre) (a .put-part .ensures)
 
-add-buf-2 : tie.Need-add-buf-2
-add-buf-2 c = omega arith
-
-slice-write-buf-2 : tie.Need-slice-write-buf-2
-slice-write-buf-2 c = omega arith
-
-add-result-3 : tie.Need-add-result-3
-add-result-3 c = omega arith
+add-result-2 : tie.Need-add-result-2
+add-result-2 c = search needs
 
 same-length-2 : tie.Need-same-length-2
-same-length-2 c = simp length-set
+same-length-2 c =
+    let b = c .before .before in
+    let a = b .before .before .before .before .before in
+    put-length (b .put-part2 .ensures) ∙ put-length (a .put-part .ensures)
 
-returns-3 : tie.Need-returns-3
-returns-3 c =
-    put-both (c .before .before .before .before .slice-known .given) (c .before .before .before .before .before .pre)
-    (c .before .wide .ensures)
+returns-2 : tie.Need-returns-2
+returns-2 c = let b = c .before .before in
+    let a = b .before .before .before .before .before in
+    octet-split _ (a .before .before .before .pre) (a .put-part .ensures) (b .put-part2 .ensures)
+    (c .slice-known3 .given)
 
 pub put-octet-spec : {M : Type 1} → statement M
 put-octet-spec =
     tie.close
     (tie.spec
+    cast-put-part
+    shr-put-part
+    put-part-requires
     add-result
-    returns
-    slice-read-wide
-    wide-requires
-    cast-buf
-    shr-buf
-    add-buf
-    cast-buf-2
-    slice-write-buf
-    add-if2
-    add-result-2
     same-length
-    returns-2
-    mul-buf
-    cast-buf-3
-    shr-buf-2
-    cast-buf-4
-    add-buf-2
-    slice-write-buf-2
-    add-result-3
+    returns
+    sub-put-part
+    cast-put-part-2
+    shl-put-part
+    put-part-requires-2
+    add-result-2
     same-length-2
-    returns-3)
+    returns-2)

@@ -1,55 +1,47 @@
--- `put_octets` meets its contract.
-use mathlib.Core.Path.{_∙_}
-use native.Mathlib.Omega.{arith}
-use borrow.Author.Needs.{needs}
+-- `put_octets` meets its contract: the octets exchanged are the bits of one number.
+use mathlib.Core.Path.{refl}
 use Rattle.write_field.proofs.Written.{put-length}
-use Rattle.write_field.proofs.Field.{put-aligned-none, octet-asks, put-aligned-one, second-asks, put-aligned-two}
+use Rattle.write_field.proofs.Field.{sixteen, octets-ask, put-little}
+use borrow.Author.Needs.{needs}
 use Rattle.write_field.proofs.put_octets.Statement.{statement}
 use Rattle.write_field.proofs.put_octets.Tie as tie
 
-returns : tie.Need-returns
-returns c = put-aligned-none (c .before .before .pre) (c .before .slice-known .given) (c .if1 .taken)
+add-size : tie.Need-add-size
+add-size c = search needs
 
-put-octet-requires : tie.Need-put-octet-requires
-put-octet-requires c κs = octet-asks (c .before .before .before .before .pre) (c .before .if2 .taken)
+mul-size : tie.Need-mul-size
+mul-size c = search needs
+
+exchanged-requires : tie.Need-exchanged-requires
+exchanged-requires c κs = sixteen (c .before .before .pre)
+
+sub-put-bits : tie.Need-sub-put-bits
+sub-put-bits c = search needs
+
+shr-put-bits : tie.Need-shr-put-bits
+shr-put-bits c = search needs
+
+put-bits-requires : tie.Need-put-bits-requires
+put-bits-requires c κs = octets-ask (c .before .before .before .pre) refl (c .exchanged .ensures)
 
 same-length : tie.Need-same-length
-same-length c = put-length (c .before .before .put-octet .ensures)
+same-length c = put-length (c .before .before .put-bits .ensures)
 
-returns-2 : tie.Need-returns-2
-returns-2 c =
-    put-aligned-one (c .before .before .before .before .before .before .before .pre)
-    (omega (arith, c .before .before .before .before .before .if1 .left)) (c .before .before .before .before .if2 .taken)
-    (c .before .before .put-octet .ensures)
-
-put-octet-requires-2 : tie.Need-put-octet-requires-2
-put-octet-requires-2 c κs = search needs
-
-put-octet-requires-3 : tie.Need-put-octet-requires-3
-put-octet-requires-3 c κs =
-    second-asks (c .before .before .before .before .before .before .before .before .pre)
-    (c .before .before .before .put-octet2 .ensures)
-
-same-length-2 : tie.Need-same-length-2
-same-length-2 c =
-    put-length (c .before .before .put-octet3 .ensures)
-    ∙ put-length (c .before .before .before .before .before .before .put-octet2 .ensures)
-
-returns-3 : tie.Need-returns-3
-returns-3 c =
-    put-aligned-two (c .before .before .before .before .before .before .before .before .before .before .before .pre)
-    (c .before .before .before .before .before .before .put-octet2 .ensures)
-    (c .before .before .before .before .before .before .before .before .if2 .left) (c .before .before .put-octet3 .ensures)
+returns : tie.Need-returns
+returns c =
+    let b = c .before .before in
+    put-little (b .before .before .before .before .pre) refl (b .before .exchanged .ensures)
+    (b .put-bits .ensures)
 
 pub put-octets-spec : {M : Type 1} → statement M
 put-octets-spec =
     tie.close
     (tie.spec
-    returns
-    put-octet-requires
+    add-size
+    mul-size
+    exchanged-requires
+    sub-put-bits
+    shr-put-bits
+    put-bits-requires
     same-length
-    returns-2
-    put-octet-requires-2
-    put-octet-requires-3
-    same-length-2
-    returns-3)
+    returns)

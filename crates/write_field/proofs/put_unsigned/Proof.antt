@@ -19,7 +19,9 @@ add-put-octet : tie.Need-add-put-octet Inv-loop μ-loop
 add-put-octet c = omega arith
 
 put-octet-requires : tie.Need-put-octet-requires Inv-loop μ-loop
-put-octet-requires c κs = group-asks _ (c .before .before .before .before .pre .near) (c .before .before .loop .inv) (omega arith)
+put-octet-requires c κs =
+    let b = c .before .before in
+    group-asks _ (b .before .before .pre .near) (b .loop .inv) (omega arith)
 
 loop-less : tie.Need-loop-less Inv-loop μ-loop
 loop-less c = omega arith
@@ -30,10 +32,14 @@ loop-again c =
     (c .before .before .put-octet .ensures)
 
 put-octet-requires-2 : tie.Need-put-octet-requires-2 Inv-loop μ-loop
-put-octet-requires-2 c κs = group-asks _ (c .before .before .before .before .pre .near) (c .before .before .loop .inv) (omega arith)
+put-octet-requires-2 c κs =
+    let b = c .before .before in
+    group-asks _ (b .before .before .pre .near) (b .loop .inv) (omega arith)
 
 same-length : tie.Need-same-length Inv-loop μ-loop
-same-length c = put-length (c .before .before .put-octet2 .ensures) ∙ put-length (c .before .before .before .before .before .loop .inv .put)
+same-length c =
+    let b = c .before .before in
+    put-length (b .put-octet2 .ensures) ∙ put-length (b .before .before .before .loop .inv .put)
 
 returns : tie.Need-returns Inv-loop μ-loop
 returns c =

@@ -1,4 +1,5 @@
 -- `put_instruction` meets its contract.
+use native.Mathlib.Omega.{arith}
 use borrow.Author.Needs.{needs}
 use Rattle.spec_fields.specs.Field.{bitPacked}
 use Rattle.write_items.proofs.Sent.{behind, target-refused, text-behind}
@@ -22,7 +23,7 @@ put-text-requires-2 c κs =
     let passed = c .before .before .before in
     let first = passed .before .before .before .before .before .before in
     let start = first .before .before .before .before .before .before .before in
-    behind (start .pre .0) (start .pre .1) (first .put-text .ensures .0 bitPacked) (passed .if1 .left)
+    behind (start .pre .0) (omega (arith, start .pre .1)) (first .put-text .ensures .0 bitPacked) (passed .if1 .left)
 
 same-length-3 : tie.Need-same-length-3
 same-length-3 c = search needs

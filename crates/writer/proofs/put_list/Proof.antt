@@ -4,7 +4,7 @@ use native.Mathlib.Omega.{arith}
 use borrow.Author.Needs.{needs}
 use denote.Ref.{now}
 use Rattle.settings.specs.Meant.{settingsFrom}
-use Rattle.spec_exi.specs.Sizes.{maxEvents}
+use Rattle.spec_exi.specs.Sizes.{maxEvents, maxString}
 use Rattle.writer.proofs.Start.{tables-fit, text-fits, events-ask, list-begins}
 use Rattle.writer.proofs.Reply.{list-refused, list-long, list-put}
 use Rattle.writer.proofs.put_list.Statement.{statement}
@@ -59,6 +59,7 @@ returns c =
     (e .put-events .ensures) (c .before .if1 .taken)
 
 add-octets : tie.Need-add-octets
+unfolding maxEvents maxString
 add-octets c = search needs
 
 same-length-3 : tie.Need-same-length-3

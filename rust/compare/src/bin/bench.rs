@@ -1,57 +1,154 @@
 //! Times the library and the ordinary implementation on the same streams, in one run.
 //!
 //! Both get the same lent memory, of the stated sizes, which each leaves zero but for what it
-//! counts. Slices of the streams are put to one and the other by turns; a time is the median over
-//! all slices. The clearing of the same memory by itself is timed beside them.
+//! counts. A row's streams are put in slices to the library, to the ordinary implementation and to
+//! a clearing of the same memory, by turns, in many rounds; of each slice the fastest time of each
+//! counts, since that was disturbed least by other programs. A ratio is the library's time by the
+//! ordinary one's; net of clearing, the clearing is taken off both.
 //!
-//! Where other programs run, the medians move with them; the ratio of the fastest slices, which
-//! were disturbed least, stands beside theirs.
+//! `bench WORD..` takes only rows whose names have one of the words. `bench --once ROW WAY WHICH`
+//! puts a few streams of a row once to one of the two, for a counter of instructions; see
+//! `instructions`. `bench --rows` tells the names of the rows.
 
 #![forbid(unsafe_code)]
 
 use std::hint::black_box;
 use std::ops::Range;
+use std::process::ExitCode;
 use std::time::Instant;
 
 use compare::encode::encode;
 use compare::event::{document, element, events, text, Event, Stored, Text, CELLS};
 use compare::lent::{Codec, ReaderSizes, Settings, WriterSizes};
 use compare::prng::Prng;
-use compare::sizes::MAX_STREAM;
+use compare::sizes::{MAX_STORE, MAX_STREAM, MAX_STRING, MAX_VALUES};
 
 const END: Event = Event::EndElement;
+const ROUNDS: usize = 15;
+
+/// What the library may take of the ordinary implementation's time.
+#[derive(Clone, Copy)]
+struct Goals {
+    read: f64,
+    write: f64,
+    /// The reader's, with the clearing taken off both.
+    read_net: Option<f64>,
+}
+
+const GOALS: Goals = Goals {
+    read: 1.0,
+    write: 1.0,
+    read_net: None,
+};
+const SMALL: Goals = Goals {
+    read: 0.95,
+    write: 0.9,
+    read_net: Some(0.75),
+};
+/// Where the writer looks much up and writes little.
+const LOOK_UPS: Goals = Goals {
+    write: 1.25,
+    ..GOALS
+};
+
+/// Eight times the octets may take this many times the time.
+const GROWTH: f64 = 9.0;
+
+/// What streams are made of: so many lists.
+type Lists = fn(usize) -> Vec<Vec<Event>>;
+
+struct Row {
+    name: &'static str,
+    lists: Lists,
+    settings: Settings,
+    /// How many streams there are, and how many in a slice.
+    streams: usize,
+    slice: usize,
+    goals: Goals,
+}
+
+const BITS: Settings = Settings::BIT_PACKED;
+const BYTES: Settings = Settings::BYTE_ALIGNED;
+
+/// A row in each alignment, the name with it behind.
+macro_rules! both {
+    ($name:literal, $lists:expr, $streams:literal, $slice:literal, $goals:expr) => {
+        [
+            Row {
+                name: concat!($name, ", byte-aligned"),
+                lists: $lists,
+                settings: BYTES,
+                streams: $streams,
+                slice: $slice,
+                goals: $goals,
+            },
+            Row {
+                name: concat!($name, ", bit-packed"),
+                lists: $lists,
+                settings: BITS,
+                streams: $streams,
+                slice: $slice,
+                goals: $goals,
+            },
+        ]
+    };
+}
+
+/// Rows with * need sizes that have not landed, and are cut to those of today.
+fn rows() -> Vec<Row> {
+    let growth = |name, lists| Row {
+        name,
+        lists,
+        settings: BYTES,
+        streams: 10,
+        slice: 1,
+        goals: GOALS,
+    };
+    let mut rows = Vec::new();
+    rows.extend(both!("K7", readings, 10_000, 200, SMALL));
+    rows.extend(both!("long", long_documents, 20, 1, GOALS));
+    rows.extend(both!("512 values", unlike_values, 10, 1, GOALS));
+    rows.extend(both!("512 alike", alike_values, 10, 1, GOALS));
+    rows.extend(both!("100 deep", deep, 20, 1, LOOK_UPS));
+    rows.extend(both!("128 names", many_names, 20, 1, LOOK_UPS));
+    rows.extend(both!("local hits", local_hits, 10, 1, LOOK_UPS));
+    rows.extend(both!("long notes", long_notes, 10, 1, GOALS));
+    rows.extend(both!("500 readings*", day, 10, 1, GOALS));
+    rows.extend(both!("2,048 short*", short_values, 10, 1, GOALS));
+    rows.push(growth("growth, 2 KB", |count| records(count, 32)));
+    rows.push(growth("growth, 4 KB", |count| records(count, 64)));
+    rows.push(growth("growth, 8 KB", |count| records(count, 128)));
+    rows.push(growth("growth, 16 KB", |count| records(count, 256)));
+    rows
+}
 
 struct Case {
-    name: &'static str,
-    settings: Settings,
+    row: Row,
     streams: Vec<Vec<u8>>,
     lists: Vec<Stored>,
-    /// Streams in a slice.
-    slice: usize,
-    rounds: usize,
-    /// How much slower than the ordinary reader the library's may be.
-    goal: f64,
 }
 
 impl Case {
-    fn new(
-        name: &'static str,
-        settings: Settings,
-        lists: Vec<Vec<Event>>,
-        slice: usize,
-        rounds: usize,
-        goal: f64,
-    ) -> Case {
-        let streams = lists.iter().map(|list| encode(settings, list).octets());
+    fn new(row: Row, streams: usize) -> Case {
+        let lists = (row.lists)(streams);
+        let encoded = lists.iter().map(|list| encode(row.settings, list).octets());
+        let streams: Vec<Vec<u8>> = encoded.collect();
+        let longest = streams.iter().map(Vec::len).max();
+        assert!(longest <= Some(MAX_STREAM), "{}: {longest:?}", row.name);
         Case {
-            name,
-            settings,
-            streams: streams.collect(),
+            streams,
             lists: lists.iter().map(|list| Stored::plain(list)).collect(),
-            slice,
-            rounds,
-            goal,
+            row,
         }
+    }
+
+    fn events(&self) -> usize {
+        let cells: usize = self.lists.iter().map(|list| list.cells.len()).sum();
+        cells / CELLS
+    }
+
+    fn octets(&self) -> usize {
+        self.streams.iter().map(Vec::len).sum()
     }
 }
 
@@ -101,13 +198,13 @@ fn readings(count: usize) -> Vec<Vec<Event>> {
     (0..count).map(|_| one()).collect()
 }
 
-/// Records with a time and a reading each, nearly as long as a stream can be.
-fn long_documents(count: usize, settings: Settings) -> Vec<Vec<Event>> {
+/// Records with a time and a reading each.
+fn records(count: usize, records: usize) -> Vec<Vec<Event>> {
     let mut rng = Prng::new(8);
     let (record, time, value) = (text("record"), text("time"), text("value"));
     let mut one = || {
         let mut inner = vec![element("", "log")];
-        for _ in 0..255 {
+        for _ in 0..records {
             inner.push(start(&record));
             inner.push(attribute(&time, digits(&mut rng, 24, 26)));
             inner.push(start(&value));
@@ -115,12 +212,14 @@ fn long_documents(count: usize, settings: Settings) -> Vec<Vec<Event>> {
             inner.extend([END, END]);
         }
         inner.push(END);
-        let list = document(inner);
-        let octets = encode(settings, &list).octets().len();
-        assert!((13_000..=MAX_STREAM).contains(&octets), "{octets}");
-        list
+        document(inner)
     };
     (0..count).map(|_| one()).collect()
+}
+
+/// Nearly as long as a stream can be.
+fn long_documents(count: usize) -> Vec<Vec<Event>> {
+    records(count, 255)
 }
 
 /// 512 values of 25 code points, half of them of one name and half of another; then each is looked
@@ -150,6 +249,14 @@ fn many_values(count: usize, differ_at_the_end: bool) -> Vec<Vec<Event>> {
         document(inner)
     };
     (0..count).map(|_| one()).collect()
+}
+
+fn unlike_values(count: usize) -> Vec<Vec<Event>> {
+    many_values(count, false)
+}
+
+fn alike_values(count: usize) -> Vec<Vec<Event>> {
+    many_values(count, true)
 }
 
 /// Elements 100 deep, twenty times.
@@ -192,6 +299,85 @@ fn many_names(count: usize) -> Vec<Vec<Event>> {
     (0..count).map(|_| one()).collect()
 }
 
+/// 512 values of one name, and 3,000 times one of them again.
+fn local_hits(count: usize) -> Vec<Vec<Event>> {
+    let mut rng = Prng::new(12);
+    let mut one = || {
+        let values: Vec<Text> = (0..512)
+            .map(|k| [letters(&mut rng, 1, 3), text(&format!("{k}"))].concat())
+            .collect();
+        let mut inner = vec![element("", "r")];
+        inner.extend(values.iter().cloned().map(Event::Characters));
+        let hits = (0..3_000).map(|_| Event::Characters(rng.pick(&values).clone()));
+        inner.extend(hits);
+        inner.push(END);
+        document(inner)
+    };
+    (0..count).map(|_| one()).collect()
+}
+
+/// Notes nearly as long as a string may be, as many as the text store holds.
+fn long_notes(count: usize) -> Vec<Vec<Event>> {
+    let mut rng = Prng::new(13);
+    let length = MAX_STRING - 24;
+    let mut one = || {
+        let mut inner = vec![element("", "notes")];
+        for _ in 0..(MAX_STORE - 384) / length {
+            inner.push(element("", "note"));
+            inner.push(Event::Characters(letters(&mut rng, length, length)));
+            inner.push(END);
+        }
+        inner.push(END);
+        document(inner)
+    };
+    (0..count).map(|_| one()).collect()
+}
+
+/// A day of 500 readings: all stamps differ, and so do as many movements as there is room for.
+fn day(count: usize) -> Vec<Vec<Event>> {
+    let mut rng = Prng::new(14);
+    let (r, t, um) = (text("r"), text("t"), text("um"));
+    let movements = (MAX_VALUES - 500).min(100);
+    let mut one = || {
+        let first = rng.below(15_000);
+        let mut inner = vec![element("", "readings")];
+        for k in 0..500 {
+            let (hour, minute, second) = (k * 172 / 3_600, k * 172 / 60 % 60, k * 172 % 60);
+            let milli = rng.below(1_000);
+            let stamp = format!("2026-03-01T{hour:02}:{minute:02}:{second:02}.{milli:03}Z");
+            let movement = text(&format!("{}", first + rng.below(movements)));
+            inner.push(start(&r));
+            inner.push(attribute(&t, text(&stamp)));
+            inner.push(attribute(&um, movement));
+            inner.push(END);
+        }
+        inner.push(END);
+        document(inner)
+    };
+    (0..count).map(|_| one()).collect()
+}
+
+/// 2,048 values of four code points, or as many as there may be, and 1,200 hits for 2,048: one in
+/// two under the name that they are local to.
+fn short_values(count: usize) -> Vec<Vec<Event>> {
+    let mut rng = Prng::new(15);
+    let values = MAX_VALUES.min(2_048);
+    let mut one = || {
+        let letter = 97 + rng.below(26) as u32;
+        let value =
+            |k: usize| Event::Characters([vec![letter], text(&format!("{k:03x}"))].concat());
+        let mut inner = vec![element("", "r"), element("", "a")];
+        inner.extend((0..values).map(value));
+        let hits = values * 1_200 / 2_048;
+        inner.extend((0..hits / 2).map(|_| value(rng.below(values))));
+        inner.extend([END, element("", "b")]);
+        inner.extend((0..hits / 2).map(|_| value(rng.below(values))));
+        inner.extend([END, END]);
+        document(inner)
+    };
+    (0..count).map(|_| one()).collect()
+}
+
 struct Memory {
     events: Vec<u32>,
     text: Vec<u32>,
@@ -201,6 +387,17 @@ struct Memory {
 }
 
 impl Memory {
+    fn new() -> Memory {
+        let (reader, writer) = (ReaderSizes::stated(), WriterSizes::stated());
+        Memory {
+            events: vec![0; reader.events],
+            text: vec![0; reader.text],
+            reader_work: vec![0; reader.work],
+            octets: vec![0; writer.octets],
+            writer_work: vec![0; writer.work],
+        }
+    }
+
     fn read(&mut self, codec: Codec, settings: Settings, stream: &[u8]) -> [u32; 4] {
         let reply = codec.read(
             settings,
@@ -238,193 +435,126 @@ impl Memory {
         black_box(&self.octets);
         black_box(&self.writer_work);
     }
+
+    /// Puts the streams or lists of a slice to one implementation.
+    fn run(&mut self, case: &Case, way: Way, codec: Codec, slice: Range<usize>) {
+        let settings = case.row.settings;
+        match way {
+            Way::Read => case.streams[slice].iter().for_each(|stream| {
+                self.read(codec, settings, stream);
+            }),
+            Way::Write => case.lists[slice].iter().for_each(|list| {
+                self.write(codec, settings, list);
+            }),
+        }
+    }
+
+    fn clear(&mut self, way: Way, times: usize) {
+        for _ in 0..times {
+            match way {
+                Way::Read => self.clear_reader(),
+                Way::Write => self.clear_writer(),
+            }
+        }
+    }
 }
 
-fn median(mut times: Vec<f64>) -> f64 {
-    times.sort_by(f64::total_cmp);
-    times[times.len() / 2]
+#[derive(Clone, Copy, PartialEq, Eq)]
+enum Way {
+    Read,
+    Write,
 }
 
-/// Medians: of the times of the library, the ordinary implementation and the clearing, and of the
-/// ratio of the first two in a slice; and the ratio of their fastest slices.
+/// Nanoseconds a stream.
 struct Times {
     library: f64,
     ordinary: f64,
     clearing: f64,
-    ratio: f64,
-    fastest: f64,
 }
 
-/// Calls `run` with a slice of the case and 0 for the library, 1 for the ordinary implementation, 2
-/// for the clearing, by turns.
-fn times(case: &Case, mut run: impl FnMut(usize, Range<usize>)) -> Times {
-    let mut times: [Vec<f64>; 3] = Default::default();
-    let mut ratios = Vec::new();
-    for round in 0..case.rounds {
-        for from in (0..case.streams.len()).step_by(case.slice) {
-            let to = case.streams.len().min(from + case.slice);
-            let mut slice = [0.0; 3];
+impl Times {
+    fn ratio(&self) -> f64 {
+        self.library / self.ordinary
+    }
+
+    fn net(&self) -> f64 {
+        (self.library - self.clearing) / (self.ordinary - self.clearing)
+    }
+}
+
+/// Of each slice the fastest time of each of the three, which go by turns.
+fn times(case: &Case, way: Way, memory: &mut Memory) -> Times {
+    let count = case.streams.len();
+    let slices: Vec<Range<usize>> = (0..count)
+        .step_by(case.row.slice)
+        .map(|from| from..count.min(from + case.row.slice))
+        .collect();
+    let mut fastest = vec![[f64::INFINITY; 3]; slices.len()];
+    for round in 0..ROUNDS {
+        for (k, slice) in slices.iter().enumerate() {
             for turn in 0..3 {
-                let which = (turn + round + from / case.slice) % 3;
+                let which = (turn + round + k) % 3;
                 let begin = Instant::now();
-                run(which, from..to);
-                slice[which] = begin.elapsed().as_nanos() as f64 / (to - from) as f64;
-                times[which].push(slice[which]);
+                match which {
+                    0 => memory.run(case, way, Codec::Library, slice.clone()),
+                    1 => memory.run(case, way, Codec::Ordinary, slice.clone()),
+                    _ => memory.clear(way, slice.len()),
+                }
+                let time = begin.elapsed().as_nanos() as f64;
+                fastest[k][which] = fastest[k][which].min(time);
             }
-            ratios.push(slice[0] / slice[1]);
         }
     }
-    let least = |times: &[f64]| times.iter().copied().fold(f64::INFINITY, f64::min);
-    let fastest = least(&times[0]) / least(&times[1]);
-    let [library, ordinary, clearing] = times.map(median);
+    let [library, ordinary, clearing] =
+        [0, 1, 2].map(|which| fastest.iter().map(|all| all[which]).sum::<f64>() / count as f64);
     Times {
         library,
         ordinary,
         clearing,
-        ratio: median(ratios),
-        fastest,
     }
-}
-
-fn read_times(case: &Case, memory: &mut Memory) -> Times {
-    times(case, |which, slice| {
-        for stream in &case.streams[slice] {
-            match which {
-                0 => drop(memory.read(Codec::Library, case.settings, stream)),
-                1 => drop(memory.read(Codec::Ordinary, case.settings, stream)),
-                _ => memory.clear_reader(),
-            }
-        }
-    })
-}
-
-fn write_times(case: &Case, memory: &mut Memory) -> Times {
-    times(case, |which, slice| {
-        for list in &case.lists[slice] {
-            match which {
-                0 => drop(memory.write(Codec::Library, case.settings, list)),
-                1 => drop(memory.write(Codec::Ordinary, case.settings, list)),
-                _ => memory.clear_writer(),
-            }
-        }
-    })
 }
 
 /// Both implementations read and write all of the case, with the same result.
 fn check(case: &Case, memory: &mut Memory) {
+    let (name, settings) = (case.row.name, case.row.settings);
     for (stream, list) in case.streams.iter().zip(&case.lists) {
         for codec in [Codec::Library, Codec::Ordinary] {
-            let [number, _, count, code_points] = memory.read(codec, case.settings, stream);
-            assert_eq!(number, 0, "{}", case.name);
+            let [number, _, count, code_points] = memory.read(codec, settings, stream);
+            assert_eq!(number, 0, "{name}");
             let cells = &memory.events[..count as usize * CELLS];
             let read = events(cells, &memory.text[..code_points as usize]);
-            assert!(read.is_some() && read == list.events(), "{}", case.name);
-            let [number, _, octets] = memory.write(codec, case.settings, list);
-            assert_eq!(number, 0, "{}", case.name);
-            assert_eq!(&memory.octets[..octets as usize], stream, "{}", case.name);
+            assert!(read.is_some() && read == list.events(), "{name}");
+            let [number, _, octets] = memory.write(codec, settings, list);
+            assert_eq!(number, 0, "{name}");
+            assert_eq!(&memory.octets[..octets as usize], stream, "{name}");
         }
     }
 }
 
-fn print(case: &Case, way: &str, times: &Times, goal: Option<f64>) {
-    let octets: usize = case.streams.iter().map(Vec::len).sum();
-    let ratio = times.ratio;
-    let verdict = match goal {
-        Some(goal) if ratio <= goal => format!("<= {goal}"),
-        Some(goal) => format!("over {goal}"),
-        None => "-".to_string(),
-    };
-    println!(
-        "{:<25} {:>5} {:>7} {:>6} {:>9.0} {:>9.0} {:>6.2} {:>9} {:>8.2} {:>8.0} {:>7.0}% {:>7.0}%",
-        case.name,
-        way,
-        case.streams.len(),
-        octets / case.streams.len(),
-        times.library,
-        times.ordinary,
-        ratio,
-        verdict,
-        times.fastest,
-        times.clearing,
-        100.0 * times.clearing / times.library,
-        100.0 * times.clearing / times.ordinary,
-    );
+/// How many goals were looked at, and how many were missed.
+#[derive(Default)]
+struct Score {
+    goals: usize,
+    missed: usize,
 }
 
-fn main() {
-    let bytes = Settings::BYTE_ALIGNED;
-    let bits = Settings::BIT_PACKED;
-    let cases = [
-        Case::new("K7, byte-aligned", bytes, readings(10_000), 200, 3, 1.25),
-        Case::new("K7, bit-packed", bits, readings(10_000), 200, 3, 1.25),
-        Case::new(
-            "long, byte-aligned",
-            bytes,
-            long_documents(20, bytes),
-            2,
-            11,
-            2.0,
-        ),
-        Case::new(
-            "long, bit-packed",
-            bits,
-            long_documents(20, bits),
-            2,
-            11,
-            2.0,
-        ),
-        Case::new(
-            "512 values, byte-aligned",
-            bytes,
-            many_values(10, false),
-            2,
-            11,
-            2.0,
-        ),
-        Case::new(
-            "512 values, bit-packed",
-            bits,
-            many_values(10, false),
-            2,
-            11,
-            2.0,
-        ),
-        Case::new(
-            "512 alike, byte-aligned",
-            bytes,
-            many_values(10, true),
-            2,
-            11,
-            2.0,
-        ),
-        Case::new(
-            "512 alike, bit-packed",
-            bits,
-            many_values(10, true),
-            2,
-            11,
-            2.0,
-        ),
-        Case::new("100 deep, byte-aligned", bytes, deep(20), 2, 15, 2.0),
-        Case::new("100 deep, bit-packed", bits, deep(20), 2, 15, 2.0),
-        Case::new("128 names, byte-aligned", bytes, many_names(20), 2, 15, 2.0),
-        Case::new("128 names, bit-packed", bits, many_names(20), 2, 15, 2.0),
-    ];
-    let (reader, writer) = (ReaderSizes::stated(), WriterSizes::stated());
-    let mut memory = Memory {
-        events: vec![0; reader.events],
-        text: vec![0; reader.text],
-        reader_work: vec![0; reader.work],
-        octets: vec![0; writer.octets],
-        writer_work: vec![0; writer.work],
-    };
-    println!("Nanoseconds for a stream, medians; ratios of the medians and of the fastest slices;");
+impl Score {
+    fn judge(&mut self, value: f64, goal: f64) -> String {
+        self.goals += 1;
+        if value <= goal {
+            return format!("<= {goal}");
+        }
+        self.missed += 1;
+        format!("OVER {goal}")
+    }
+}
+
+fn print_head() {
+    println!("Nanoseconds for a stream, the fastest of each slice in {ROUNDS} rounds.");
+    println!("Rows with * need sizes that have not landed, and are cut to those of today.");
     println!(
-        "clearing the lent memory by itself, and its share of the library's and ordinary time."
-    );
-    println!(
-        "{:<25} {:>5} {:>7} {:>6} {:>9} {:>9} {:>6} {:>9} {:>8} {:>8} {:>8} {:>8}",
-        "case",
+        "{:<27} {:>5} {:>7} {:>6} {:>9} {:>9} {:>6} {:>10} {:>8} {:>6} {:>10}",
+        "row",
         "way",
         "streams",
         "octets",
@@ -432,16 +562,108 @@ fn main() {
         "ordinary",
         "ratio",
         "goal",
-        "fastest",
         "clearing",
-        "of lib.",
-        "of ord."
+        "net",
+        "goal"
     );
-    for case in &cases {
-        check(case, &mut memory);
-        let times = read_times(case, &mut memory);
-        print(case, "read", &times, Some(case.goal));
-        let times = write_times(case, &mut memory);
-        print(case, "write", &times, None);
+}
+
+fn print(case: &Case, way: Way, times: &Times, score: &mut Score) {
+    let goals = case.row.goals;
+    let (word, goal, net_goal) = match way {
+        Way::Read => ("read", goals.read, goals.read_net),
+        Way::Write => ("write", goals.write, None),
+    };
+    let verdict = score.judge(times.ratio(), goal);
+    let net_verdict = net_goal.map_or("-".to_string(), |goal| score.judge(times.net(), goal));
+    println!(
+        "{:<27} {:>5} {:>7} {:>6} {:>9.0} {:>9.0} {:>6.2} {:>10} {:>8.0} {:>6.2} {:>10}",
+        case.row.name,
+        word,
+        case.streams.len(),
+        case.octets() / case.streams.len(),
+        times.library,
+        times.ordinary,
+        times.ratio(),
+        verdict,
+        times.clearing,
+        times.net(),
+        net_verdict,
+    );
+}
+
+/// A row of growth: octets, and the library's times to read and to write.
+type Grown = (f64, [f64; 2]);
+
+/// What eight times the octets cost, by the first and the last row of growth.
+fn print_growth(grown: &[Grown], score: &mut Score) {
+    let ([first, ..], [.., last]) = (grown, grown) else {
+        return;
+    };
+    if grown.len() < 2 {
+        return;
     }
+    for (k, way) in ["read", "write"].into_iter().enumerate() {
+        let eight = 8.0 * (last.1[k] / first.1[k]) / (last.0 / first.0);
+        let verdict = score.judge(eight, GROWTH);
+        println!("growth, {way}: eight times the octets take {eight:.1} times the time  {verdict}");
+    }
+}
+
+fn time_rows(rows: Vec<Row>) {
+    let mut memory = Memory::new();
+    let mut score = Score::default();
+    let mut grown: Vec<Grown> = Vec::new();
+    print_head();
+    for row in rows {
+        let streams = row.streams;
+        let case = Case::new(row, streams);
+        check(&case, &mut memory);
+        let both = [Way::Read, Way::Write].map(|way| {
+            let times = times(&case, way, &mut memory);
+            print(&case, way, &times, &mut score);
+            times.library
+        });
+        if case.row.name.starts_with("growth") {
+            let octets = case.octets() as f64 / case.streams.len() as f64;
+            grown.push((octets, both));
+        }
+    }
+    print_growth(&grown, &mut score);
+    println!("{} of {} goals missed", score.missed, score.goals);
+}
+
+/// Puts a few streams of a row once to one implementation.
+fn once(row: Row, way: Way, codec: Codec) {
+    let streams = (row.streams / 10).max(2);
+    let case = Case::new(row, streams);
+    Memory::new().run(&case, way, codec, 0..streams);
+    println!("{} events of {streams} streams", case.events());
+}
+
+fn main() -> ExitCode {
+    let words: Vec<String> = std::env::args().skip(1).collect();
+    let words: Vec<&str> = words.iter().map(String::as_str).collect();
+    let mut rows = rows();
+    match words[..] {
+        ["--rows"] => rows.iter().for_each(|row| println!("{}", row.name)),
+        ["--once", name, way, which] => {
+            let way = if way == "read" { Way::Read } else { Way::Write };
+            let codec = if which == "library" {
+                Codec::Library
+            } else {
+                Codec::Ordinary
+            };
+            let Some(at) = rows.iter().position(|row| row.name == name) else {
+                eprintln!("bench: no row {name:?}");
+                return ExitCode::from(2);
+            };
+            once(rows.swap_remove(at), way, codec);
+        }
+        _ => {
+            rows.retain(|row| words.is_empty() || words.iter().any(|word| row.name.contains(word)));
+            time_rows(rows);
+        }
+    }
+    ExitCode::SUCCESS
 }

@@ -1,0 +1,35 @@
+-- Hashing a text, code point by code point.
+use Prim.Native.Nat.{ℕ, suc, _+_, _≤_, _<_}
+use native.Mathlib.Omega.{arith}
+use native.Mathlib.Numerals.{add-one}
+use mathlib.Core.Path.{_≡_, refl}
+use mathlib.Core.List.{_∷_}
+use lib.ListN.{length, getD, drop, drop-of-length-le}
+use lib.Seq.{drop-cons}
+use Rattle.text.specs.Text.{Text}
+use Rattle.mem_entries.specs.Texts.{mixed, hashFrom, hashOf}
+
+pub record Hashing (x : Text) (h i : ℕ) : Type 0 where
+  pub low : h < 4294967296
+  pub rest : hashFrom h (drop i x) ≡ hashOf x
+
+mixed-low : (h c : ℕ) → mixed h c < 4294967296
+unfolding mixed
+mixed-low h c = omega arith
+
+module _ (x : Text) where
+  pub hash-start : Hashing x 0 0
+  unfolding hashOf
+  hash-start = record { low = omega arith; rest = refl }
+
+  pub hash-on : (h i : ℕ) → Hashing x h i → i < length x → (k : ℕ) → k ≡ mixed h (getD x i 0)
+      → Hashing x k (i + 1)
+  unfolding hashFrom
+  hash-on h i s l k e =
+      let r : hashFrom h (getD x i 0 ∷ drop (suc i) x) ≡ hashOf x =
+      rw (drop-cons x i 0 l) at (s .rest) in
+      record { low = omega (arith, mixed-low h (getD x i 0)); rest = rw (e, add-one) r }
+
+  pub hash-end : (h i : ℕ) → Hashing x h i → length x ≤ i → h ≡ hashOf x
+  unfolding hashFrom
+  hash-end h i s l = rw (drop-of-length-le x l) at (s .rest)

@@ -1,0 +1,43 @@
+// Texts that rows of work memory name by place and size, and the hash of a text. What the contracts
+// cite is in specs/.
+ghost use mathlib.Core.Path.{_≡_};
+ghost use Prim.Native.Nat.{_<_};
+ghost use Rattle.mem_entries.specs.Texts.{mixed, hashOf, TextCells, rowHas, withText};
+
+fn mix(h: u64, c: u32) -> u64
+    requires { ⌜ h < 4294967296 ⌝ }
+    ensures { λ r. ⌜ r ≡ mixed h c ⌝ }
+{
+    (h * 16777619 + c as u64) % 4294967296
+}
+
+// The hash of a text.
+pub fn hash(x: &[u32]) -> u32
+    ensures { λ r. ⌜ r ≡ hashOf (now (x .entry)) ⌝ }
+{
+    let mut h: u64 = 0;
+    let mut i = 0;
+    while i < x.len() {
+        h = mix(h, x[i]);
+        i += 1;
+    }
+    h as u32
+}
+
+// Whether the string that two cells name is this text.
+pub fn has_text(work: &[u32], store: &[u32], place: usize, size: usize, x: &[u32]) -> bool
+    requires { ⌜ TextCells (now work) place size ⌝ }
+    ensures { λ r. ⌜
+        r ≡ rowHas (now (work .entry)) (now (store .entry)) place size (now (x .entry)) ⌝ }
+{
+    text::same_text(text::look_up(store, work[place], work[size]), x)
+}
+
+// Two cells name a string.
+pub fn put_text(work: &mut [u32], place: usize, size: usize, from: u32, long: u32)
+    requires { ⌜ TextCells (now work) place size ⌝ }
+    ensures { λ _. ⌜ now (work .exit) ≡ withText (now (work .entry)) place size from long ⌝ }
+{
+    work[place] = from;
+    work[size] = long;
+}

@@ -1,0 +1,5 @@
+pub mod Rows
+pub mod Joined
+pub mod Newest
+pub mod Sites
+pub mod Grammars

@@ -1,0 +1,4 @@
+pub mod Uris
+pub mod Names
+pub mod Joined
+pub mod Tables

@@ -1,0 +1,10 @@
+pub mod Entries
+pub mod Partitions
+pub mod Joins
+pub mod Learned
+pub mod Kept
+pub mod Grammars
+pub mod States
+pub mod Grown
+pub mod Events
+pub mod Alike

@@ -1,0 +1,52 @@
+-- What holds of the rows between events: each refers to rows that are there, no two of a table are the
+-- same, and every string was judged when it joined.
+use Prim.Native.Nat.{ℕ, _/_, _≤_, _<_}
+use mathlib.Core.Path.{_≡_}
+use mathlib.Core.Bool.{false}
+use mathlib.Core.List.{List}
+use lib.ListN.{length, getD}
+use Rattle.spec_exi.specs.Tables.{Placed, Entry}
+use Rattle.mem_entries.specs.Entries.{entryAt}
+use Rattle.mem_names.specs.Uris.{uriText}
+use Rattle.mem_rows.specs.Rows.{Learnt, Rows, nameAt, kindAt, carries}
+
+abbrev pub noLearnt : Learnt
+noLearnt = record { site = 0; kind = 0; name = 0 }
+
+abbrev pub learntAt : List Learnt → ℕ → Learnt
+learntAt ls i = getD ls i noLearnt
+
+-- Every key is below the bound.
+pub record KeysBelow (most : ℕ) (es : List (Entry ℕ)) : Type 0 where
+  pub below : (i : ℕ) → i < length es → entryAt es i .key < most
+
+-- A learned production is SE, AT, EE or CH, stands at a site of a name that is there, and carries such a
+-- name, or 0.
+pub record LearntFits (names : ℕ) (l : Learnt) : Type 0 where
+  pub site : l .site / 2 < names
+  pub from : 2 ≤ l .kind
+  pub upTo : l .kind ≤ 5
+  pub name : l .name < names
+  pub plain : carries (kindAt (l .kind)) ≡ false → l .name ≡ 0
+
+pub record Refers (w : Rows) : Type 0 where
+  pub names : KeysBelow (length (w .uris)) (w .names)
+  pub values : KeysBelow (length (w .names)) (w .values)
+  pub learned : (i : ℕ) → i < length (w .learned)
+      → LearntFits (length (w .names)) (learntAt (w .learned) i)
+  pub grammars : (i : ℕ) → i < length (w .grammars) → getD (w .grammars) i 0 < length (w .names)
+
+-- Strict reading and writing keep entries apart. (Values are kept apart as long as they are present.)
+pub record Distinct (w : Rows) : Type 0 where
+  pub uris : (i j : ℕ) → i < length (w .uris) → j < length (w .uris)
+      → uriText (w .uris) i ≡ uriText (w .uris) j → i ≡ j
+  pub names : (i j : ℕ) → i < length (w .names) → j < length (w .names)
+      → nameAt w i ≡ nameAt w j → i ≡ j
+  pub learned : (i j : ℕ) → i < length (w .learned) → j < length (w .learned)
+      → learntAt (w .learned) i ≡ learntAt (w .learned) j → i ≡ j
+  pub grammars : (i j : ℕ) → i < length (w .grammars) → j < length (w .grammars)
+      → getD (w .grammars) i 0 ≡ getD (w .grammars) j 0 → i ≡ j
+
+pub record Valid (w : Rows) : Type 0 where
+  pub refers : Refers w
+  pub distinct : Distinct w

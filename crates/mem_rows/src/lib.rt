@@ -1,0 +1,1 @@
+// What work memory holds, as lists; it has definitions and laws alone.

@@ -1,0 +1,12 @@
+pub mod Order
+pub mod Turn
+pub mod Local
+pub mod Joined
+pub mod Answers
+pub mod Global
+pub mod Forms
+pub mod Formed
+pub mod Tables
+pub mod Stands
+pub mod Entry
+pub mod Replaced

@@ -1,0 +1,4 @@
+pub mod Values
+pub mod Window
+pub mod Hold
+pub mod Forms

@@ -1,0 +1,3 @@
+pub mod Awaits
+pub mod Laws
+pub mod Store

@@ -1,0 +1,71 @@
+-- Contexts that differ at most in where their strings lie: same state and grammars, same texts
+-- under the same keys in the same order, same learned productions by the texts of their names, text
+-- stores of the same length.
+use mathlib.Core.Path.{_≡_}
+use mathlib.Core.List.{map}
+use mathlib.Core.Option.{Option, none, some, Option·map}
+use lib.ListN.{length, replicate}
+use Rattle.spec_exi.specs.Event.{QName, mapName}
+use Rattle.spec_exi.specs.Tables.{Placed, Entry, Tables}
+use Rattle.spec_exi.specs.Grammar.{Production, Learned, Code}
+use Rattle.spec_exi.specs.Context.{Context}
+
+-- ---- the same with every place 0, and a store of zeros
+
+unfoldable pub unplaced : Placed → Placed
+unplaced x = record { place = 0; text = x .text }
+
+unfoldable pub unplacedEntry : {K : Type 0} → Entry K → Entry K
+unplacedEntry e = record { key = e .key; string = unplaced (e .string) }
+
+unfoldable pub unplacedTables : Tables → Tables
+unplacedTables t =
+    record {
+      uris = map unplaced (t .uris);
+      names = map unplacedEntry (t .names);
+      values = map unplacedEntry (t .values);
+      store = replicate (length (t .store)) 0;
+    }
+
+unfoldable pub unplacedName : Option (QName Placed) → Option (QName Placed)
+unplacedName = Option·map (mapName unplaced)
+
+unfoldable pub unplacedProduction : Production → Production
+unplacedProduction p = record { kind = p .kind; qname = unplacedName (p .qname) }
+
+unfoldable pub unplacedLearned : Learned → Learned
+unplacedLearned l = record { site = l .site; production = unplacedProduction (l .production) }
+
+unfoldable pub unplacedCode : Code → Code
+unplacedCode x = record { parts = x .parts; production = unplacedProduction (x .production) }
+
+unfoldable pub unplacedContext : Context → Context
+unplacedContext c =
+    record {
+      state = c .state;
+      tables = unplacedTables (c .tables);
+      learned = map unplacedLearned (c .learned);
+      grammars = c .grammars;
+    }
+
+-- ---- alike: the same but for places
+
+pub record SameBy {A : Type 0} (f : A → A) (x y : A) : Type 0 where
+  pub same : f x ≡ f y
+
+abbrev pub AlikeTables : Tables → Tables → Type 0
+AlikeTables = SameBy unplacedTables
+
+abbrev pub AlikeName : Option (QName Placed) → Option (QName Placed) → Type 0
+AlikeName = SameBy unplacedName
+
+abbrev pub AlikeCode : Code → Code → Type 0
+AlikeCode = SameBy unplacedCode
+
+-- Both or neither of two states have a code for an event.
+pub data AlikeCodes : Option Code → Option Code → Type 0 where
+  neither : AlikeCodes none none
+  each : {x y : Code} → AlikeCode x y → AlikeCodes (some x) (some y)
+
+abbrev pub Alike : Context → Context → Type 0
+Alike = SameBy unplacedContext
