@@ -1,11 +1,7 @@
 -- A call of the reader and of the writer, by its contract alone, and what it leaves: of these the
 -- claims in Cells.antt speak.
-use Prim.Native.Nat.{ℕ, _*_, _-_}
-use mathlib.Core.Path.{_≡_}
-use mathlib.Core.List.{List, _++_}
-use mathlib.Core.Option.{some}
-use lib.ListN.{length, take, replicate}
-use lib.Dec.{T}
+use Rattle.spec_fields.specs.Prelude.{ℕ, _*_, _-_, _≡_, List, _++_, some, length, take, replicate}
+use Rattle.spec_fields.specs.Prelude.{T}
 use Rattle.text.specs.Text.{Text}
 use Rattle.spec_exi.specs.Event.{Event}
 use Rattle.spec_exi.specs.Settings.{Settings, meaningful, settingsOf}

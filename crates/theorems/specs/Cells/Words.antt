@@ -1,10 +1,6 @@
 -- The words that the claims over cells use, each from the module that defines it.
-pub use Prim.Native.Nat.{ℕ, _*_, _-_, _<_}
-pub use mathlib.Core.Path.{_≡_}
-pub use mathlib.Core.Logic.{_↔_}
-pub use mathlib.Core.List.{List, [], _∷_, _++_, map}
-pub use lib.ListN.{length, drop}
-pub use lib.Dec.{T}
+pub use Rattle.spec_fields.specs.Prelude.{ℕ, _*_, _-_, _<_, _≡_, _↔_, List, [], _∷_, _++_, map}
+pub use Rattle.spec_fields.specs.Prelude.{length, drop, T}
 pub use Rattle.text.specs.Text.{Text}
 pub use Rattle.spec_fields.specs.Refusal.{Refusal, numberOf, refused, accepted}
 pub use Rattle.spec_exi.specs.Event.{Event}
