@@ -175,7 +175,8 @@ module _ {s : SettingNumbers} {stream : List ℕ} (c : ReadCall s stream) where
   pub accepted-when-zero : c .reply .number ≡ 0
       → (l : List (Event Text)) × Accepts (readerRoom (c .before)) (numbersOf s) stream l
   accepted-when-zero z =
-      demands.accepted-when-zero (readerRoom (c .before)) (numbersOf s) stream .0 (sym number-is ∙ z)
+      demands.accepted-when-zero (readerRoom (c .before)) (numbersOf s) stream .0
+      (sym number-is ∙ z)
 
   pub a-list : c .reply .number ≡ 0 → (l : List (Event Text)) × Leaves c l
   a-list z = let (l, a) = accepted-when-zero z in (l, leaves-accepted l a)

@@ -76,7 +76,8 @@ module _ {s : SettingNumbers} where
       × ((l : List (Event Text)) × Hold events text l × Good (asked s) l
       × (stream ≡ strict (asked s) l)))
   written {events} {text} w stream =
-      let d = demands.written (writerRoom (w .before)) (numbersOf s) (eventsOf events) text stream in
+      let r = writerRoom (w .before) in
+      let d = demands.written r (numbersOf s) (eventsOf events) text stream in
       (λ h. d .0 (gives w stream .0 h), λ g. gives w stream .1 (d .1 g))
 
   pub read-back : {events : List ℕ} {text : Text} (w : WriteCall s events text)

@@ -1,10 +1,10 @@
--- What is proved of memory, whatever is lent and whatever lies in it (scope, demands 1 to 3). The
--- record `CellTheorems` at the end is proved whole: proofs/Cells.antt has a line for each claim,
--- which points to its proof.
+-- What is proved of memory, whatever is lent and whatever lies in it (demands 1 to 3, in words in
+-- docs/CLAIMS.md). The record `CellTheorems` at the end is proved whole: proofs/Cells.antt has a
+-- line for each claim, which points to its proof.
 --
 -- The claims are of the contracts alone: ReadPost, of reader::read (crates/reader/specs/Read.antt),
 -- and WritePost, of writer::write (crates/writer/specs/Write.antt). plumethrift_read and
--- plumethrift_write have the same. Calls.antt has the abbreviations (upTo, Hold, Leaves, Gives, ..),
+-- plumethrift_write have the same. Calls.antt has the abbreviations (upTo, Hold, Leaves, Gives),
 -- and Cells/Words.antt says where each other word is defined.
 -- s: settings' numbers; m: what is lent; m′: what is left in it; r: the reply.
 mod Words

@@ -1,5 +1,6 @@
--- What is proved, of every input (demands 1 to 3, in words in docs/CLAIMS.md). The record `Theorems` at the end is
--- proved whole: proofs/Claims.antt has a line for each claim, which points to its proof.
+-- What is proved, of every input (demands 1 to 3, in words in docs/CLAIMS.md). The record
+-- `Theorems` at the end is proved whole: proofs/Claims.antt has a line for each claim, which points
+-- to its proof.
 --
 -- `read`, `write` and `receive` are the answers by definition (crates/spec_exi/specs: Reader,
 -- Writer, Packets). reader::read and writer::write give them outright, by their contracts, and with

@@ -6,7 +6,8 @@ pub use Rattle.spec_fields.specs.Refusal.{numberOf, isZeroOr, room, settings, l
 pub use Rattle.spec_fields.specs.Refusal.{character, name, limit, tail, shape, place, accepted}
 pub use Rattle.spec_exi.specs.Event.{Event}
 pub use Rattle.spec_exi.specs.Settings.{Settings, SettingNumbers, meaningful, settingsOf}
-pub use Rattle.spec_exi.specs.Sizes.{maxStream, maxEvents, maxStore, Sizes, sizes, baseSizes, NoLarger}
+pub use Rattle.spec_exi.specs.Sizes.{maxStream, maxEvents, maxStore, Sizes, sizes, baseSizes}
+pub use Rattle.spec_exi.specs.Sizes.{NoLarger}
 pub use Rattle.spec_exi.specs.Tables.{eventText}
 pub use Rattle.spec_exi.specs.Context.{start, contextAfter}
 pub use Rattle.spec_exi.specs.Strict.{strict}
