@@ -10,7 +10,7 @@ use compare::lent::{ReaderMemory, Settings, BOTH, ENDED};
 
 const SETTINGS: [Settings; 2] = [Settings::BIT_PACKED, Settings::BYTE_ALIGNED];
 
-/// An element with `count` values, each of which comes again: choices of 0 to 9 bits.
+/// An element with `count` values, each of which comes again: choices of 0 to 11 bits.
 fn values(count: usize) -> Vec<Event> {
     let mut inner = vec![element("", "a")];
     for k in 0..count {
@@ -43,7 +43,7 @@ fn choices(strict: &Encoded) -> Vec<(usize, usize, usize)> {
 #[test]
 fn a_field_that_ends_with_what_is_lent() {
     for settings in SETTINGS {
-        let strict = encode(settings, &values(300));
+        let strict = encode(settings, &values(1_100));
         let whole = strict.octets();
         let ends = choices(&strict).into_iter().map(|(_, _, to)| to);
         let ends: Vec<usize> = ends
@@ -75,7 +75,7 @@ fn a_field_that_ends_with_what_is_lent() {
 #[test]
 fn a_field_that_is_cut() {
     for settings in SETTINGS {
-        let strict = encode(settings, &values(300));
+        let strict = encode(settings, &values(1_100));
         let whole = strict.octets();
         let mut bits_there = [0; 16];
         for (event, from, to) in choices(&strict).into_iter().rev() {

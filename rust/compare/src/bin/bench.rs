@@ -94,7 +94,6 @@ macro_rules! both {
     };
 }
 
-/// Rows with * need sizes that have not landed, and are cut to those of today.
 fn rows() -> Vec<Row> {
     let growth = |name, lists| Row {
         name,
@@ -113,8 +112,8 @@ fn rows() -> Vec<Row> {
     rows.extend(both!("128 names", many_names, 20, 1, LOOK_UPS));
     rows.extend(both!("local hits", local_hits, 10, 1, LOOK_UPS));
     rows.extend(both!("long notes", long_notes, 10, 1, GOALS));
-    rows.extend(both!("500 readings*", day, 10, 1, GOALS));
-    rows.extend(both!("2,048 short*", short_values, 10, 1, GOALS));
+    rows.extend(both!("500 readings", day, 10, 1, GOALS));
+    rows.extend(both!("2,048 short", short_values, 10, 1, GOALS));
     rows.push(growth("growth, 2 KB", |count| records(count, 32)));
     rows.push(growth("growth, 4 KB", |count| records(count, 64)));
     rows.push(growth("growth, 8 KB", |count| records(count, 128)));
@@ -551,7 +550,6 @@ impl Score {
 
 fn print_head() {
     println!("Nanoseconds for a stream, the fastest of each slice in {ROUNDS} rounds.");
-    println!("Rows with * need sizes that have not landed, and are cut to those of today.");
     println!(
         "{:<27} {:>5} {:>7} {:>6} {:>9} {:>9} {:>6} {:>10} {:>8} {:>6} {:>10}",
         "row",
