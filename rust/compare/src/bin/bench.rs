@@ -356,15 +356,17 @@ fn day(count: usize) -> Vec<Vec<Event>> {
     (0..count).map(|_| one()).collect()
 }
 
-/// 2,048 values of four code points, or as many as there may be, and 1,200 hits for 2,048: one in
-/// two under the name that they are local to.
+/// 2,048 values of three code points, and 1,200 hits: one in two under the name that they are local
+/// to.
 fn short_values(count: usize) -> Vec<Vec<Event>> {
     let mut rng = Prng::new(15);
     let values = MAX_VALUES.min(2_048);
     let mut one = || {
         let letter = 97 + rng.below(26) as u32;
-        let value =
-            |k: usize| Event::Characters([vec![letter], text(&format!("{k:03x}"))].concat());
+        let value = |k: usize| {
+            let digits = [k / 46, k % 46].map(|digit| 48 + digit as u32);
+            Event::Characters([&[letter][..], &digits].concat())
+        };
         let mut inner = vec![element("", "r"), element("", "a")];
         inner.extend((0..values).map(value));
         let hits = values * 1_200 / 2_048;
