@@ -8,3 +8,4 @@ pub mod States
 pub mod Grown
 pub mod Events
 pub mod Alike
+pub mod Within

@@ -20,7 +20,7 @@ use Rattle.read_contract.proofs.Outcome.{declined-number, refused-declined, uns
 use Rattle.read_partition.specs.declared.StringRead.{StringRead}
 use Rattle.read_partition.specs.Strings.{refusedAs, Tabled, asString, asHit, asLiteral, StringPost}
 use Rattle.read_partition.proofs.Steps.{Comes, comes-declined, comes-gotten, number-refused, hit-comes}
-use Rattle.read_partition.proofs.Steps.{literal-comes, literal-waits}
+use Rattle.read_partition.proofs.Steps.{literal-comes, hit-waits, literal-waits}
 use Rattle.read_partition.proofs.Posts.{post-refused}
 
 outcome-comes : {A : Type 0} {p p′ : Parser A} {stream : List ℕ} {at q : ℕ} → Comes p stream at p′ q
@@ -48,9 +48,9 @@ module _ {a : Alignment} {Premise : Rows → Type 0} {role : Rows → Role} {ess
   module _ {v q : ℕ} (z : f ≡ Value v q) {text′ : List ℕ} {r : StringRead} where
     -- A hit in the partition of the number.
     pub post-number-hit : (es : Rows → Text → List Slot) → ((w : Rows) (store : Text) → getElem? (ess w store) v ≡ some (es w store))
-        → StringPost a Premise (λ w store. asHit (role w) v (es w store)) join stream q text stored text′ r → (r .left ≡ 0)
+        → StringPost a Premise (λ w store. asHit (role w) v (es w store)) join stream q text stored text′ r
         → StringPost a Premise (λ w store. asString (role w)) join stream at text stored text′ r
-    post-number-hit es o p whole =
+    post-number-hit es o p =
         let g = unsigned-gotten stream at l (sym answer ∙ z) in
         record {
           inside = p .inside;
@@ -58,7 +58,8 @@ module _ {a : Alignment} {Premise : Rows → Type 0} {role : Rows → Role} {ess
           laid = p .laid;
           meant = λ s b w store t h.
               outcome-comes (hit-comes s (tablesOf w store) (role w) (e .are w store) stream at g (o w store)) (p .meant s b w store t h);
-          waits = λ y. absurd (omega arith);
+          waits = λ y s b w store t h.
+              hit-waits s (tablesOf w store) (role w) (e .are w store) stream at g (o w store) (p .waits y s b w store t h);
         }
 
     -- No partition has it: a literal.

@@ -32,8 +32,8 @@ use Rattle.read_literal.specs.Literal.{laidAt, Cleared, LiteralRead}
 use Rattle.read_literal.specs.Literal as lit
 use Rattle.read_literal.proofs.Store.{laid-none, laid-over, laid-part}
 use Rattle.read_partition.specs.declared.StringRead.{StringRead}
-use Rattle.read_partition.specs.Strings.{refusedAs, foundAs, Refused, Laid, Tabled, Means, judge, Reading}
-use Rattle.read_partition.specs.Strings.{asString, asHit, asLiteral, StringPost}
+use Rattle.read_partition.specs.Strings.{refusedAs, foundAs, literalAs, Refused, Laid, Tabled, Means}
+use Rattle.read_partition.specs.Strings.{judge, Reading, asString, asHit, asLiteral, StringPost}
 use Rattle.read_partition.proofs.Steps.{Comes, comes-declined, comes-gotten, judge-got, judge-loose}
 use Rattle.read_partition.proofs.Steps.{judge-name, judge-limit}
 
@@ -170,11 +170,6 @@ pub record Passes (join : Rows → Placed → Rows) (role : Role) (w : Rows) (st
   pub stays : joins ≡ false → added (tablesOf w store) role x ≡ tablesOf w (store ++ x)
   pub joined : joins ≡ true → added (tablesOf w store) role x ≡ tablesOf (join w (laid (tablesOf w store) x)) (store ++ x)
   pub valid : joins ≡ true → Valid (join w (laid (tablesOf w store) x))
-
--- The answer for a literal of n code points.
-abbrev pub literalAs : ℕ → ℕ → ℕ → ℕ → Bool → ℕ → StringRead
-literalAs next stored n row joins hash =
-    record { number = 0; next = next; left = 0; place = stored; size = n; row = row; stored = stored + n; joins = joins; hash = hash }
 
 module _ {n : ℕ} {stream : List ℕ} {at : ℕ} {text : List ℕ} {stored : ℕ} {text′ : List ℕ} {l : declared.Literal}
     (r : LiteralRead stream at text stored n text′ l) where

@@ -113,11 +113,11 @@ module _ (s : Settings) (t : Tables) (r : Role) {ess : List (List Slot)} (e : pa
         → Comes (readString sizes s t r) stream at (readLiteral sizes s t (g .value - length ess) >>= judge t r) q
     literal-comes o = record { after = g .after; is = at-form ∙ literal-on s t r ess (g .value) (drop at (unpack stream)) (g .result) o }
 
-    -- And it waits as the literal does, whatever bits follow.
-    pub literal-waits : {p n : ℕ} → getElem? ess (g .value) ≡ none
-        → Waits (readCharacter s) (readLiteral sizes s t (g .value - length ess) >>= judge t r) stream q p n
-        → Waits (readCharacter s) (readString sizes s t r) stream at p n
-    literal-waits o w =
+    -- And it waits as that does, whatever bits follow.
+    number-waits : (p : Parser (Placed × Tables)) → ((bs rest : Bits) → unsigned bs ≡ got (g .value) rest
+        → (readForm sizes s t (literals ess) >>= judge t r) bs ≡ p rest)
+        → {next n : ℕ} → Waits (readCharacter s) p stream q next n → Waits (readCharacter s) (readString sizes s t r) stream at next n
+    number-waits p on w =
         record {
           after = le-trans (g .after) (w .after);
           inside = w .inside;
@@ -126,8 +126,20 @@ module _ (s : Settings) (t : Tables) (r : Role) {ess : List (List Slot)} (e : pa
             comes = λ more.
                 by-form s t r (drop at (unpack stream) ++ more)
                 ∙ ap (λ ps. (readForm sizes s t ps >>= judge t r) (drop at (unpack stream) ++ more)) e
-                ∙ literal-on s t r ess (g .value) (drop at (unpack stream) ++ more)
-                (steady-unsigned .reads (drop at (unpack stream)) (g .value) (drop q (unpack stream)) more (g .result)) o
+                ∙ on (drop at (unpack stream) ++ more) (drop q (unpack stream) ++ more)
+                (steady-unsigned .reads (drop at (unpack stream)) (g .value) (drop q (unpack stream)) more (g .result))
                 ∙ w .comes .comes more;
           };
         }
+
+    pub hit-waits : {next n : ℕ} {es : List Slot} → getElem? ess (g .value) ≡ some es
+        → Waits (readCharacter s) (readHit sizes s (g .value) es >>= judge t r) stream q next n
+        → Waits (readCharacter s) (readString sizes s t r) stream at next n
+    hit-waits {es = es} o w = number-waits (readHit sizes s (g .value) es >>= judge t r) (λ bs rest n. hit-on s t r ess (g .value) bs n o) w
+
+    pub literal-waits : {next n : ℕ} → getElem? ess (g .value) ≡ none
+        → Waits (readCharacter s) (readLiteral sizes s t (g .value - length ess) >>= judge t r) stream q next n
+        → Waits (readCharacter s) (readString sizes s t r) stream at next n
+    literal-waits o w =
+        number-waits (readLiteral sizes s t (g .value - length ess) >>= judge t r)
+        (λ bs rest n. literal-on s t r ess (g .value) bs n o) w

@@ -5,7 +5,7 @@ use Prim.Native.Nat.{ℕ, _+_, _*_, _≤_, _<_}
 use mathlib.Core.Path.{_≡_}
 use mathlib.Core.Bool.{Bool, true, false}
 use mathlib.Core.List.{List, [], _++_}
-use lib.ListN.{length, take}
+use lib.ListN.{length, take, replicate}
 use Rattle.spec_fields.specs.Refusal.{loose, name, limit}
 use Rattle.spec_fields.specs.Parser.{Parser, return, need, _>>=_, _>>_}
 use Rattle.spec_fields.specs.Field.{Alignment}
@@ -52,12 +52,32 @@ foundAs next place size row stored =
       hash = 0;
     }
 
+-- A literal of n code points after the store.
+abbrev pub literalAs : ℕ → ℕ → ℕ → ℕ → Bool → ℕ → StringRead
+literalAs next stored n row joins hash =
+    record {
+      number = 0;
+      next = next;
+      left = 0;
+      place = stored;
+      size = n;
+      row = row;
+      stored = stored + n;
+      joins = joins;
+      hash = hash;
+    }
+
 -- ---- on every memory
 
 -- A refusal answers its number and where it stopped, and clears what it laid.
 pub record Refused (text : List ℕ) (stored : ℕ) (text′ : List ℕ) (r : StringRead) : Type 0 where
   pub is : r ≡ refusedAs (r .number) (r .next) (r .left) stored
   pub cleared : Cleared text stored text′
+
+-- A refusal of n code points that lie after the store.
+pub record Dropped (number next n stored : ℕ) (text text′ : List ℕ) (r : StringRead) : Type 0 where
+  pub is : r ≡ refusedAs number next 0 stored
+  pub text-is : text′ ≡ laidAt text stored (replicate n 0)
 
 -- What was laid after the store: nothing for a hit. A string that joins is what was laid.
 pub record Laid (text : List ℕ) (stored : ℕ) (text′ : List ℕ) (r : StringRead) : Type 0 where

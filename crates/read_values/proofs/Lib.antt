@@ -1,0 +1,5 @@
+pub mod Bounds
+pub mod Meaning
+pub mod News
+pub mod Texts
+pub mod Returns

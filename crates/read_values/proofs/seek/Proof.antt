@@ -1,0 +1,26 @@
+use Rattle.read_values.proofs.Bounds.{find-asks}
+use Rattle.spec_exi.specs.Sizes.{maxStore}
+use native.Mathlib.Omega.{arith}
+use borrow.Author.Needs.{needs}
+use Rattle.read_values.proofs.seek.Statement.{statement}
+use Rattle.read_values.proofs.seek.Tie as tie
+
+cast-look-up : tie.Need-cast-look-up
+unfolding maxStore
+cast-look-up c = omega (arith, c .before .before .pre .store)
+
+look-up-requires : tie.Need-look-up-requires
+look-up-requires c κs = search needs
+
+hash-requires : tie.Need-hash-requires
+hash-requires c κs = search needs
+
+find-requires : tie.Need-find-requires
+find-requires c κs = find-asks (c .before .before .before .before .pre)
+
+returns : tie.Need-returns
+returns c = rw (← (c .before .before .look-up .ensures .0))
+    (record { hash = c .before .hash .ensures; found = c .find .ensures })
+
+pub seek-spec : {M : Type 1} → statement M
+seek-spec = tie.close (tie.spec cast-look-up look-up-requires hash-requires find-requires returns)

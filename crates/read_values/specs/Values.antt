@@ -1,0 +1,86 @@
+-- What reading a value asks and leaves.
+use Prim.Native.Nat.{ℕ, _*_, _≤_, _<_}
+use mathlib.Core.Path.{_≡_}
+use mathlib.Core.Bool.{true}
+use mathlib.Core.List.{List}
+use mathlib.Core.Option.{none}
+use lib.ListN.{length}
+use Rattle.spec_fields.specs.Field.{Alignment}
+use Rattle.text.specs.Text.{Text}
+use Rattle.spec_exi.specs.Sizes.{maxStream, maxStore, maxValues}
+use Rattle.spec_exi.specs.Tables.{Role, value, valuesOf, allValues}
+use Rattle.mem_layout.specs.Layout.{nameRows, workCells}
+use Rattle.mem_entries.specs.Texts.{hashOf}
+use Rattle.mem_values.specs.Hold.{FoundText}
+use Rattle.mem_values.specs.Forms.{ValuesStand}
+use Rattle.mem_rows.specs.Rows.{Rows, nameAt, tablesOf, withValue}
+use Rattle.read_literal.specs.Literal.{LiteralFit}
+use Rattle.read_partition.specs.declared.StringRead.{StringRead}
+use Rattle.read_partition.specs.Strings.{Reading, asString, asHit, asLiteral, StringPost}
+use Rattle.read_values.specs.declared.Sought.{Sought}
+
+-- ---- bounds
+
+pub record HitPre (stream : List ℕ) (at : ℕ) (stored : ℕ) (work : List ℕ)
+    (values owner : ℕ) : Type 0 where
+  pub size : length stream ≤ maxStream
+  pub place : at ≤ 8 * length stream
+  pub store : stored ≤ maxStore
+  pub room : workCells ≤ length work
+  pub few : values ≤ maxValues
+  pub low : owner < nameRows
+
+pub record NewPre (stream : List ℕ) (at : ℕ) (text : List ℕ) (stored : ℕ) (work : List ℕ)
+    (values : ℕ) : Type 0 where
+  pub literal : LiteralFit stream at text stored
+  pub room : workCells ≤ length work
+  pub few : values ≤ maxValues
+
+pub record ValuePre (stream : List ℕ) (at : ℕ) (text : List ℕ) (stored : ℕ) (work : List ℕ)
+    (values owner : ℕ) : Type 0 where
+  pub literal : LiteralFit stream at text stored
+  pub room : workCells ≤ length work
+  pub few : values ≤ maxValues
+  pub low : owner < nameRows
+
+pub record SoughtPre (stored : ℕ) (work : List ℕ) (values : ℕ) : Type 0 where
+  pub store : stored ≤ maxStore
+  pub room : workCells ≤ length work
+  pub few : values ≤ maxValues
+
+-- ---- what is left
+
+-- Memory holds the values of w, of which no two are the same; the name has a row in w.
+pub record ValueRows (work text : List ℕ) (stored values owner : ℕ) (w : Rows) : Type 0 where
+  pub stand : ValuesStand work text stored values 0 values (w .values) none
+  pub row : owner < length (w .names)
+
+abbrev pub valueRole : ℕ → Rows → Role
+valueRole owner w = value (nameAt w owner)
+
+abbrev pub asValue : ℕ → Rows → Text → Reading
+asValue owner w store = asString (valueRole owner w)
+
+abbrev pub asOwn : ℕ → Rows → Text → Reading
+asOwn owner w store = asHit (valueRole owner w) 0 (valuesOf (tablesOf w store) (nameAt w owner))
+
+abbrev pub asAny : ℕ → Rows → Text → Reading
+asAny owner w store = asHit (valueRole owner w) 1 (allValues (tablesOf w store))
+
+abbrev pub asNew : ℕ → ℕ → Rows → Text → Reading
+asNew n owner w store = asLiteral (valueRole owner w) n
+
+abbrev pub ValuePost : Alignment → (ℕ → Rows → Text → Reading) → List ℕ → ℕ → List ℕ → ℕ → List ℕ
+    → ℕ → ℕ → List ℕ → StringRead → Type 0
+ValuePost a read stream at text stored work values owner text′ r =
+    StringPost a (ValueRows work text stored values owner) (read owner)
+    (λ w x. withValue w owner x) stream at text stored text′ r
+
+-- On every memory: the table has room for a value that is to join.
+pub record JoinsWithin (values : ℕ) (r : StringRead) : Type 0 where
+  pub left : r .joins ≡ true → values < maxValues
+
+-- The hash of a text, and where it is found among all values.
+pub record SoughtPost (work text x : List ℕ) (values : ℕ) (r : Sought) : Type 0 where
+  pub hash : r .hash ≡ hashOf x
+  pub found : FoundText work text x (r .hash) values 0 (r .row)

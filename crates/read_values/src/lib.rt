@@ -1,0 +1,221 @@
+// Values, read by the values of their name and by all values (EXI 7.3.3), and Strings by no table.
+// Work memory is not written: a value that is a literal is judged here, and joins its table once
+// the whole event is accepted. What the functions ask and leave is in specs/.
+ghost use mathlib.Core.Path.{_≡_};
+ghost use mathlib.Core.Bool.{false};
+ghost use mathlib.Core.List.{List};
+ghost use Prim.Native.Nat.{ℕ};
+ghost use Rattle.spec_fields.specs.Field.{Alignment};
+ghost use Rattle.text.specs.Text.{part};
+ghost use Rattle.spec_exi.specs.Tables.{Role, target, plain};
+ghost use Rattle.read_field.specs.View.{alignmentOf};
+ghost use Rattle.read_literal.specs.Literal.{LiteralFit};
+ghost use Rattle.read_partition.specs.Strings.{asString, asLiteral};
+ghost use Rattle.read_values.specs.Values.{HitPre, NewPre, ValuePre, SoughtPre, asValue};
+ghost use Rattle.read_values.specs.Values.{asOwn, asAny, asNew, ValuePost, JoinsWithin};
+ghost use Rattle.read_values.specs.Values.{SoughtPost};
+ghost use Rattle.read_values.specs.Texts.{Textual, TextPost};
+use read_field::Field;
+use read_partition::StringRead;
+use refusal::LIMIT;
+use refusal::LOOSE;
+use refusal::NAME;
+use refusal::REFERENCE;
+use sizes::MAX_VALUES;
+
+// ---- values
+
+// A value as a hit among the name's own.
+fn own_value(
+    aligned: bool,
+    stream: &[u8],
+    at: usize,
+    owner: u32,
+    values: u32,
+    stored: usize,
+    work: &[u32],
+) -> StringRead
+    requires { ⌜ HitPre (now stream) at stored (now work) values owner ⌝ }
+    ensures { λ r. ⌜
+        ((text : List ℕ) → ValuePost (alignmentOf aligned) asOwn (now (stream .entry)) at text
+        stored (now (work .entry)) values owner text r) ⌝ }
+    ensures { λ r. ⌜ JoinsWithin values r ⌝ }
+{
+    let among = mem_values::count_local(work, owner);
+    match read_field::choice(aligned, stream, at, among) {
+        Field::Refused(k) => read_partition::refused(k as u32, at, 0, stored),
+        Field::Value { value, next } => {
+            let g = mem_values::nth_local(work, owner, value, values, 0);
+            if g == 0 {
+                return read_partition::refused(REFERENCE, at, 0, stored);
+            }
+            let v = mem_values::value_at(work, g - 1);
+            read_partition::found(next, v.place, v.size, g - 1, stored)
+        }
+    }
+}
+
+// A value as a hit among all values; LOOSE where it is the name's own.
+fn any_value(
+    aligned: bool,
+    stream: &[u8],
+    at: usize,
+    owner: u32,
+    values: u32,
+    stored: usize,
+    work: &[u32],
+) -> StringRead
+    requires { ⌜ HitPre (now stream) at stored (now work) values owner ⌝ }
+    ensures { λ r. ⌜
+        ((text : List ℕ) → ValuePost (alignmentOf aligned) asAny (now (stream .entry)) at text
+        stored (now (work .entry)) values owner text r) ⌝ }
+    ensures { λ r. ⌜ JoinsWithin values r ⌝ }
+{
+    match read_field::choice(aligned, stream, at, values) {
+        Field::Refused(k) => read_partition::refused(k as u32, at, 0, stored),
+        Field::Value { value, next } => {
+            if values <= value {
+                return read_partition::refused(REFERENCE, at, 0, stored);
+            }
+            let v = mem_values::value_at(work, value);
+            let of = v.owner;
+            if of == owner {
+                return read_partition::refused(LOOSE, next, 0, stored);
+            }
+            read_partition::found(next, v.place, v.size, value, stored)
+        }
+    }
+}
+
+// The number of a value and 1, or 0 for none; and the hash of its text.
+struct Sought {
+    row: u32,
+    hash: u32,
+}
+
+// Seeks the text of n code points after the store among all values.
+fn seek(text: &[u32], stored: usize, n: u32, work: &[u32], values: u32) -> Sought
+    requires { ⌜ SoughtPre stored (now work) values ⌝ }
+    ensures { λ r. ⌜
+        SoughtPost (now (work .entry)) (now (text .entry))
+        (part (now (text .entry)) (record { place = stored; size = n })) values r ⌝ }
+{
+    let x = text::look_up(text, stored as u32, n);
+    let hash = mem_entries::hash(x);
+    let row = mem_values::find(work, text, x, hash, values, 0);
+    Sought { row, hash }
+}
+
+// A value as a literal of n code points, of any name; an empty one joins no table.
+fn new_value(
+    stream: &[u8],
+    at: usize,
+    n: u32,
+    values: u32,
+    stored: usize,
+    text: &mut [u32],
+    work: &[u32],
+) -> StringRead
+    requires { ⌜ NewPre (now stream) at (now text) stored (now work) values ⌝ }
+    ensures { λ r. ⌜
+        ((a : Alignment) (owner : ℕ) → ValuePost a (asNew n) (now (stream .entry)) at
+        (now (text .entry)) stored (now (work .entry)) values owner (now (text .exit)) r) ⌝ }
+    ensures { λ r. ⌜ JoinsWithin values r ⌝ }
+{
+    let read = read_literal::read_literal(stream, at, text, stored, n);
+    if read.number != 0 {
+        return read_partition::refused(read.number, read.next, read.left, stored);
+    }
+    let sought = seek(text, stored, n, work, values);
+    if sought.row != 0 {
+        return read_partition::dropped(LOOSE, read.next, n, stored, text);
+    }
+    if n == 0 {
+        return read_partition::laid(read.next, stored, n, 0, false, 0);
+    }
+    if MAX_VALUES <= values as usize {
+        return read_partition::dropped(LIMIT, read.next, n, stored, text);
+    }
+    read_partition::laid(read.next, stored, n, values, true, sought.hash)
+}
+
+// A value of the element or attribute whose name has this row.
+pub fn read_value(
+    aligned: bool,
+    stream: &[u8],
+    at: usize,
+    owner: u32,
+    values: u32,
+    stored: usize,
+    text: &mut [u32],
+    work: &[u32],
+) -> StringRead
+    requires { ⌜ ValuePre (now stream) at (now text) stored (now work) values owner ⌝ }
+    ensures { λ r. ⌜
+        ValuePost (alignmentOf aligned) asValue (now (stream .entry)) at (now (text .entry)) stored
+        (now (work .entry)) values owner (now (text .exit)) r ⌝ }
+    ensures { λ r. ⌜ JoinsWithin values r ⌝ }
+{
+    match read_field::unsigned(stream, at) {
+        Field::Refused(k) => read_partition::refused(k as u32, at, 0, stored),
+        Field::Value { value, next } => {
+            if value == 0 {
+                return own_value(aligned, stream, next, owner, values, stored, work);
+            }
+            if value == 1 {
+                return any_value(aligned, stream, next, owner, values, stored, work);
+            }
+            new_value(stream, next, value - 2, values, stored, text, work)
+        }
+    }
+}
+
+// ---- Strings by no table
+
+// A literal of n code points that joins no table.
+fn new_text(stream: &[u8], at: usize, n: u32, stored: usize, text: &mut [u32]) -> StringRead
+    requires { ⌜ LiteralFit (now stream) at (now text) stored ⌝ }
+    ensures { λ r. ⌜
+        ((role : Role) → Textual role n → TextPost (asLiteral role n) (now (stream .entry)) at
+        (now (text .entry)) stored (now (text .exit)) r) ⌝ }
+    ensures { λ r. ⌜ r .joins ≡ false ⌝ }
+{
+    let read = read_literal::read_literal(stream, at, text, stored, n);
+    if read.number != 0 {
+        return read_partition::refused(read.number, read.next, read.left, stored);
+    }
+    read_partition::laid(read.next, stored, n, 0, false, 0)
+}
+
+// A comment, or an instruction's text.
+pub fn read_plain(stream: &[u8], at: usize, stored: usize, text: &mut [u32]) -> StringRead
+    requires { ⌜ LiteralFit (now stream) at (now text) stored ⌝ }
+    ensures { λ r. ⌜
+        TextPost (asString plain) (now (stream .entry)) at (now (text .entry)) stored
+        (now (text .exit)) r ⌝ }
+    ensures { λ r. ⌜ r .joins ≡ false ⌝ }
+{
+    match read_field::unsigned(stream, at) {
+        Field::Refused(k) => read_partition::refused(k as u32, at, 0, stored),
+        Field::Value { value, next } => new_text(stream, next, value, stored, text),
+    }
+}
+
+// An instruction's target; NAME where it is empty.
+pub fn read_target(stream: &[u8], at: usize, stored: usize, text: &mut [u32]) -> StringRead
+    requires { ⌜ LiteralFit (now stream) at (now text) stored ⌝ }
+    ensures { λ r. ⌜
+        TextPost (asString target) (now (stream .entry)) at (now (text .entry)) stored
+        (now (text .exit)) r ⌝ }
+    ensures { λ r. ⌜ r .joins ≡ false ⌝ }
+{
+    match read_field::unsigned(stream, at) {
+        Field::Refused(k) => read_partition::refused(k as u32, at, 0, stored),
+        Field::Value { value, next } => {
+            if value == 0 {
+                return read_partition::refused(NAME, next, 0, stored);
+            }
+            new_text(stream, next, value, stored, text)
+        }
+    }
+}
