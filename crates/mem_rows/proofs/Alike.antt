@@ -24,7 +24,8 @@ use Rattle.mem_rows.specs.Rows.{productionOf, learntAs, backward, learne
 use Rattle.mem_rows.specs.Rows.{contextOf, withUri, withName, withValue, modeAfter, openedAfter}
 use Rattle.mem_rows.specs.Valid.{Refers, Valid}
 use Rattle.mem_rows.proofs.Joins.{map-snoc, uri-joins, name-joins, value-joins}
-use Rattle.mem_rows.proofs.Events.{leaves, EventRows, event-context}
+use Rattle.mem_rows.specs.Rows.{leaves}
+use Rattle.mem_rows.proofs.Events.{EventRows, event-context}
 
 -- The same rows, with every place 0.
 unfoldable pub unplacedRows : Rows → Rows

@@ -22,8 +22,9 @@ use Rattle.mem_entries.specs.Entries.{named}
 use Rattle.mem_rows.specs.Rows.{Learnt, Rows, placedAt, nameAt, siteAt, kindAt, carries, carriedAt}
 use Rattle.mem_rows.specs.Rows.{productionOf, learntAs, learnedOf, grammarsOf, isAmong, stateOf}
 use Rattle.mem_rows.specs.Rows.{modeAfter, openedAfter, ModeFits, tablesOf, contextOf}
-use Rattle.mem_rows.specs.Rows.{withGrammar, withLearned, afterGrammar, afterLearned}
-use Rattle.mem_rows.specs.Valid.{LearntFits, Refers, Valid}
+use Rattle.mem_rows.specs.Rows.{withGrammar, withLearned, afterGrammar, afterLearned, leaves}
+use Rattle.mem_rows.specs.Valid.{learntAt, LearntFits, Refers, Valid}
+use Rattle.mem_rows.proofs.Grown.{learned-grows, grammar-grows}
 use Rattle.mem_rows.proofs.Kept.{Kept, All, name-kept, learnt-kept, names-kept, learned-kept, grammars-kept}
 use Rattle.mem_rows.proofs.Joins.{name-text}
 use Rattle.mem_rows.proofs.Grammars.{learned-more, grammars-more, has-grammar}
@@ -64,19 +65,15 @@ module _ {w v : Rows} (j : Joined w v) (r : Refers w) where
 
   pub learned-after : (site : Option Site) (b : Bool) (l : Learnt) (p : Option Production)
       → (b ≡ true → (site ≡ some (siteAt v (l .site))) × (p ≡ some (productionOf v l)))
-      → (b ≡ false → p ≡ none) → learnedOf (afterLearned b l v) ≡ learn site p (learnedOf w)
+      → (b ≡ false → (k : Site) → site ≡ some k → p ≡ none) → learnedOf (afterLearned b l v) ≡ learn site p (learnedOf w)
   unfolding afterLearned learn learntAs
   learned-after site true l p f g =
       let (a, q) = f refl in
       rw (a, q) (learned-more v l ∙ ap (λ ls. learntAs v l ∷ ls) (learned-kept (j .kept) r (j .learned)))
   learned-after none false l p f g = learned-kept (j .kept) r (j .learned)
-  learned-after (some k) false l p f g = rw (g refl) (learned-kept (j .kept) r (j .learned))
+  learned-after (some k) false l p f g = rw (g refl k refl) (learned-kept (j .kept) r (j .learned))
 
 -- ---- the rows after both, of which each touches its own list alone
-
--- The rows that an event leaves, where its strings have left v: its name has row n, and l is learned.
-unfoldable pub leaves : ℕ → ℕ → Bool → Learnt → Rows → Rows
-leaves kind n b l v = afterLearned b l (afterGrammar kind n v)
 
 module _ (kind n : ℕ) (b : Bool) (l : Learnt) (v : Rows) where
   pub leaves-names : (m : ℕ) → placedAt (leaves kind n b l v) m ≡ placedAt v m
@@ -102,6 +99,23 @@ module _ (kind n : ℕ) (b : Bool) (l : Learnt) (v : Rows) where
       go true false false = refl
       go false c true = refl
       go false c false = refl
+
+  -- The lists that it does not touch.
+  pub leaves-lists : (leaves kind n b l v .uris ≡ v .uris) × (leaves kind n b l v .names ≡ v .names)
+      × (leaves kind n b l v .values ≡ v .values)
+  unfolding leaves afterLearned afterGrammar withLearned withGrammar
+  leaves-lists = go (eqb kind (kindNumber SE)) (isAmong n (v .grammars)) b
+    where
+      go : (a c d : Bool)
+          → (afterLearned d l (cond a (cond c v (withGrammar v n)) v) .uris ≡ v .uris)
+          × (afterLearned d l (cond a (cond c v (withGrammar v n)) v) .names ≡ v .names)
+          × (afterLearned d l (cond a (cond c v (withGrammar v n)) v) .values ≡ v .values)
+      go true true true = (refl, refl, refl)
+      go true true false = (refl, refl, refl)
+      go true false true = (refl, refl, refl)
+      go true false false = (refl, refl, refl)
+      go false c true = (refl, refl, refl)
+      go false c false = (refl, refl, refl)
 
   leaves-learned : learnedOf (leaves kind n b l v) ≡ learnedOf (afterLearned b l v)
   unfolding leaves afterLearned afterGrammar withLearned withGrammar learnedOf learntAs productionOf carriedAt siteAt nameAt placedAt
@@ -138,7 +152,8 @@ pub record EventRows (w v : Rows) (mode : ℕ) (opened : List ℕ) (n : ℕ) (b 
   pub taught-is : b ≡ true
       → (siteOf (stateOf mode (map (nameAt w) opened)) ≡ some (siteAt v (l .site)))
       × (taught (learnedAt (siteOf (stateOf mode (map (nameAt w) opened))) (learnedOf w)) x (kindOf e) q ≡ some (productionOf v l))
-  pub taught-none : b ≡ false
+  pub taught-none : b ≡ false → (k : Site)
+      → siteOf (stateOf mode (map (nameAt w) opened)) ≡ some k
       → taught (learnedAt (siteOf (stateOf mode (map (nameAt w) opened))) (learnedOf w)) x (kindOf e) q ≡ none
 
 module _ (s : Settings) {w v : Rows} (refers : Refers w) (valid : Valid v) {mode n : ℕ} {opened : List ℕ} {b : Bool} {l : Learnt} {x : Code}
@@ -171,3 +186,52 @@ module _ (s : Settings) {w v : Rows} (refers : Refers w) (valid : Valid v) {mode
       let gs = leaves-grammars k n b l v
       ∙ grammars-after (h .joined) refers valid n e (λ z. (h .name z, h .leads .named z)) in
       λ i. record { state = state-is i; tables = leaves-tables k n b l v store′ i; learned = ls i; grammars = gs i }
+
+-- ---- what an event leaves is valid
+
+-- What is learned is new, and refers to rows that are there.
+pub record Fresh (v : Rows) (l : Learnt) : Type 0 where
+  pub fits : LearntFits (length (v .names)) l
+  pub new : (i : ℕ) → i < length (v .learned) → learntAt (v .learned) i ≡ l → ⊥
+
+module _ (kind n : ℕ) (l : Learnt) {v : Rows} (x : Valid v) where
+  grammar-valid : (kind ≡ kindNumber SE → n < length (v .names)) → Valid (afterGrammar kind n v)
+  unfolding afterGrammar
+  grammar-valid h =
+      split (eqb kind (kindNumber SE))
+      (λ a. rw a (split (isAmong n (v .grammars))
+      (λ e. rw e x)
+      (λ e. rw e (grammar-grows x n (h (eqb-true kind (kindNumber SE) a)) e))))
+      (λ a. rw a x)
+
+  -- The lists that a grammar does not touch.
+  grammar-names : afterGrammar kind n v .names ≡ v .names
+  unfolding afterGrammar withGrammar
+  grammar-names = go (eqb kind (kindNumber SE)) (isAmong n (v .grammars))
+    where
+      go : (a b : Bool) → cond a (cond b v (withGrammar v n)) v .names ≡ v .names
+      go true true = refl
+      go true false = refl
+      go false b = refl
+
+  grammar-learned : afterGrammar kind n v .learned ≡ v .learned
+  unfolding afterGrammar withGrammar
+  grammar-learned = go (eqb kind (kindNumber SE)) (isAmong n (v .grammars))
+    where
+      go : (a b : Bool) → cond a (cond b v (withGrammar v n)) v .learned ≡ v .learned
+      go true true = refl
+      go true false = refl
+      go false b = refl
+
+  pub leaves-valid : (b : Bool) → (kind ≡ kindNumber SE → n < length (v .names))
+      → (b ≡ true → Fresh v l) → Valid (leaves kind n b l v)
+  unfolding leaves afterLearned
+  leaves-valid true h f =
+      let u = f refl in
+      learned-grows (grammar-valid h) l
+      (subst (λ es. LearntFits (length es) l) (sym grammar-names) (u .fits))
+      (λ i m e.
+      let c : length (afterGrammar kind n v .learned) ≡ length (v .learned) =
+      ap length grammar-learned in
+      u .new i (omega (arith, c, m)) (ap (λ ls. learntAt ls i) (sym grammar-learned) ∙ e))
+  leaves-valid false h f = grammar-valid h

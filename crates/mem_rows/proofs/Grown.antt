@@ -11,15 +11,17 @@ use borrow.Author.Tests.{eqb-true, eqb-false, eq-eqb}
 use Rattle.spec_fields.proofs.Tests.{split}
 use Rattle.text.specs.Text.{Text}
 use Rattle.spec_exi.specs.Event.{QName}
-use Rattle.spec_exi.specs.Tables.{Placed, Entry}
-use Rattle.mem_entries.specs.Entries.{entryAt}
+use Rattle.spec_exi.specs.Tables.{Placed, Entry, local, nameAllowed}
+use Rattle.mem_entries.specs.Entries.{entryAt, textAt}
+use Rattle.mem_entries.proofs.Entries.{entry-old, entry-new}
 use Rattle.mem_names.specs.Uris.{noUri, uriAt, uriText}
 use Rattle.mem_rows.specs.Rows.{Learnt, Rows, placedAt, nameAt}
 use Rattle.mem_rows.specs.Rows.{isAmong, withUri, withName, withValue, withLearned, withGrammar}
-use Rattle.mem_rows.specs.Valid.{noLearnt, learntAt, KeysBelow, LearntFits, Refers, Distinct, Valid}
+use Rattle.mem_rows.specs.Valid.{noLearnt, learntAt, KeysBelow, LearntFits, Refers, Distinct}
+use Rattle.mem_rows.specs.Valid.{Judged, Valid}
 use Rattle.mem_rows.proofs.Entries.{last-or, keys-more, keys-up}
 use Rattle.mem_rows.proofs.Joins.{uri-old, uri-new, uri-names, name-old, name-new, name-text}
-use Rattle.mem_rows.proofs.Kept.{Kept}
+use Rattle.mem_rows.proofs.Kept.{Kept, name-kept}
 
 -- ---- what is different stays different
 
@@ -52,6 +54,21 @@ fits-up h f =
       plain = f .plain;
     }
 
+-- ---- what was judged
+
+allowed-as : (p q : QName Text) → p ≡ q → nameAllowed (local false (q .uri)) (q .local) ≡ true
+    → nameAllowed (local false (p .uri)) (p .local) ≡ true
+allowed-as p q e h =
+    ap (λ (x : QName Text). nameAllowed (local false (x .uri)) (x .local)) e ∙ h
+
+judged-kept : {w v : Rows} → Kept w v → length (v .names) ≡ length (w .names) → Judged w → Judged v
+judged-kept {w} {v} k e j =
+    record {
+      names = λ n h.
+          let l : n < length (w .names) = omega (arith, e, h) in
+          allowed-as (nameAt v n) (nameAt w n) (name-kept k n l) (j .names n l);
+    }
+
 -- ---- a URI
 
 module _ {w : Rows} (v : Valid w) (x : Placed) where
@@ -77,9 +94,11 @@ module _ {w : Rows} (v : Valid w) (x : Placed) where
               (λ u h e. fresh u h (e ∙ ap (λ (p : Placed). p .text) (uri-new w x)));
           names = λ i j h k e. d .names i j h k
               (sym (name-text (withUri w x) w i i (uri-names w x r i h)) ∙ e ∙ name-text (withUri w x) w j j (uri-names w x r j k));
+          values = d .values;
           learned = d .learned;
           grammars = d .grammars;
         };
+        judged = judged-kept uri-keeps refl (v .judged);
       }
 
 -- ---- a local name
@@ -101,9 +120,10 @@ module _ {w : Rows} (v : Valid w) (u : ℕ) (x : Placed) where
 
   pub name-grows : u < length (w .uris)
       → ((n : ℕ) → n < length (w .names) → nameAt w n ≡ record { uri = uriText (w .uris) u; local = x .text } → ⊥)
+      → nameAllowed (local false (uriText (w .uris) u)) (x .text) ≡ true
       → Valid (withName w u x)
   unfolding withName
-  name-grows h fresh =
+  name-grows h fresh allowed =
       let r = v .refers in
       let d = v .distinct in
       let e : Entry ℕ = record { key = u; string = x } in
@@ -121,8 +141,19 @@ module _ {w : Rows} (v : Valid w) (u : ℕ) (x : Placed) where
           names = apart-more (w .names) e (nameAt w) (nameAt (withName w u x))
               (λ n l. name-text (withName w u x) w n n (name-old w u x n l)) (d .names)
               (λ n l z. fresh n l (z ∙ new));
+          values = d .values;
           learned = d .learned;
           grammars = d .grammars;
+        };
+        judged = record {
+          names = last-or
+              {P = λ n. nameAllowed (local false (nameAt (withName w u x) n .uri))
+              (nameAt (withName w u x) n .local) ≡ true} (w .names) e
+              (λ n l.
+              allowed-as (nameAt (withName w u x) n) (nameAt w n) (name-kept name-keeps n l)
+              (v .judged .names n l))
+              (allowed-as (nameAt (withName w u x) (length (w .names)))
+              (record { uri = uriText (w .uris) u; local = x .text }) new allowed);
         };
       }
 
@@ -133,19 +164,32 @@ module _ {w : Rows} (v : Valid w) (n : ℕ) (x : Placed) where
   unfolding withValue placedAt
   value-keeps = record { fewer = omega arith; names = λ m h. refl }
 
-  pub value-grows : n < length (w .names) → Valid (withValue w n x)
+  pub value-grows : n < length (w .names)
+      → ((i : ℕ) → i < length (w .values) → textAt (w .values) i ≡ x .text → ⊥)
+      → Valid (withValue w n x)
   unfolding withValue nameAt placedAt
-  value-grows h =
+  value-grows h fresh =
       let r = v .refers in
       let d = v .distinct in
+      let e : Entry ℕ = record { key = n; string = x } in
       record {
         refers = record {
           names = r .names;
-          values = keys-more (w .values) (record { key = n; string = x }) (r .values) h;
+          values = keys-more (w .values) e (r .values) h;
           learned = r .learned;
           grammars = r .grammars;
         };
-        distinct = record { uris = d .uris; names = d .names; learned = d .learned; grammars = d .grammars };
+        distinct = record {
+          uris = d .uris;
+          names = d .names;
+          values = apart-more (w .values) e (textAt (w .values)) (textAt (w .values ++ (e ∷ [])))
+              (λ i l. ap (λ (y : Entry ℕ). y .string .text) (entry-old (w .values) e i l))
+              (d .values)
+              (λ i l z. fresh i l (z ∙ ap (λ (y : Entry ℕ). y .string .text) (entry-new (w .values) e)));
+          learned = d .learned;
+          grammars = d .grammars;
+        };
+        judged = judged-kept value-keeps refl (v .judged);
       }
 
 -- ---- a learned production
@@ -176,10 +220,12 @@ module _ {w : Rows} (v : Valid w) (l : Learnt) where
         distinct = record {
           uris = d .uris;
           names = d .names;
+          values = d .values;
           learned = apart-more (w .learned) l (learntAt (w .learned)) (learntAt (w .learned ++ (l ∷ []))) old (d .learned)
               (λ i h z. fresh i h (z ∙ new));
           grammars = d .grammars;
         };
+        judged = judged-kept learned-keeps refl (v .judged);
       }
 
 -- ---- an element grammar
@@ -220,8 +266,10 @@ module _ {w : Rows} (v : Valid w) (n : ℕ) where
         distinct = record {
           uris = d .uris;
           names = d .names;
+          values = d .values;
           learned = d .learned;
           grammars = apart-more (w .grammars) n (λ i. getD (w .grammars) i 0) (λ i. getD (w .grammars ++ (n ∷ [])) i 0) old (d .grammars)
               (λ i l z. among-at (w .grammars) n i fresh l (z ∙ new));
         };
+        judged = judged-kept grammar-keeps refl (v .judged);
       }

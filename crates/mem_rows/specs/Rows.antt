@@ -226,3 +226,7 @@ afterGrammar kind n w =
 
 unfoldable pub afterLearned : Bool → Learnt → Rows → Rows
 afterLearned teaches l w = cond teaches (withLearned w l) w
+
+-- The rows that an event leaves, where its strings have left v: its name has row n, and l is learned.
+unfoldable pub leaves : ℕ → ℕ → Bool → Learnt → Rows → Rows
+leaves kind n b l v = afterLearned b l (afterGrammar kind n v)

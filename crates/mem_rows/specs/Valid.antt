@@ -2,11 +2,11 @@
 -- same, and every string was judged when it joined.
 use Prim.Native.Nat.{ℕ, _/_, _≤_, _<_}
 use mathlib.Core.Path.{_≡_}
-use mathlib.Core.Bool.{false}
+use mathlib.Core.Bool.{true, false}
 use mathlib.Core.List.{List}
 use lib.ListN.{length, getD}
-use Rattle.spec_exi.specs.Tables.{Placed, Entry}
-use Rattle.mem_entries.specs.Entries.{entryAt}
+use Rattle.spec_exi.specs.Tables.{Placed, Entry, local, nameAllowed}
+use Rattle.mem_entries.specs.Entries.{entryAt, textAt}
 use Rattle.mem_names.specs.Uris.{uriText}
 use Rattle.mem_rows.specs.Rows.{Learnt, Rows, nameAt, kindAt, carries}
 
@@ -36,17 +36,25 @@ pub record Refers (w : Rows) : Type 0 where
       → LearntFits (length (w .names)) (learntAt (w .learned) i)
   pub grammars : (i : ℕ) → i < length (w .grammars) → getD (w .grammars) i 0 < length (w .names)
 
--- Strict reading and writing keep entries apart. (Values are kept apart as long as they are present.)
+-- Strict reading and writing keep entries apart.
 pub record Distinct (w : Rows) : Type 0 where
   pub uris : (i j : ℕ) → i < length (w .uris) → j < length (w .uris)
       → uriText (w .uris) i ≡ uriText (w .uris) j → i ≡ j
   pub names : (i j : ℕ) → i < length (w .names) → j < length (w .names)
       → nameAt w i ≡ nameAt w j → i ≡ j
+  pub values : (i j : ℕ) → i < length (w .values) → j < length (w .values)
+      → textAt (w .values) i ≡ textAt (w .values) j → i ≡ j
   pub learned : (i j : ℕ) → i < length (w .learned) → j < length (w .learned)
       → learntAt (w .learned) i ≡ learntAt (w .learned) j → i ≡ j
   pub grammars : (i j : ℕ) → i < length (w .grammars) → j < length (w .grammars)
       → getD (w .grammars) i 0 ≡ getD (w .grammars) j 0 → i ≡ j
 
+-- Every name may be an element's.
+pub record Judged (w : Rows) : Type 0 where
+  pub names : (n : ℕ) → n < length (w .names)
+      → nameAllowed (local false (nameAt w n .uri)) (nameAt w n .local) ≡ true
+
 pub record Valid (w : Rows) : Type 0 where
   pub refers : Refers w
   pub distinct : Distinct w
+  pub judged : Judged w

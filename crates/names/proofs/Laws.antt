@@ -8,6 +8,7 @@ use lib.Dec.{eqb, eqb·suc-zero}
 use borrow.Author.Tests.{not-true, not-false}
 use Rattle.text.specs.Text.{Text, text, eqText, isEmpty}
 use Rattle.spec_exi.specs.Tables.{nameAllowed, local, target, xsiUri}
+use Rattle.names.specs.Names.{isReserved}
 
 pub is-empty : (x : Text) → isEmpty x ≡ eqb (length x) 0
 unfolding isEmpty
@@ -52,3 +53,18 @@ module _ (attr : Bool) (u x : Text) where
 pub a-target : (x : Text) → not (eqb (length x) 0) ≡ nameAllowed target x
 unfolding nameAllowed
 a-target x = ap not (sym (is-empty x))
+
+-- Whether a name is reserved, test by test.
+module _ (u x : Text) {i : Bool} (uri : i ≡ eqText u xsiUri) where
+  pub elsewhere : i ≡ false → false ≡ isReserved u x
+  unfolding isReserved
+  elsewhere h = rw (← uri, h)
+
+  module _ (there : i ≡ true) {n : Bool} (nil : n ≡ eqText x (text "nil")) where
+    pub is-nil : n ≡ true → true ≡ isReserved u x
+    unfolding isReserved
+    is-nil h = rw (← uri, there, ← nil, h)
+
+    pub is-type : n ≡ false → {t : Bool} → t ≡ eqText x (text "type") → t ≡ isReserved u x
+    unfolding isReserved
+    is-type h e = rw (← uri, there, ← nil, h, ← e)

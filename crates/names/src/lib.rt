@@ -1,6 +1,7 @@
 // Which names are refused: an empty local name or target; attribute nil or type in the XMLSchema-instance URI.
 ghost use mathlib.Core.Path.{_≡_};
 ghost use Rattle.spec_exi.specs.Tables.{nameAllowed, local, target};
+ghost use Rattle.names.specs.Names.{isReserved};
 
 // "http://www.w3.org/2001/XMLSchema-instance"
 const INSTANCE: [u32; 41] = [
@@ -70,6 +71,19 @@ pub fn local_allowed(attr: bool, uri: &[u32], name: &[u32]) -> bool
         return false;
     }
     !text::same_text(name, &TYPE)
+}
+
+// Whether no attribute may have this name; that it is not empty is known.
+pub fn is_reserved(uri: &[u32], local: &[u32]) -> bool
+    ensures { λ r. ⌜ r ≡ isReserved (now (uri .entry)) (now (local .entry)) ⌝ }
+{
+    if text::same_text(uri, &INSTANCE) {
+        if text::same_text(local, &NIL) {
+            return true;
+        }
+        return text::same_text(local, &TYPE);
+    }
+    false
 }
 
 pub fn target_allowed(name: &[u32]) -> bool

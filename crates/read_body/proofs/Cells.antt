@@ -1,59 +1,61 @@
 -- Cells that hold something, and zeros behind it.
-use mathlib.Core.Path.{_≡_, refl, sym, ap, _∙_}
-use mathlib.Core.List.{List, [], _∷_, _++_, append-assoc, append-nil}
-use Prim.Native.Nat.{ℕ, _+_, _*_, _-_}
+use mathlib.Core.Path.{_≡_, sym, ap, _∙_}
+use mathlib.Core.List.{List, _++_, append-assoc}
+use Prim.Native.Nat.{ℕ, zero, suc, _+_, _-_, _≤_}
 use native.Mathlib.Omega.{arith}
-use lib.ListN.{length, getD, take, drop, replicate, length-append, length-replicate}
-use lib.Seq.{take-at, drop-at, drop-drop}
-use Rattle.spec_exi.specs.Event.{Event, mapEvent}
-use Rattle.spec_exi.specs.Tables.{Placed, spanOf}
-use Rattle.event.specs.Cells.{cellsOf}
-use Rattle.event.proofs.Laws.{cells-length}
-use Rattle.state.specs.declared.State.{State}
-use Rattle.outcome.specs.Memory.{ZeroFrom}
-use Rattle.outcome.proofs.Memory.{zero-drop, zero-cleared, cleared-back}
-use Rattle.read_event.specs.Step.{withEvent}
-use Rattle.read_body.specs.Reply.{cellsOfAll}
+use lib.ListN.{length, take, drop, replicate, length-append, length-replicate}
+use lib.ListN.{replicate-append-replicate}
+use lib.Seq.{length-take-le, take-at}
+use Rattle.text.specs.Text.{Text}
+use Rattle.spec_exi.specs.Sizes.{maxStore}
+use Rattle.read_literal.specs.Literal.{laidAt, ZeroFrom}
+use Rattle.read_literal.proofs.Store.{zero-drop}
+use Rattle.read_run.specs.Run.{TextLaid}
+pub use Rattle.read_run.proofs.Laid.{cells-size}
 
--- ---- zeros
+pub drop-zeros : (k n : ℕ) → drop {A = ℕ} k (replicate n 0) ≡ replicate (n - k) 0
+drop-zeros zero n = let e : n - 0 ≡ n = omega arith in rw e
+drop-zeros (suc k) zero = let e : 0 - suc k ≡ 0 = omega arith in rw e
+drop-zeros (suc k) (suc n) = let e : suc n - suc k ≡ n - k = omega arith in rw e (drop-zeros k n)
 
-pub zeros-at : (n k : ℕ) → getD {A = ℕ} (replicate n 0) k 0 ≡ 0
-zeros-at n k = zero-cleared [] 0 n .zero k (omega arith)
+-- Cells at the beginning of zeros.
+pub laid-first : (events cells : List ℕ) → events ≡ replicate (length events) 0
+    → laidAt events 0 cells ≡ cells ++ replicate (length events - length cells) 0
+unfolding laidAt
+laid-first events cells e =
+    let n : 0 + length cells ≡ length cells = omega arith in
+    rw n
+    (ap (λ (l : List ℕ). cells ++ l)
+    (ap (drop (length cells)) e ∙ drop-zeros (length cells) (length events)))
 
-drop-zeros : (k n : ℕ) → drop {A = ℕ} k (replicate n 0) ≡ replicate (n - k) 0
-drop-zeros k n =
-    zero-drop (replicate n 0) k (record { zero = λ i _. zeros-at n i }) ∙ ap (λ m. replicate (m - k) 0) (length-replicate {A = ℕ} n 0)
-
-pub zeros-behind : (l : List ℕ) (n : ℕ) → ZeroFrom l n → l ≡ take n l ++ replicate (length l - n) 0
-zeros-behind l n z = sym (cleared-back l l n z refl refl)
-
--- ---- the cells of events
-
-cells-append : (a b : List (Event Placed)) → cellsOfAll (a ++ b) ≡ cellsOfAll a ++ cellsOfAll b
-unfolding cellsOfAll
-cells-append [] b = refl
-cells-append (e ∷ a) b =
-    ap (λ (r : List ℕ). cellsOf (mapEvent spanOf e) ++ r) (cells-append a b) ∙ sym (append-assoc (cellsOf (mapEvent spanOf e)) (cellsOfAll a) (cellsOfAll b))
-
-pub cells-size : (es : List (Event Placed)) → length (cellsOfAll es) ≡ 9 * length es
-unfolding cellsOfAll
-cells-size [] = refl
-cells-size (e ∷ es) =
-    omega (arith, length-append (cellsOf (mapEvent spanOf e)) (cellsOfAll es), cells-length (mapEvent spanOf e), cells-size es)
-
--- One event more, in the place of zeros.
-pub event-added : (es : List (Event Placed)) (e : Event Placed) (st : State) (n : ℕ) → length es ≡ st .events
-    → withEvent (cellsOfAll es ++ replicate (n - 9 * st .events) 0) st e ≡ cellsOfAll (es ++ e ∷ []) ++ replicate (n - 9 * (st .events + 1)) 0
-unfolding withEvent cellsOfAll
-event-added es e st n count =
-    let k : ℕ = 9 * st .events in
-    let zeros : List ℕ = replicate (n - k) 0 in
-    let size : length (cellsOfAll es) ≡ k = omega (arith, cells-size es) in
-    let behind : drop (k + 9) (cellsOfAll es ++ zeros) ≡ replicate (n - 9 * (st .events + 1)) 0 =
-    sym (drop-drop 9 k (cellsOfAll es ++ zeros))
-    ∙ ap (drop 9) (drop-at (cellsOfAll es) zeros k size)
-    ∙ drop-zeros 9 (n - k)
-    ∙ (let m : n - k - 9 ≡ n - 9 * (st .events + 1) = omega arith in ap (λ m. replicate m 0) m) in
-    let cells : cellsOfAll (es ++ e ∷ []) ≡ cellsOfAll es ++ cellsOf (mapEvent spanOf e) =
-    cells-append es (e ∷ []) ∙ ap (λ (r : List ℕ). cellsOfAll es ++ r) (append-nil (cellsOf (mapEvent spanOf e))) in
-    rw (take-at (cellsOfAll es) zeros k size, behind, cells)
+-- A store that grows, and zeros behind it.
+pub laid-store : (text text′ : List ℕ) (stored now : ℕ) → maxStore ≤ length text
+    → ZeroFrom text stored → TextLaid text stored text′ now
+    → text′ ≡ take now text′ ++ replicate (length text - now) 0
+unfolding laidAt
+laid-store text text′ stored now room z h =
+    let x : Text = h .x in
+    let k : ℕ = h .cleared in
+    let front : List ℕ = take stored text ++ x in
+    let m : ℕ = length text - (now + k) in
+    let long : stored + length (x ++ replicate k 0) ≡ now + k =
+    omega (arith, length-append x (replicate k 0), length-replicate {A = ℕ} k 0, h .grows) in
+    let behind : drop (now + k) text ≡ replicate m 0 =
+    zero-drop text (now + k)
+    (record { zero = λ i l. z .zero i (omega (arith, h .grows)) }) in
+    let sum : k + m ≡ length text - now = omega (arith, h .room) in
+    let is : text′ ≡ front ++ replicate (length text - now) 0 =
+    h .is
+    ∙ ap (λ i. take stored text ++ (x ++ replicate k 0) ++ drop i text) long
+    ∙ ap (λ (l : List ℕ). take stored text ++ (x ++ replicate k 0) ++ l) behind
+    ∙ ap (λ (l : List ℕ). l ++ replicate m 0)
+    (sym (append-assoc (take stored text) x (replicate k 0)))
+    ∙ append-assoc front (replicate k 0) (replicate m 0)
+    ∙ ap (λ (l : List ℕ). front ++ l) (replicate-append-replicate {A = ℕ} k m 0)
+    ∙ ap (λ i. front ++ replicate i 0) sum in
+    let size : length front ≡ now =
+    length-append (take stored text) x
+    ∙ (let a : length (take stored text) ≡ stored =
+    length-take-le stored text (omega (arith, h .grows, h .room)) in omega (arith, a, h .grows)) in
+    is ∙ ap (λ (l : List ℕ). l ++ replicate (length text - now) 0)
+    (sym (ap (take now) is ∙ take-at front (replicate (length text - now) 0) now size))

@@ -1,4 +1,4 @@
 pub mod Cells
-pub mod Events
-pub mod Padding
 pub mod Reply
+pub mod Padding
+pub mod Body

@@ -20,8 +20,11 @@ use Rattle.read_field.specs.View.{viewOf, fieldAt}
 zero-value : (bs : Bits) → allZero bs ≡ eqb (valueOf bs) 0
 unfolding allZero valueOf
 zero-value [] = refl
-zero-value (false ∷ bs) = let e : valueOf bs ≡ 0 * 2 ^ length bs + valueOf bs = omega arith in zero-value bs ∙ ap (λ n. eqb n 0) e
-zero-value (true ∷ bs) = sym (ne-eqb (1 * 2 ^ length bs + valueOf bs) 0 (λ e. omega (arith, pow-pos (length bs))))
+zero-value (false ∷ bs) =
+    let e : valueOf bs ≡ 0 * 2 ^ length bs + valueOf bs = omega arith in
+    zero-value bs ∙ ap (λ n. eqb n 0) e
+zero-value (true ∷ bs) =
+    sym (ne-eqb (1 * 2 ^ length bs + valueOf bs) 0 (λ e. omega (arith, pow-pos (length bs))))
 
 module _ (stream : List ℕ) (at : ℕ) where
   abbrev left : Bits
@@ -35,21 +38,28 @@ module _ (stream : List ℕ) (at : ℕ) where
   unfolding numberBits
   whole =
       rw (append-nil left) at
-      (number-reads bitPacked (length left) .complete (valueOf left) left [] (value-bound left, sym (bits-of-value left)))
+      (number-reads bitPacked (length left) .complete (valueOf left) left []
+      (value-bound left, sym (bits-of-value left)))
 
   pub too-much : 7 < 8 * length stream - at → false ≡ isPadding left
   unfolding isPadding
   too-much l = rw (lt-leb (length left) 7 (omega (arith, left-length)))
 
   module _ {n : ℕ} (few : 8 * length stream - at ≤ 7) (all : n ≡ 8 * length stream - at) where
-    whole-field : fieldAt (numberField bitPacked n) stream at ≡ Value (valueOf left) (8 * length stream)
+    whole-field : fieldAt (numberField bitPacked n) stream at
+        ≡ Value (valueOf left) (8 * length stream)
     unfolding fieldAt viewOf
-    whole-field = let e : n ≡ length left = all ∙ sym left-length in rw (e, whole) (ap (Value (valueOf left)) (omega arith))
+    whole-field =
+        let e : n ≡ length left = all ∙ sym left-length in
+        rw (e, whole) (ap (Value (valueOf left)) (omega arith))
 
-    pub padding-refused : {k : ℕ} {A : Type 0} → fieldAt (numberField bitPacked n) stream at ≡ Refused k → A
-    padding-refused e = let f = whole-field in let z : _≡_ {A = ℕ} 0 1 = cc in absurd (omega arith)
+    pub padding-refused : {k : ℕ} {A : Type 0}
+        → fieldAt (numberField bitPacked n) stream at ≡ Refused k → A
+    padding-refused e =
+        let f = whole-field in let z : _≡_ {A = ℕ} 0 1 = cc in absurd (omega arith)
 
-    pub padding-value : {v q : ℕ} → fieldAt (numberField bitPacked n) stream at ≡ Value v q → eqb v 0 ≡ isPadding left
+    pub padding-value : {v q : ℕ} → fieldAt (numberField bitPacked n) stream at ≡ Value v q
+        → eqb v 0 ≡ isPadding left
     unfolding isPadding
     padding-value {v} e =
         let f = whole-field in

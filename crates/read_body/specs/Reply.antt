@@ -1,41 +1,48 @@
 -- The reply to the definitions' answer, and the cells that an answer fills.
 use Prim.Native.Nat.{ℕ, _-_}
 use mathlib.Core.Path.{_≡_}
-use mathlib.Core.List.{List, [], _∷_, _++_}
+use mathlib.Core.List.{List, _++_}
 use lib.ListN.{length, replicate}
 use Rattle.spec_fields.specs.Refusal.{Answer, refused, accepted}
-use Rattle.spec_exi.specs.Event.{Event, mapEvent}
-use Rattle.spec_exi.specs.Tables.{Placed, spanOf}
 use Rattle.spec_exi.specs.Reader.{Reading, ReadReply, readReply}
-use Rattle.event.specs.Cells.{cellsOf}
+unfoldable pub use Rattle.read_run.specs.Events.{cellsOfAll}
 use Rattle.read_body.specs.declared.ReadReply as declared
 
 -- The numbers of the code's reply.
 unfoldable pub replyOf : declared.ReadReply → ReadReply
-replyOf r = record { number = r .number; index = r .index; events = r .events; codePoints = r .«code_points» }
+replyOf r =
+    record {
+      number = r .number;
+      index = r .index;
+      events = r .events;
+      codePoints = r .«code_points»;
+    }
 
--- The cells of a list of events, one behind the other.
-unfoldable pub cellsOfAll : List (Event Placed) → List ℕ
-cellsOfAll [] = []
-cellsOfAll (e ∷ es) = cellsOf (mapEvent spanOf e) ++ cellsOfAll es
-
--- n cells: the answered events, and zeros behind them; after a refusal zeros alone (scope, "Refusal numbers").
+-- n cells: the answered events, and zeros behind them; after a refusal zeros alone (scope,
+-- "Refusal numbers").
 unfoldable pub eventsFilled : ℕ → Answer Reading → List ℕ
 eventsFilled n (refused k i) = replicate n 0
-eventsFilled n (accepted r) = cellsOfAll (r .events) ++ replicate (n - length (cellsOfAll (r .events))) 0
+eventsFilled n (accepted r) =
+    cellsOfAll (r .events) ++ replicate (n - length (cellsOfAll (r .events))) 0
 
 -- n cells: the answered text store, and zeros behind it; after a refusal zeros alone.
 unfoldable pub textFilled : ℕ → Answer Reading → List ℕ
 textFilled n (refused k i) = replicate n 0
 textFilled n (accepted r) = r .store ++ replicate (n - length (r .store)) 0
 
--- ---- the loop, before the clearing: after a refusal nothing is said of the cells
-
 -- The reply to an answer, and the cells where it is accepted.
-pub record Attempted (x : Answer Reading) (events text events′ text′ : List ℕ) (r : declared.ReadReply) : Type 0 where
+pub record Attempted (x : Answer Reading) (events text events′ text′ : List ℕ)
+    (r : declared.ReadReply) : Type 0 where
   pub reply : replyOf r ≡ readReply x
   pub cells : r .number ≡ 0 → events′ ≡ eventsFilled (length events) x
   pub store : r .number ≡ 0 → text′ ≡ textFilled (length text) x
+
+-- The reply, and all cells.
+pub record Filled (x : Answer Reading) (events text events′ text′ : List ℕ)
+    (r : declared.ReadReply) : Type 0 where
+  pub reply : replyOf r ≡ readReply x
+  pub cells : events′ ≡ eventsFilled (length events) x
+  pub store : text′ ≡ textFilled (length text) x
 
 -- The code's reply to a refusal.
 unfoldable pub refusalOf : ℕ → ℕ → declared.ReadReply

@@ -2,19 +2,16 @@
 // specs/Body.antt, the reply in specs/Reply.antt.
 ghost use mathlib.Core.Path.{_≡_};
 ghost use Prim.Native.Nat.{_≤_};
-ghost use lib.ListN.{length, drop, replicate};
+ghost use lib.ListN.{drop};
 ghost use Rattle.spec_fields.specs.Bits.{unpack, isPadding};
-ghost use Rattle.spec_exi.specs.Reader.{readReply};
 ghost use Rattle.settings.specs.Meant.{settingsFrom};
-ghost use Rattle.read_body.specs.Reply.{refusalOf, Attempted, replyOf, eventsFilled};
-ghost use Rattle.read_body.specs.Reply.{textFilled};
-ghost use Rattle.read_body.specs.Body.{PlaceIn, RunReady, answerFrom};
+ghost use Rattle.read_run.specs.Run.{AdvancePre};
+ghost use Rattle.read_body.specs.Reply.{refusalOf};
+ghost use Rattle.read_body.specs.Body.{PlaceIn, RunPost, BodyPost};
 use read_field::Field;
-use refusal::LIMIT;
+use read_run::State;
 use refusal::TAIL;
 use settings::Settings;
-use sizes::MAX_EVENTS;
-use state::State;
 
 // The number of the refusal or 0, the index of the event concerned, and the counts of events and
 // code points.
@@ -54,8 +51,7 @@ fn is_padding(stream: &[u8], at: usize) -> bool
     }
 }
 
-// The events, one behind the other, and the padding. After a refusal the cells of the events before
-// it are left.
+// The events and the padding. After a refusal the cells of the events before it are left.
 fn run(
     o: Settings,
     stream: &[u8],
@@ -64,36 +60,27 @@ fn run(
     text: &mut [u32],
     work: &mut [u32],
 ) -> ReadReply
-    requires { ⌜ RunReady (now stream) (now events) (now text) (now work) st ⌝ }
-    ensures { λ r. ⌜ Attempted
-        (answerFrom (settingsFrom o) (now (stream .entry)) (now (text .entry))
-        (now (work .entry)) st)
-        (now (events .entry)) (now (text .entry)) (now (events .exit)) (now (text .exit)) r ⌝ }
+    requires { ⌜ AdvancePre (now stream) (now events) (now text) (now work) st 0 ⌝ }
+    ensures { λ r. ⌜ RunPost (settingsFrom o) (now (stream .entry)) (now (events .entry))
+        (now (text .entry)) (now (work .entry)) st (now (events .exit)) (now (text .exit)) r ⌝ }
 {
-    let mut t = st;
-    while t.events < MAX_EVENTS {
-        let r = read_event::step(o, stream, t, events, text, work);
-        if r.number != 0 {
-            return refused(r.number, t.events);
-        }
-        t = r.state;
-        if t.mode == 3 {
-            if is_padding(stream, t.at) {
-                return ReadReply {
-                    number: 0,
-                    index: 0,
-                    events: t.events as u32,
-                    code_points: t.stored as u32,
-                };
-            }
-            return refused(TAIL, t.events);
-        }
+    let r = read_run::advance(o, stream, st, 0, events, text, work);
+    if r.number != 0 {
+        return refused(r.number, r.index);
     }
-    refused(LIMIT, t.events)
+    if is_padding(stream, r.state.core.at) {
+        return ReadReply {
+            number: 0,
+            index: 0,
+            events: r.index as u32,
+            code_points: r.state.core.stored as u32,
+        };
+    }
+    refused(TAIL, r.index)
 }
 
 // Reads the events and the padding: their cells and the text store, and zeros behind them; after a
-// refusal zeros alone. Work memory is left zero.
+// refusal zeros alone.
 pub fn read_events(
     o: Settings,
     stream: &[u8],
@@ -102,20 +89,11 @@ pub fn read_events(
     text: &mut [u32],
     work: &mut [u32],
 ) -> ReadReply
-    requires { ⌜ RunReady (now stream) (now events) (now text) (now work) st ⌝ }
-    ensures { λ r. ⌜ replyOf r ≡ readReply
-        (answerFrom (settingsFrom o) (now (stream .entry)) (now (text .entry))
-        (now (work .entry)) st) ⌝ }
-    ensures { λ r. ⌜ now (events .exit) ≡ eventsFilled (length (now (events .entry)))
-        (answerFrom (settingsFrom o) (now (stream .entry)) (now (text .entry))
-        (now (work .entry)) st) ⌝ }
-    ensures { λ r. ⌜ now (text .exit) ≡ textFilled (length (now (text .entry)))
-        (answerFrom (settingsFrom o) (now (stream .entry)) (now (text .entry))
-        (now (work .entry)) st) ⌝ }
-    ensures { λ r. ⌜ now (work .exit) ≡ replicate (length (now (work .entry))) 0 ⌝ }
+    requires { ⌜ AdvancePre (now stream) (now events) (now text) (now work) st 0 ⌝ }
+    ensures { λ r. ⌜ BodyPost (settingsFrom o) (now (stream .entry)) (now (events .entry))
+        (now (text .entry)) (now (work .entry)) st (now (events .exit)) (now (text .exit)) r ⌝ }
 {
     let reply = run(o, stream, st, events, text, work);
-    clear::cells(work);
     if reply.number != 0 {
         clear::cells(events);
         clear::cells(text);

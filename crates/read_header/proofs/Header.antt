@@ -17,8 +17,8 @@ use Rattle.spec_exi.specs.Settings.{Settings, headerOf}
 use Rattle.spec_exi.specs.Reader.{readHeader}
 use Rattle.read_field.specs.declared.Field.the-variants.{Value, Refused}
 use Rattle.read_field.specs.View.{fieldAt}
-use Rattle.outcome.specs.Outcome.{Declined, Gotten}
-use Rattle.outcome.proofs.Outcome.{refused-outcome, gotten-outcome, declined-then, gotten-declined, then-got, need-true, need-declined, refused-declined, octet-gotten, return-got}
+use Rattle.read_contract.specs.Outcome.{Declined, Gotten}
+use Rattle.read_contract.proofs.Outcome.{refused-outcome, gotten-outcome, declined-then, gotten-declined, then-got, need-true, need-declined, refused-declined, octet-gotten, return-got}
 use Rattle.read_header.specs.Header.{headerOctets, Passes}
 
 -- The octets before this one stand there.

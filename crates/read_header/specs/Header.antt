@@ -5,7 +5,7 @@ use mathlib.Core.List.{List, [], _∷_}
 use lib.ListN.{length}
 use Rattle.spec_exi.specs.Sizes.{maxStream}
 use Rattle.spec_exi.specs.Reader.{readHeader}
-use Rattle.outcome.specs.Outcome.{Outcome}
+use Rattle.read_contract.specs.Outcome.{Outcome}
 use Rattle.read_header.specs.declared.Passed.{Passed}
 
 -- The octets with the cookie, which is the first four.

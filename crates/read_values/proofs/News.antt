@@ -24,6 +24,7 @@ use Rattle.mem_entries.specs.Texts.{hashOf, Grown}
 use Rattle.mem_entries.specs.Entries.{Entries, keyAt, hasTextAt}
 use Rattle.mem_values.specs.Window.{valueForm}
 use Rattle.mem_values.specs.Hold.{FoundText}
+use Rattle.mem_values.proofs.Answers.{found-none}
 use Rattle.mem_values.proofs.Joined.{values-grown}
 use Rattle.mem_rows.specs.Rows.{Rows, nameAt, tablesOf, withValue}
 use Rattle.mem_rows.proofs.Joins.{value-joins, nothing-joins}
@@ -147,6 +148,9 @@ module _ {text : List ℕ} {stored : ℕ} {w : Rows} {store : Text} (t : Tabled 
         → Passes (λ w y. withValue w owner y) (valueRole owner w) w store x true
     unfolding nameAllowed laid tablesOf
     new-passes z h =
+        let absent : 0 ≡ since 0 (lastThat (hasTextAt (w .values) x) (length (w .values))) =
+        sym z ∙ row-is
+        ∙ ap (λ m. since 0 (lastThat (hasTextAt (w .values) x) m)) (sym (count-is t p)) in
         record {
           strict = absent-strict z;
           allowed = refl;
@@ -154,7 +158,9 @@ module _ {text : List ℕ} {stored : ℕ} {w : Rows} {store : Text} (t : Tabled 
           stays = λ j. absurd (true≢false j);
           joined = λ _. value-joins w (t .valid .refers) store x owner
               (full-is x (omega (arith, d .size)));
-          valid = λ _. value-grows (t .valid) owner _ (p .row);
+          valid = λ _.
+              value-grows (t .valid) owner _ (p .row)
+              (λ i l y. found-none (w .values) 0 x absent i (omega arith) l y);
         }
 
 -- ---- by what `read_literal` and `seek` answer

@@ -1,119 +1,121 @@
--- Zeros with the initial entries in them, behind the header: the events can be read, and the context is the definitions' start.
-use mathlib.Core.Path.{_≡_, refl, ap, _∙_}
-use mathlib.Core.Logic.{_⊎_, inl, inr, ⊎-elim}
-use mathlib.Core.List.{List, [], _∷_, append-nil}
-use Prim.Native.Nat.{ℕ, suc, _+_, _*_, _≤_, _<_}
+-- Zeros with the initial entries in them, behind the header: the events can be read, and the
+-- context is the definitions' start.
+use Prim.Native.Nat.{ℕ, zero, suc, _+_, _*_, _-_, _≤_, _<_}
 use native.Mathlib.Omega.{arith}
-use lib.ListN.{length, getD, replicate}
-use Rattle.spec_exi.specs.Sizes.{maxUris, maxNames, maxValues, maxLearned, maxGrammars, maxStore, readerWork}
+use mathlib.Core.Path.{_≡_, refl, sym, ap, _∙_}
+use mathlib.Core.List.{List, _++_}
+use lib.ListN.{length, getD, take, drop, replicate, length-append, length-drop, length-replicate}
+use lib.ListN.{getD-replicate}
+use lib.Seq.{length-take-le, take-at, getD-take, getD-drop, getD-append-add}
+use Rattle.spec_fields.specs.Bits.{unpack}
 use Rattle.spec_exi.specs.Settings.{Settings}
+use Rattle.spec_exi.specs.Sizes.{sizes, maxEvents, maxStore, maxOpen, readerWork}
 use Rattle.spec_exi.specs.Context.{start}
-use Rattle.rows.specs.declared.Row.{Row}
-use Rattle.rows.specs.Rows.{withRow}
-use Rattle.rows.proofs.Laws.{withRow-other}
-use Rattle.layout.specs.Layout.{urisAt, namesAt, valuesAt, learnedAt, grammarsAt, tableCells}
-use Rattle.initial.specs.Initial.{initialText, initialRows, someRows, initialUris, initialNames, withText, withRows, withTables, startMemory, startCounts}
-use Rattle.initial.proofs.Laws.{Begun, start-tables, start-tidy, withText-length, begun-apart}
-use Rattle.state.specs.declared.State.{State}
-use Rattle.state.specs.Stack.{started}
-use Rattle.standing.specs.Standing.{contextOf}
-use Rattle.standing.proofs.Laws.{start-standing, start-context}
-use Rattle.outcome.specs.Memory.{readerMemory, ZeroFrom, Clear}
-use Rattle.outcome.proofs.Memory.{zero-laid}
-use Rattle.read_body.specs.Body.{RunReady}
-use Rattle.reader.specs.Read.{StreamReady}
-use Rattle.read_body.proofs.Cells.{zeros-at}
+use Rattle.spec_exi.specs.Reader.{readEvents}
+use Rattle.mem_layout.specs.Layout.{workCells, zeroCells}
+use Rattle.mem_initial.specs.Initial.{initialText, withText, withRows, startRows, startAt, Layable}
+use Rattle.mem_initial.proofs.Initial.{start-represents, start-topped, start-bounded, start-means}
+use Rattle.read_literal.specs.Literal.{ZeroFrom}
+use Rattle.read_run.specs.declared.State.{State}
+use Rattle.read_run.specs.Run.{lastFirst, AdvancePre}
+use Rattle.read_body.specs.Body.{BodyReady, answerFrom}
+use Rattle.reader.specs.Read.{StreamReady, zeroed, initialState}
 
-tables-before : tableCells ≤ readerWork
-unfolding tableCells grammarsAt learnedAt valuesAt namesAt urisAt maxUris maxNames maxValues maxLearned maxGrammars readerWork
-tables-before = omega arith
+-- ---- zeros
 
-text-length : length initialText ≡ 99
+zeroed-at : (n : ℕ) (l : List ℕ) → n ≤ length l → (j : ℕ) → j < n → getD (zeroed n l) j 0 ≡ 0
+unfolding zeroed
+zeroed-at n l h j k =
+    let e : length (take n l) ≡ n = length-take-le n l h in
+    let a : take n (replicate (length (take n l)) 0 ++ drop n l) ≡ replicate (length (take n l)) 0 =
+    take-at (replicate (length (take n l)) 0) (drop n l) n
+    (length-replicate {A = ℕ} (length (take n l)) 0 ∙ e) in
+    sym (getD-take n (replicate (length (take n l)) 0 ++ drop n l) j 0 k)
+    ∙ ap (λ (m : List ℕ). getD m j 0) a
+    ∙ getD-replicate (length (take n l)) j 0 0 (omega (arith, e))
+
+zeros-at : (n k : ℕ) → getD {A = ℕ} (replicate n 0) k 0 ≡ 0
+zeros-at zero k = refl
+zeros-at (suc n) zero = refl
+zeros-at (suc n) (suc k) = zeros-at n k
+
+-- The text store behind the initial entries.
+text-zeros : (text : List ℕ) → text ≡ replicate (length text) 0 → 99 ≤ length text
+    → length (withText text 0) ≡ length text → ZeroFrom (withText text 0) 99
 unfolding withText
-text-length = rw (append-nil initialText) at (withText-length (replicate 99 0) 0 (omega arith))
-
--- ---- zeros stay zeros
-
-withRows-other : (base : ℕ) (work : List ℕ) (n : ℕ) (rs : List Row) (k : ℕ) → (base + 3 * (n + length rs) ≤ k) ⊎ (k < base + 3 * n)
-    → getD (withRows work base n rs) k 0 ≡ getD work k 0
-unfolding withRows
-withRows-other base work n [] k h = refl
-withRows-other base work n (r ∷ rs) k h =
-    withRows-other base (withRow work base n r) (suc n) rs k (⊎-elim (λ l. inl (omega arith)) (λ l. inr (omega arith)) h)
-    ∙ withRow-other work base n r k (⊎-elim (λ l. inl (omega arith)) (λ l. inr (omega arith)) h)
-
--- Outside of the rows of three URIs and of six names.
-abbrev Elsewhere : ℕ → Type 0
-Elsewhere k = ((urisAt + 9 ≤ k) × (k < namesAt)) ⊎ (namesAt + 18 ≤ k)
-
-withTables-other : (work : List ℕ) (k : ℕ) → Elsewhere k → getD (withTables work 0) k 0 ≡ getD work k 0
-unfolding withTables initialUris initialNames someRows initialRows urisAt namesAt maxUris
-withTables-other work k h =
-    withRows-other namesAt (withRows work urisAt 0 (initialUris 0)) 0 (initialNames 0) k
-    (⊎-elim (λ l. inr (omega arith)) (λ l. inl (omega arith)) h)
-    ∙ withRows-other urisAt work 0 (initialUris 0) k (⊎-elim (λ l. inl (omega arith)) (λ l. inl (omega arith)) h)
-
-module _ (work : List ℕ) (none : work ≡ replicate (length work) 0) where
-  table-zero : (k : ℕ) → Elsewhere k → getD (withTables work 0) k 0 ≡ 0
-  table-zero k h = withTables-other work k h ∙ ap (λ (l : List ℕ). getD l k 0) none ∙ zeros-at (length work) k
-
-text-zero : (text : List ℕ) → text ≡ replicate (length text) 0 → 99 ≤ length text → ZeroFrom (withText text 0) 99
-unfolding withText
-text-zero text none fits =
-    let n : 0 + length initialText ≡ 99 = omega (arith, text-length) in
-    rw n at
-    (zero-laid text 0 initialText (omega (arith, text-length))
-    (record { zero = λ k _. ap (λ (l : List ℕ). getD l k 0) none ∙ zeros-at (length text) k }))
-
--- Past the counts all is zero.
-start-clear : (work text : List ℕ) (at : ℕ) → work ≡ replicate (length work) 0 → text ≡ replicate (length text) 0 → 99 ≤ length text
-    → Clear (withTables work 0) (withText text 0) (started at 99 3 6)
-unfolding started urisAt namesAt valuesAt learnedAt grammarsAt maxUris maxNames maxValues maxLearned maxGrammars
-start-clear work text at no-work no-text fits =
+text-zeros text e h same =
+    let size : length initialText ≡ 99 =
+    omega (arith, same, length-append initialText (drop 99 text), length-drop 99 text) in
     record {
-      store = text-zero text no-text fits;
-      uris = record { zero = λ k l b. table-zero work no-work k (inl (omega arith, omega arith)) };
-      names = record { zero = λ k l b. table-zero work no-work k (inr (omega arith)) };
-      values = record { zero = λ k l b. table-zero work no-work k (inr (omega arith)) };
-      learned = record { zero = λ k l b. table-zero work no-work k (inr (omega arith)) };
-      grammars = record { zero = λ k l b. table-zero work no-work k (inr (omega arith)) };
+      zero = λ k l.
+          let i : k ≡ length initialText + (k - 99) = omega arith in
+          ap (λ n. getD (initialText ++ drop 99 text) n 0) i
+          ∙ getD-append-add initialText (drop 99 text) (k - 99) 0
+          ∙ getD-drop 99 text (k - 99) 0
+          ∙ ap (λ (m : List ℕ). getD m (99 + (k - 99)) 0) e
+          ∙ zeros-at (length text) (99 + (k - 99));
     }
 
 -- ---- the start
 
 module _ {stream events text work : List ℕ} (h : StreamReady stream events text work) where
-  pub rows-fit : tableCells ≤ length work
-  rows-fit = omega (arith, tables-before, h .rows)
+  pub heads-ask : workCells ≤ length work
+  unfolding readerWork
+  heads-ask = h .rows
 
-  pub text-fits : 0 + 99 ≤ length text
+  pub rows-ask : {work₁ : List ℕ} → length work₁ ≡ length work → Layable work₁ 0
+  unfolding readerWork
+  rows-ask e = record { room = omega (arith, h .rows); near = omega arith }
+
+  pub text-asks : 0 + 99 ≤ length text
   unfolding maxStore
-  text-fits = omega (arith, h .room)
+  text-asks = omega (arith, h .room)
 
-  begun : Begun (readerMemory (withTables work 0) (withText text 0))
-  unfolding startMemory
-  begun = begun-apart work text 0 rows-fit text-fits
-
-  -- The rows are laid, and the text.
-  module _ (at : ℕ) {work′ text′ : List ℕ} {st : State} (rows : work′ ≡ withTables work 0) (laid : text′ ≡ withText text 0) (begins : st ≡ started at 99 3 6) where
-    pub events-ask : at ≤ 8 * length stream → RunReady stream events text′ work′ st
-    unfolding started startCounts
+  -- The heads are cleared, the rows are laid, and the text.
+  module _ (at : ℕ) {work₁ work₂ text₁ : List ℕ} {st : State}
+      (heads : work₁ ≡ zeroed zeroCells work)
+      (rows : work₂ ≡ withRows work₁ 0) (laid : text₁ ≡ withText text 0)
+      (begins : st ≡ initialState at)
+      (same₁ : length work₁ ≡ length work) (same₂ : length work₂ ≡ length work₁)
+      (same : length text₁ ≡ length text) where
+    pub events-ask : at ≤ 8 * length stream → AdvancePre stream events text₁ work₂ st 0
+    unfolding initialState startAt readerWork
     events-ask l =
-        rw (rows, laid, begins)
+        rw begins
         (record {
-          there = record { size = h .size; place = l };
-          standing = start-standing (readerMemory (withTables work 0) (withText text 0)) at 99 3 6 (start-tidy _ begun);
-          clear = start-clear work text at (h .noWork) (h .noText) (omega (arith, text-fits));
-          room = rw (withText-length text 0 text-fits) (h .room);
+          size = h .size;
+          place = l;
+          room = omega (arith, h .room, same);
+          rows = omega (arith, h .rows, same₁, same₂);
           cells = h .cells;
-          none = h .noEvents;
-          first = refl;
+          few = omega arith;
+          bounded = start-bounded at;
+          array = length-replicate {A = ℕ} maxOpen 0;
         })
 
-    pub context-starts : (s : Settings) → contextOf (readerMemory work′ text′) st ≡ start s
-    unfolding start startCounts
-    context-starts s =
-        rw (rows, laid, begins, start-context (readerMemory (withTables work 0) (withText text 0)) at 99 3 6, start-tables _ begun s)
+    zeros : (j : ℕ) → j < zeroCells → getD work₁ j 0 ≡ 0
+    unfolding readerWork
+    zeros j k =
+        ap (λ (m : List ℕ). getD m j 0) heads
+        ∙ zeroed-at zeroCells work (omega (arith, h .rows)) j k
 
-    pub position : st .at ≡ at
-    unfolding started
-    position = rw begins
+    pub body-ready : BodyReady events text₁ work₂ st startRows
+    unfolding initialState lastFirst startAt readerWork
+    body-ready =
+        rw (begins, rows, laid)
+        (record {
+          represents = start-represents work₁ (omega (arith, h .rows, same₁)) zeros text text-asks
+              at;
+          topped = start-topped at;
+          going = λ e. omega arith;
+          none = h .cleared .noEvents;
+          zeros = text-zeros text (h .cleared .noText) text-asks (ap length (sym laid) ∙ same);
+        })
+
+    pub body-answer : (s : Settings)
+        → answerFrom s stream text₁ st startRows
+        ≡ readEvents maxEvents sizes s (start s) (drop at (unpack stream))
+    unfolding initialState lastFirst startAt
+    body-answer s =
+        rw (begins, laid)
+        (ap (λ c. readEvents maxEvents sizes s c (drop at (unpack stream))) (start-means text at s))

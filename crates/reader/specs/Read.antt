@@ -1,14 +1,16 @@
 -- What the reader's functions ask and leave.
 use Prim.Native.Nat.{ℕ, _≤_}
 use mathlib.Core.Path.{_≡_}
-use mathlib.Core.List.{List}
-use lib.ListN.{length, replicate}
+use mathlib.Core.List.{List, _++_}
+use lib.ListN.{length, take, drop, replicate}
 use Rattle.spec_fields.specs.Refusal.{Answer}
-use Rattle.spec_exi.specs.Sizes.{maxStream, maxStore, eventCells, readerWork}
+use Rattle.spec_exi.specs.Sizes.{maxStream, maxStore, maxOpen, eventCells, readerWork}
 use Rattle.spec_exi.specs.Reader.{Reading, ReaderRoom, readReply}
 use Rattle.spec_exi.specs.Reader as format
 use Rattle.settings.specs.Meant.{numbersOf}
 use Rattle.settings.specs.declared.SettingNumbers.{SettingNumbers}
+use Rattle.mem_initial.specs.Initial.{startAt}
+use Rattle.read_run.specs.declared.State.{State}
 use Rattle.read_body.specs.Reply.{replyOf, eventsFilled, textFilled}
 use Rattle.read_body.specs.declared.ReadReply as declared
 
@@ -43,14 +45,25 @@ pub record ReadPost (s : SettingNumbers) (stream : List ℕ) (m m′ : ReaderLen
   pub text : m′ .text ≡ textFilled (length (m .text)) (answerOf s stream m)
   pub work : m′ .work ≡ replicate (length (m .work)) 0
 
--- ---- behind the tests
+-- ---- on the way there
 
--- A stream that is not too long; zeros, and enough of them.
+-- Event cells and text store are zero.
+pub record Cleared (events text : List ℕ) : Type 0 where
+  pub noEvents : events ≡ replicate (length events) 0
+  pub noText : text ≡ replicate (length text) 0
+
+-- Behind the tests: a stream that is not too long, and enough is lent.
 pub record StreamReady (stream events text work : List ℕ) : Type 0 where
   pub size : length stream ≤ maxStream
   pub cells : eventCells ≤ length events
   pub room : maxStore ≤ length text
   pub rows : readerWork ≤ length work
-  pub noEvents : events ≡ replicate (length events) 0
-  pub noText : text ≡ replicate (length text) 0
-  pub noWork : work ≡ replicate (length work) 0
+  pub cleared : Cleared events text
+
+-- The first n cells, cleared.
+unfoldable pub zeroed : ℕ → List ℕ → List ℕ
+zeroed n cells = replicate (length (take n cells)) 0 ++ drop n cells
+
+-- The state before the first event, where the header ends at a position.
+unfoldable pub initialState : ℕ → State
+initialState at = record { core = startAt at; opened = replicate maxOpen 0 }

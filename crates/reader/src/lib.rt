@@ -2,25 +2,48 @@
 // and index. The definitions that the contracts cite are in specs/Read.antt and
 // crates/read_body/specs/Reply.antt and, for the answer, in crates/spec_exi/specs/Reader.antt.
 ghost use mathlib.Core.Path.{_≡_};
-ghost use lib.ListN.{length, replicate};
+ghost use Prim.Native.Nat.{_≤_};
+ghost use lib.ListN.{length};
 ghost use Rattle.spec_exi.specs.Sizes.{sizes};
-ghost use Rattle.spec_exi.specs.Reader.{readStream, readReply};
+ghost use Rattle.spec_exi.specs.Reader.{readStream};
 ghost use Rattle.settings.specs.Meant.{settingsFrom};
-ghost use Rattle.read_body.specs.Reply.{replyOf, eventsFilled, textFilled};
-ghost use Rattle.reader.specs.Read.{StreamReady, ReadPost, lent};
+ghost use Rattle.mem_layout.specs.Layout.{workCells, zeroCells};
+ghost use Rattle.read_body.specs.Reply.{Filled};
+ghost use Rattle.reader.specs.Read.{ReadPost, lent, answerOf, initialState};
+ghost use Rattle.reader.specs.Read.{Cleared, StreamReady, zeroed};
+use mem_layout::ZERO_CELLS;
 use read_body::ReadReply;
+use read_run::State;
 use refusal::LONG;
 use refusal::ROOM;
 use refusal::SETTINGS;
 use settings::SettingNumbers;
 use settings::Settings;
 use sizes::EVENT_CELLS;
+use sizes::MAX_OPEN;
 use sizes::MAX_STORE;
 use sizes::MAX_STREAM;
 use sizes::READER_WORK;
 
-// The header and the events, with the initial entries in tables and store. Where the header is
-// refused, everything is left as it was: zero.
+// Clears heads and counts, which are zero at the start.
+fn clear_heads(work: &mut [u32])
+    requires { ⌜ workCells ≤ length (now work) ⌝ }
+    ensures { λ _. ⌜ now (work .exit) ≡ zeroed zeroCells (now (work .entry)) ⌝ }
+{
+    clear::cells(&mut work[0..ZERO_CELLS]);
+}
+
+// The state before the first event, with no element open.
+fn initial_state(at: usize) -> State
+    ensures { λ r. ⌜ r ≡ initialState at ⌝ }
+{
+    State {
+        core: mem_initial::start(at),
+        opened: [0u16; MAX_OPEN],
+    }
+}
+
+// The header and the events, with the initial entries in tables and store.
 fn read_stream(
     o: Settings,
     stream: &[u8],
@@ -29,28 +52,46 @@ fn read_stream(
     work: &mut [u32],
 ) -> ReadReply
     requires { ⌜ StreamReady (now stream) (now events) (now text) (now work) ⌝ }
-    ensures { λ r. ⌜ replyOf r
-        ≡ readReply (readStream sizes (settingsFrom o) (now (stream .entry))) ⌝ }
-    ensures { λ r. ⌜ now (events .exit)
-        ≡ eventsFilled (length (now (events .entry)))
-        (readStream sizes (settingsFrom o) (now (stream .entry))) ⌝ }
-    ensures { λ r. ⌜ now (text .exit)
-        ≡ textFilled (length (now (text .entry)))
-        (readStream sizes (settingsFrom o) (now (stream .entry))) ⌝ }
-    ensures { λ r. ⌜ now (work .exit) ≡ replicate (length (now (work .entry))) 0 ⌝ }
+    ensures { λ r. ⌜ Filled (readStream sizes (settingsFrom o) (now (stream .entry)))
+        (now (events .entry)) (now (text .entry)) (now (events .exit)) (now (text .exit)) r ⌝ }
 {
     let h = read_header::read_header(o, stream);
     if h.number != 0 {
         return read_body::refused(h.number, 0);
     }
-    initial::lay_rows(work, 0);
-    initial::lay_text(text, 0);
-    read_body::read_events(o, stream, state::start(h.at, 99, 3, 6), events, text, work)
+    clear_heads(work);
+    mem_initial::lay_rows(work, 0);
+    mem_initial::lay_text(text, 0);
+    read_body::read_events(o, stream, initial_state(h.at), events, text, work)
+}
+
+// The tests of what is lent, of the settings' numbers and of the stream's length; then the stream.
+fn read_cleared(
+    s: SettingNumbers,
+    stream: &[u8],
+    events: &mut [u32],
+    text: &mut [u32],
+    work: &mut [u32],
+) -> ReadReply
+    requires { ⌜ Cleared (now events) (now text) ⌝ }
+    ensures { λ r. ⌜ Filled (answerOf s (now (stream .entry))
+        (lent (now (events .entry)) (now (text .entry)) (now (work .entry))))
+        (now (events .entry)) (now (text .entry)) (now (events .exit)) (now (text .exit)) r ⌝ }
+{
+    if (events.len() < EVENT_CELLS) | (text.len() < MAX_STORE) | (work.len() < READER_WORK) {
+        return read_body::refused(ROOM, 0);
+    }
+    if !settings::are_meaningful(s) {
+        return read_body::refused(SETTINGS, 0);
+    }
+    if MAX_STREAM < stream.len() {
+        return read_body::refused(LONG, 0);
+    }
+    read_stream(settings::settings_of(s), stream, events, text, work)
 }
 
 // Reads the stream: the cells of its events and its text store, and zeros behind them; after a
-// refusal zeros alone. Work memory is left zero. All that is lent is cleared first; then come the
-// tests of its lengths, of the settings' numbers and of the stream's length.
+// refusal zeros alone. Work memory is left zero.
 pub fn read(
     s: SettingNumbers,
     stream: &[u8],
@@ -64,15 +105,7 @@ pub fn read(
 {
     clear::cells(events);
     clear::cells(text);
+    let reply = read_cleared(s, stream, events, text, work);
     clear::cells(work);
-    if (events.len() < EVENT_CELLS) | (text.len() < MAX_STORE) | (work.len() < READER_WORK) {
-        return read_body::refused(ROOM, 0);
-    }
-    if !settings::are_meaningful(s) {
-        return read_body::refused(SETTINGS, 0);
-    }
-    if MAX_STREAM < stream.len() {
-        return read_body::refused(LONG, 0);
-    }
-    read_stream(settings::settings_of(s), stream, events, text, work)
+    reply
 }

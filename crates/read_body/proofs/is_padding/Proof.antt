@@ -17,14 +17,21 @@ sub-left : tie.Need-sub-left
 sub-left c = search needs
 
 returns : tie.Need-returns
-returns c = too-much (now (c .before .before .args .stream)) (c .before .before .args .at) (c .if1 .taken)
+returns c =
+    let start = c .before .before in
+    too-much (now (start .args .stream)) (start .args .at) (c .if1 .taken)
 
 cast-number : tie.Need-cast-number
 cast-number c = search needs
 
 number-requires : tie.Need-number-requires
 unfolding maxStream
-number-requires c κs = record { there = record { size = omega (arith, c .before .before .pre .size); place = c .before .before .pre .place }; small = omega arith }
+number-requires c κs =
+    let start = c .before .before in
+    record {
+      there = record { size = omega (arith, start .pre .size); place = start .pre .place };
+      small = omega arith;
+    }
 
 enum-known-k : tie.Need-enum-known-k
 enum-known-k c = search needs
@@ -34,11 +41,23 @@ enum-known-value c = search needs
 
 returns-2 : tie.Need-returns-2
 unfolding alignmentOf
-returns-2 c = padding-refused (now (c .before .before .before .before .before .before .args .stream)) (c .before .before .before .before .before .before .args .at) (c .before .before .before .before .if1 .left) refl (sym (c .before .before .before .number .ensures) ∙ c .before .k .given .1)
+returns-2 c =
+    let k = c .before in
+    let number = k .before .before in
+    let if1 = number .before in
+    let start = if1 .before .before in
+    padding-refused (now (start .args .stream)) (start .args .at) (if1 .if1 .left) refl (sym (number
+    .number .ensures) ∙ k .k .given .1)
 
 returns-3 : tie.Need-returns-3
 unfolding alignmentOf
-returns-3 c = padding-value (now (c .before .before .before .before .before .before .args .stream)) (c .before .before .before .before .before .before .args .at) (c .before .before .before .before .if1 .left) refl (sym (c .before .before .before .number .ensures) ∙ c .before .value .given .1)
+returns-3 c =
+    let value = c .before in
+    let number = value .before .before in
+    let if1 = number .before in
+    let start = if1 .before .before in
+    padding-value (now (start .args .stream)) (start .args .at) (if1 .if1 .left) refl (sym (number
+    .number .ensures) ∙ value .value .given .1)
 
 pub is-padding-spec : {M : Type 1} → statement M
 is-padding-spec =

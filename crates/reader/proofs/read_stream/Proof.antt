@@ -1,10 +1,11 @@
 -- `read_stream` meets its contract.
-use mathlib.Core.Path.{refl}
-use native.Mathlib.Omega.{arith}
-use borrow.Author.Needs.{needs}
+use mathlib.Core.Path.{refl, _∙_}
 use Rattle.settings.specs.Meant.{settingsFrom}
-use Rattle.reader.proofs.Stream.{header-refused, header-inside, header-passed, answered-as}
-use Rattle.reader.proofs.Start.{rows-fit, text-fits, events-ask, context-starts, position}
+use Rattle.mem_initial.specs.Initial.{startRows}
+use Rattle.reader.proofs.Stream.{header-refused, header-inside, header-passed, filled-as}
+use Rattle.reader.proofs.Start.{heads-ask, rows-ask, text-asks, events-ask, body-ready}
+use Rattle.reader.proofs.Start.{body-answer}
+use borrow.Author.Needs.{needs}
 use Rattle.reader.proofs.read_stream.Statement.{statement}
 use Rattle.reader.proofs.read_stream.Tie as tie
 
@@ -15,25 +16,51 @@ refused-requires : tie.Need-refused-requires
 refused-requires c κs = search needs
 
 returns : tie.Need-returns
-returns c = let h = c .before .before .before in
-    let a = h .before .before .before .before .before in
-    header-refused (settingsFrom (a .args .o)) (h .read-header .ensures) (a .pre) (c .before .if1 .taken) (c .refused .ensures)
+returns c =
+    let if1 = c .before in
+    let read-header = if1 .before .before in
+    let start = read-header .before .before .before .before .before in
+    header-refused (settingsFrom (start .args .o)) (read-header .read-header .ensures) ((start .pre)
+    .cleared) (if1 .if1 .taken) (c .refused .ensures)
+
+clear-heads-requires : tie.Need-clear-heads-requires
+clear-heads-requires c κs =
+    let start = c .before .before .before .before .before .before .before .before in
+    heads-ask (start .pre)
 
 lay-rows-requires : tie.Need-lay-rows-requires
-lay-rows-requires c κs = (rows-fit (c .before .before .before .before .before .before .before .before .pre), omega arith)
+lay-rows-requires c κs =
+    let work = c .before .before in
+    let start = work .before .before .before .before .before .before .before .before .before .before
+    in
+    rows-ask (start .pre) (work .work .given)
 
 lay-text-requires : tie.Need-lay-text-requires
-lay-text-requires c κs = text-fits (c .before .before .before .before .before .before .before .before .before .before .before .before .pre)
+lay-text-requires c κs =
+    let start = c .before .before .before .before .before .before .before .before .before .before
+    .before .before .before .before .before .before in
+    text-asks (start .pre)
 
-start-requires : tie.Need-start-requires
-start-requires c κs = search needs
+initial-state-requires : tie.Need-initial-state-requires
+initial-state-requires c κs = search needs
 
 read-events-requires : tie.Need-read-events-requires
-read-events-requires c κs = let r = c .before .before .before .before .before .before .before .before .before .before in
-    let h = r .before .before .before .before in
-    let a = h .before .before .before .before .before in
-    events-ask (a .pre) (h .read-header .result .at) (r .lay-rows .ensures) (c .before .before .before .before .before .before .lay-text .ensures) (c .before .before .before .start .ensures)
-    (header-inside (settingsFrom (a .args .o)) (h .read-header .ensures) (r .before .before .if1 .left))
+read-events-requires c κs =
+    let initial-state = c .before .before .before in
+    let text = initial-state .before .before in
+    let lay-text = text .before in
+    let work2 = lay-text .before .before .before in
+    let lay-rows = work2 .before in
+    let work = lay-rows .before .before .before in
+    let clear-heads = work .before in
+    let if1 = clear-heads .before .before in
+    let read-header = if1 .before .before in
+    let start = read-header .before .before .before .before .before in
+    events-ask (start .pre) (read-header .read-header .result .at) (clear-heads .clear-heads
+    .ensures) (lay-rows .lay-rows .ensures) (lay-text .lay-text .ensures) (initial-state
+    .initial-state .ensures) (work .work .given) (work2 .work2 .given) (text .text .given)
+    (header-inside (settingsFrom (start .args .o)) (read-header .read-header .ensures) (if1 .if1
+    .left))
 
 same-length : tie.Need-same-length
 same-length c = search needs
@@ -45,18 +72,27 @@ same-length-3 : tie.Need-same-length-3
 same-length-3 c = search needs
 
 returns-2 : tie.Need-returns-2
-returns-2 c = let e = c .before .before .before .before .before .before in
-    let t = e .before .before .before .before .before .before .before in
-    let r = t .before .before .before .before in
-    let h = r .before .before .before .before in
-    let a = h .before .before .before .before .before in
-    let b = e .before .before .before .before in
-    let p = h .read-header .result .at in
-    answered-as _
-    (header-passed (settingsFrom (a .args .o)) (h .read-header .ensures) (r .before .before .if1 .left) _ _ _
-    (position (a .pre) p (r .lay-rows .ensures) (t .lay-text .ensures) (b .start .ensures))
-    (context-starts (a .pre) p (r .lay-rows .ensures) (t .lay-text .ensures) (b .start .ensures) (settingsFrom (a .args .o))))
-    refl (e .before .before .before .before .before .before .text .given) (t .before .before .before .work .given) (e .read-events .ensures)
+returns-2 c =
+    let read-events = c .before .before .before .before .before .before in
+    let initial-state = read-events .before .before .before .before in
+    let text = initial-state .before .before in
+    let lay-text = text .before in
+    let work2 = lay-text .before .before .before in
+    let lay-rows = work2 .before in
+    let work = lay-rows .before .before .before in
+    let clear-heads = work .before in
+    let if1 = clear-heads .before .before in
+    let read-header = if1 .before .before in
+    let start = read-header .before .before .before .before .before in
+    filled-as (body-answer (start .pre) (read-header .read-header .result .at) (clear-heads
+    .clear-heads .ensures) (lay-rows .lay-rows .ensures) (lay-text .lay-text .ensures)
+    (initial-state .initial-state .ensures) (work .work .given) (work2 .work2 .given) (text .text
+    .given) (settingsFrom (start .args .o)) ∙ header-passed (settingsFrom (start .args .o))
+    (read-header .read-header .ensures) (if1 .if1 .left)) refl (text .text .given) (read-events
+    .read-events .ensures .meant startRows (body-ready (start .pre) (read-header .read-header
+    .result .at) (clear-heads .clear-heads .ensures) (lay-rows .lay-rows .ensures) (lay-text
+    .lay-text .ensures) (initial-state .initial-state .ensures) (work .work .given) (work2 .work2
+    .given) (text .text .given)))
 
 pub read-stream-spec : {M : Type 1} → statement M
 read-stream-spec =
@@ -65,9 +101,10 @@ read-stream-spec =
     read-header-requires
     refused-requires
     returns
+    clear-heads-requires
     lay-rows-requires
     lay-text-requires
-    start-requires
+    initial-state-requires
     read-events-requires
     same-length
     same-length-2

@@ -1,0 +1,93 @@
+-- The productions of each state that are not learned, level by level of their event codes (EXI
+-- 8.4.1, 8.4.3; scope, "Grammars": the table of codes).
+--
+-- States: 0 document, 1 document content, 2 document end, 3 finished, 4 start tag, 5 element
+-- content. Levels: 0 the first part of a code, 1 the second, 2 the third.
+use Prim.Native.Nat.{ℕ, suc, _+_, _≤_, _<_}
+use mathlib.Core.Path.{_≡_}
+use mathlib.Core.Bool.{Bool, true, false, cond}
+use mathlib.Core.List.{List, [], _∷_, _++_, map}
+use lib.ListN.{length, getD, drop}
+use Rattle.spec_exi.specs.Event.{Kind, SD, ED, SE, AT, EE, CH, CM, PI}
+use Rattle.spec_exi.specs.Grammar.{Production, unnamed, kindNumber, Code, atLevel, below}
+
+-- ---- the table
+
+-- Comments and instructions, as kept.
+unfoldable pub keptKinds : Bool → Bool → List Kind
+keptKinds comments instructions = cond comments (CM ∷ []) [] ++ cond instructions (PI ∷ []) []
+
+-- By the state's number. In an element the learned productions stand before the first level's.
+unfoldable pub tables : Bool → Bool → List (List (List Kind))
+tables comments instructions =
+    let kept = keptKinds comments instructions in
+    ((SD ∷ []) ∷ [])
+    ∷ ((SE ∷ []) ∷ kept ∷ [])
+    ∷ ((ED ∷ []) ∷ kept ∷ [])
+    ∷ []
+    ∷ ([] ∷ (EE ∷ AT ∷ SE ∷ CH ∷ []) ∷ kept ∷ [])
+    ∷ ((EE ∷ []) ∷ (SE ∷ CH ∷ []) ∷ kept ∷ [])
+    ∷ []
+
+unfoldable pub tableOf : Bool → Bool → ℕ → List (List Kind)
+tableOf comments instructions mode = getD (tables comments instructions) mode []
+
+unfoldable pub levelAt : Bool → Bool → ℕ → ℕ → List Kind
+levelAt comments instructions mode level = getD (tableOf comments instructions mode) level []
+
+-- No level has a production.
+unfoldable pub noKinds : List (List Kind) → Bool
+noKinds [] = true
+noKinds ([] ∷ ls) = noKinds ls
+noKinds ((k ∷ ks) ∷ ls) = false
+
+-- How many values a part has at a level, before which no production is learned: one leads to the
+-- next level, where one has productions.
+abbrev pub valuesOf : List Kind → List (List Kind) → ℕ
+valuesOf l ls = length l + cond (noKinds ls) 0 1
+
+abbrev pub valuesAt : Bool → Bool → ℕ → ℕ → ℕ
+valuesAt comments instructions mode level =
+    valuesOf (levelAt comments instructions mode level)
+    (drop (suc level) (tableOf comments instructions mode))
+
+-- ---- in the definitions
+
+unfoldable pub leveled : List (List Kind) → List (List Production)
+leveled ls = map (map unnamed) ls
+
+-- With the learned productions of the state before the first level's.
+unfoldable pub withLearned : List Production → List (List Kind) → List (List Production)
+withLearned ps [] = []
+withLearned ps (l ∷ ls) = (ps ++ map unnamed l) ∷ leveled ls
+
+-- The table has this code: of a production of its first level, or of one below it.
+pub data Reaches : List (List Kind) → Code → Type 0 where
+  at-level : {l : List Kind} {ls : List (List Kind)} (v : ℕ) → v < length l
+      → Reaches (l ∷ ls) (atLevel v (unnamed (getD l v SD)))
+  in-next : {l : List Kind} {ls : List (List Kind)} {x : Code} → Reaches ls x
+      → Reaches (l ∷ ls) (below (length l) x)
+
+unfoldable pub raisedBy : ℕ → List ℕ → List ℕ
+raisedBy n [] = []
+raisedBy n (v ∷ vs) = (n + v) ∷ vs
+
+-- The code where n learned productions stand first.
+unfoldable pub afterLearned : ℕ → Code → Code
+afterLearned n x = record { parts = raisedBy n (x .parts); production = x .production }
+
+-- ---- what the functions answer
+
+pub record CountAt (comments instructions : Bool) (mode level r : ℕ) : Type 0 where
+  pub is : r ≡ length (levelAt comments instructions mode level)
+  pub few : r ≤ 4
+
+-- The document starts and ends outside of every element, which ends, and has characters, inside.
+pub record Stands (mode kind : ℕ) : Type 0 where
+  pub known : kind < 8
+  pub outside : kind ≤ 1 → mode < 4
+  pub inside : 4 ≤ kind → kind ≤ 5 → 4 ≤ mode
+
+pub record KindAt (comments instructions : Bool) (mode level v r : ℕ) : Type 0 where
+  pub is : r ≡ kindNumber (getD (levelAt comments instructions mode level) v SD)
+  pub stands : v < length (levelAt comments instructions mode level) → Stands mode r

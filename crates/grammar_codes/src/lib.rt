@@ -1,0 +1,105 @@
+// The productions of each state that are not learned (EXI 8.4.1, 8.4.3), level by level of their
+// event codes: one table for reader and writer. States and kinds are numbers; comments and
+// instructions stand where they are kept. The table is in specs/Table.antt.
+ghost use mathlib.Core.Path.{_≡_};
+ghost use mathlib.Core.List.{[], _∷_};
+ghost use Prim.Native.Nat.{_<_};
+ghost use lib.ListN.{length, getD};
+ghost use Rattle.spec_exi.specs.Event.{SD};
+ghost use Rattle.spec_exi.specs.Grammar.{kindNumber};
+ghost use Rattle.grammar_codes.specs.Table.{keptKinds, CountAt, KindAt, valuesAt};
+use event_code::AT;
+use event_code::CH;
+use event_code::CM;
+use event_code::ED;
+use event_code::EE;
+use event_code::PI;
+use event_code::SD;
+use event_code::SE;
+
+// The one of four with this number, or 0.
+fn nth(i: u32, a: u32, b: u32, c: u32, d: u32) -> u32
+    ensures { λ r. ⌜ r ≡ getD (a ∷ b ∷ c ∷ d ∷ []) i 0 ⌝ }
+{
+    match i {
+        0 => a,
+        1 => b,
+        2 => c,
+        3 => d,
+        _ => 0,
+    }
+}
+
+fn kept_count(comments: bool, instructions: bool) -> u32
+    ensures { λ r. ⌜ r ≡ length (keptKinds comments instructions) ⌝ }
+{
+    if comments {
+        if instructions {
+            return 2;
+        }
+        return 1;
+    }
+    if instructions {
+        return 1;
+    }
+    0
+}
+
+fn kept_at(v: u32, comments: bool, instructions: bool) -> u32
+    ensures { λ r. ⌜ r ≡ kindNumber (getD (keptKinds comments instructions) v SD) ⌝ }
+{
+    if comments {
+        if instructions {
+            return nth(v, CM, PI, 0, 0);
+        }
+        return nth(v, CM, 0, 0, 0);
+    }
+    if instructions {
+        return nth(v, PI, 0, 0, 0);
+    }
+    0
+}
+
+// How many productions a level has.
+pub fn count_at(mode: u32, level: u32, comments: bool, instructions: bool) -> u32
+    ensures { λ r. ⌜ CountAt comments instructions mode level r ⌝ }
+{
+    let kept = kept_count(comments, instructions);
+    match mode {
+        0 => nth(level, 1, 0, 0, 0),
+        1 => nth(level, 1, kept, 0, 0),
+        2 => nth(level, 1, kept, 0, 0),
+        4 => nth(level, 0, 4, kept, 0),
+        5 => nth(level, 1, 2, kept, 0),
+        _ => 0,
+    }
+}
+
+// The kind of the production with number v in a level; 0 where the level has none.
+pub fn kind_at(mode: u32, level: u32, v: u32, comments: bool, instructions: bool) -> u32
+    ensures { λ r. ⌜ KindAt comments instructions mode level v r ⌝ }
+{
+    let kept = kept_at(v, comments, instructions);
+    match mode {
+        1 => nth(level, nth(v, SE, 0, 0, 0), kept, 0, 0),
+        2 => nth(level, nth(v, ED, 0, 0, 0), kept, 0, 0),
+        4 => nth(level, 0, nth(v, EE, AT, SE, CH), kept, 0),
+        5 => nth(level, nth(v, EE, 0, 0, 0), nth(v, SE, CH, 0, 0), kept, 0),
+        _ => SD,
+    }
+}
+
+// How many values a part has at a level, the learned productions not counted: one leads to the
+// next level, where one has productions.
+pub fn values_at(mode: u32, level: u32, comments: bool, instructions: bool) -> u32
+    requires { ⌜ level < 3 ⌝ }
+    ensures { λ r. ⌜ r ≡ valuesAt comments instructions mode level ⌝ }
+{
+    let here = count_at(mode, level, comments, instructions);
+    let next = count_at(mode, level + 1, comments, instructions);
+    let last = count_at(mode, level + 2, comments, instructions);
+    if next + last == 0 {
+        return here;
+    }
+    here + 1
+}

@@ -1,0 +1,5 @@
+mod Steps
+mod Turn
+mod Texts
+pub mod Joins
+pub mod Initial

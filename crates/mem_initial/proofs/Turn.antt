@@ -1,0 +1,53 @@
+-- The turns of `lay_text`: the first i code points are written.
+use Prim.Native.Nat.{ℕ, _+_, _≤_, _<_}
+use native.Mathlib.Numerals.{add-one}
+use native.Mathlib.Omega.{arith}
+use mathlib.Core.Path.{_≡_, refl, _∙_}
+use mathlib.Core.List.{List}
+use lib.ListN.{length, getD, take, set, length-set}
+use lib.Seq.{take-all, paste, paste-zero, paste-suc}
+use Rattle.text.specs.Text.{text}
+use Rattle.spec_exi.specs.Tables.{xmlUri, xsiUri}
+use Rattle.mem_initial.specs.Initial.{initialUris, initialNames, together, urisText}
+use Rattle.mem_initial.specs.Initial.{namesText, initialText, withText}
+
+pub text-length : length initialText ≡ 99
+unfolding initialText urisText namesText together initialUris initialNames xmlUri xsiUri text
+text-length = refl
+
+pub record Copied (old : List ℕ) (origin : ℕ) (cells : List ℕ) (i : ℕ) : Type 0 where
+  pub few : i ≤ 99
+  pub fits : origin + 99 ≤ length old
+  pub same : length cells ≡ length old
+  pub written : cells ≡ paste old origin initialText i
+
+module _ (old : List ℕ) (origin : ℕ) where
+  pub none-copied : origin + 99 ≤ length old → Copied old origin old 0
+  none-copied h =
+      record {
+        few = omega arith;
+        fits = h;
+        same = refl;
+        written = paste-zero old origin initialText;
+      }
+
+  module _ {cells : List ℕ} {i : ℕ} (c : Copied old origin cells i) where
+    pub one-copied : {x : ℕ} → i < 99 → x ≡ getD initialText i 0
+        → Copied old origin (set cells (origin + i) x) (i + 1)
+    one-copied h e =
+        let l : length initialText ≡ 99 = text-length in
+        record {
+          few = omega arith;
+          fits = c .fits;
+          same = simp length-set (c .same);
+          written = rw (e, c .written, add-one)
+              (paste-suc old origin initialText i 0 (omega arith) (omega arith));
+        }
+
+    pub all-copied : 99 ≤ i → cells ≡ withText old origin
+    unfolding withText
+    all-copied h =
+        let l : length initialText ≡ 99 = text-length in
+        let e : i ≡ 99 = omega arith in
+        let t : take 99 initialText ≡ initialText = take-all 99 initialText (omega arith) in
+        c .written ∙ rw (e, t)

@@ -1,0 +1,106 @@
+// Lays the initial entries (EXI, appendix D.1 and D.3) into lent memory: the beginning of the text
+// store, and the rows of the three URIs and the six local names. What the contracts cite is in
+// specs/.
+ghost use mathlib.Core.Path.{_≡_};
+ghost use Prim.Native.Nat.{_+_, _≤_};
+ghost use lib.ListN.{length};
+ghost use Rattle.mem_initial.specs.Initial.{withText, urisLaid, namesLaid, withRows};
+ghost use Rattle.mem_initial.specs.Initial.{startAt, Layable};
+use mem_state::Core;
+
+// code points of the initial entries
+pub const INITIAL_TEXT: usize = 99;
+
+pub const INITIAL_URIS: u32 = 3;
+
+pub const INITIAL_NAMES: u32 = 6;
+
+// The texts of the initial entries, one behind the other.
+const TEXT: [u8; INITIAL_TEXT] = *b"http://www.w3.org/XML/1998/namespace\
+      http://www.w3.org/2001/XMLSchema-instance\
+      baseidlangspaceniltype";
+
+// The rows of the two URIs that have names.
+const XML: u32 = 1;
+
+const XSI: u32 = 2;
+
+// The hashes of the local names (`mem_entries::hash`).
+const BASE: u32 = 3997284845;
+
+const ID: u32 = 1761650095;
+
+const LANG: u32 = 1581560574;
+
+const SPACE: u32 = 1388299130;
+
+const NIL: u32 = 3188801237;
+
+const TYPE: u32 = 3887450706;
+
+fn wide(x: u8) -> u32
+    ensures { λ r. ⌜ r ≡ x ⌝ }
+{
+    x as u32
+}
+
+// Writes the texts at the origin.
+pub fn lay_text(cells: &mut [u32], origin: usize)
+    requires { ⌜ origin + 99 ≤ length (now cells) ⌝ }
+    ensures { λ _. ⌜ now (cells .exit) ≡ withText (now (cells .entry)) origin ⌝ }
+{
+    let text = TEXT;
+    let mut i: usize = 0;
+    while i < INITIAL_TEXT {
+        cells[origin + i] = wide(text[i]);
+        i += 1;
+    }
+}
+
+fn lay_uris(work: &mut [u32], origin: u32)
+    requires { ⌜ Layable (now work) origin ⌝ }
+    ensures { λ _. ⌜ now (work .exit) ≡ urisLaid (now (work .entry)) origin ⌝ }
+{
+    mem_names::add_uri(work, 0, origin, 0, 0);
+    mem_names::add_uri(work, XML, origin, 36, XML);
+    mem_names::add_uri(work, XSI, origin + 36, 41, XSI);
+}
+
+fn lay_names(work: &mut [u32], origin: u32)
+    requires { ⌜ Layable (now work) origin ⌝ }
+    ensures { λ _. ⌜ now (work .exit) ≡ namesLaid (now (work .entry)) origin ⌝ }
+{
+    mem_names::add_name(work, 0, XML, origin + 77, 4, BASE);
+    mem_names::add_name(work, 1, XML, origin + 81, 2, ID);
+    mem_names::add_name(work, 2, XML, origin + 83, 4, LANG);
+    mem_names::add_name(work, 3, XML, origin + 87, 5, SPACE);
+    mem_names::add_name(work, 4, XSI, origin + 92, 3, NIL);
+    mem_names::add_name(work, 5, XSI, origin + 95, 4, TYPE);
+}
+
+// Adds the rows of the initial entries, whose texts are laid at the origin.
+pub fn lay_rows(work: &mut [u32], origin: u32)
+    requires { ⌜ Layable (now work) origin ⌝ }
+    ensures { λ _. ⌜ now (work .exit) ≡ withRows (now (work .entry)) origin ⌝ }
+{
+    lay_uris(work, origin);
+    lay_names(work, origin);
+}
+
+// The numbers that go with them, before the first event.
+pub fn start(at: usize) -> Core
+    ensures { λ r. ⌜ r ≡ startAt at ⌝ }
+{
+    Core {
+        at,
+        stored: INITIAL_TEXT,
+        uris: INITIAL_URIS,
+        names: INITIAL_NAMES,
+        values: 0,
+        learned: 0,
+        grammars: 0,
+        mode: 0,
+        top: 0,
+        depth: 0,
+    }
+}

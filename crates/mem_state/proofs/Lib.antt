@@ -1,0 +1,6 @@
+pub mod Frames
+pub mod Joins
+pub mod Commit
+pub mod Strung
+pub mod Taught
+pub mod Grows

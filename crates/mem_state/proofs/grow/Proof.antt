@@ -1,0 +1,27 @@
+use Rattle.mem_state.proofs.Commit.{grow-steps, learn-asks}
+use borrow.Author.Needs.{needs}
+use Rattle.mem_state.proofs.grow.Statement.{statement}
+use Rattle.mem_state.proofs.grow.Tie as tie
+use Rattle.mem_state.proofs.grow.Reads as reads
+use Rattle.mem_state.proofs.grow.Lts as lts
+use Rattle.mem_state.proofs.enter.Reads as enter-reads
+use Rattle.mem_state.proofs.learn.Reads as learn-reads
+
+-- src/lib.rt:140:5
+enter-requires : tie.Need-enter-requires
+enter-requires c κs = record { room = c .before .before .pre .room; low = c .before .before .pre .name }
+
+-- src/lib.rt:141:5
+learn-requires : tie.Need-learn-requires
+learn-requires c κs = learn-asks (c .before .before .before .before .before .before .pre) (c .before .before .before .enter .ensures)
+
+-- src/lib.rt:136:1
+same-length : tie.Need-same-length
+same-length c = search needs
+
+-- src/lib.rt:136:1
+returns : tie.Need-returns
+returns c = grow-steps (c .before .before .before .before .before .before .before .before .before .pre) (c .before .before .before .before .before .before .enter .ensures) (c .before .before .learn .ensures)
+
+pub grow-spec : {M : Type 1} → statement M
+grow-spec = tie.close (tie.spec enter-requires learn-requires same-length returns)

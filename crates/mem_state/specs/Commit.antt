@@ -1,0 +1,145 @@
+-- What an accepted event adds to memory and to the numbers, over cells and for every memory; what it
+-- means is a law (proofs/Commit.antt).
+use Prim.Native.Nat.{ℕ, _+_, _-_, _≤_, _<_}
+use mathlib.Core.Path.{_≡_}
+use mathlib.Core.Bool.{Bool, true, cond}
+use mathlib.Core.List.{List}
+use lib.ListN.{length}
+use lib.Dec.{eqb}
+use Rattle.spec_exi.specs.Event.{SE, EE}
+use Rattle.spec_exi.specs.Grammar.{kindNumber}
+use Rattle.mem_layout.specs.Layout.{uriRows, nameRows, valueRing, learnedRows, sites, workCells}
+use Rattle.mem_names.specs.Uris.{withUri}
+use Rattle.mem_names.specs.Names.{withName}
+use Rattle.mem_values.specs.Values.{withValue}
+use Rattle.mem_learned.specs.Learned.{withLearned}
+use Rattle.mem_learned.specs.Grammars.{withGrammarOf}
+use Rattle.mem_rows.specs.Rows.{modeAfter}
+use Rattle.mem_state.specs.declared.Core.{Core}
+use Rattle.mem_state.specs.declared.Joining.{Joining}
+use Rattle.mem_state.specs.declared.Strings.{Strings}
+use Rattle.mem_state.specs.declared.Growth.{Growth}
+
+-- ---- rows
+
+unfoldable pub joinedUri : ℕ → Joining → List ℕ → List ℕ
+joinedUri n x work = cond (x .joins) (withUri work n (x .place) (x .size) n) work
+
+unfoldable pub joinedName : ℕ → ℕ → Joining → List ℕ → List ℕ
+joinedName n uri x work =
+    cond (x .joins) (withName work n uri (x .place) (x .size) (x .hash)) work
+
+unfoldable pub joinedValue : ℕ → ℕ → Joining → List ℕ → List ℕ
+joinedValue n owner x work =
+    cond (x .joins) (withValue work n owner (x .place) (x .size) (x .hash)) work
+
+unfoldable pub joinedStrings : Core → Strings → List ℕ → List ℕ
+joinedStrings c s work =
+    joinedValue (c .values) (s .owner) (s .value)
+    (joinedName (c .names) (s .«uri_row») (s .name) (joinedUri (c .uris) (s .uri) work))
+
+unfoldable pub entered : Bool → ℕ → List ℕ → List ℕ
+entered enters name work = cond enters (withGrammarOf work name) work
+
+unfoldable pub learnt : ℕ → Growth → List ℕ → List ℕ
+learnt n g work =
+    cond (g .teaches) (withLearned work n (g .site) (g .kind) (g .name) (g .uri) (g .name)) work
+
+unfoldable pub grown : Core → Growth → List ℕ → List ℕ
+grown c g work = learnt (c .learned) g (entered (g .enters) (g .name) work)
+
+-- ---- numbers
+
+unfoldable pub counted : Core → Strings → Growth → Core
+counted c s g =
+    record {
+      at = c .at;
+      stored = c .stored;
+      uris = c .uris + cond (s .uri .joins) 1 0;
+      names = c .names + cond (s .name .joins) 1 0;
+      values = c .values + cond (s .value .joins) 1 0;
+      learned = c .learned + cond (g .teaches) 1 0;
+      grammars = c .grammars + cond (g .enters) 1 0;
+      mode = c .mode;
+      top = c .top;
+      depth = c .depth;
+    }
+
+unfoldable pub topAfter : ℕ → ℕ → ℕ → ℕ
+topAfter kind name top = cond (eqb kind (kindNumber SE)) name top
+
+unfoldable pub depthAfter : ℕ → ℕ → ℕ
+depthAfter kind depth =
+    cond (eqb kind (kindNumber SE)) (depth + 1) (cond (eqb kind (kindNumber EE)) (depth - 1) depth)
+
+unfoldable pub turned : Core → ℕ → ℕ → Core
+turned c kind name =
+    record {
+      at = c .at;
+      stored = c .stored;
+      uris = c .uris;
+      names = c .names;
+      values = c .values;
+      learned = c .learned;
+      grammars = c .grammars;
+      mode = modeAfter kind (c .mode) (c .depth);
+      top = topAfter kind name (c .top);
+      depth = depthAfter kind (c .depth);
+    }
+
+-- ---- what the functions ask: bounds alone
+
+pub record UriPre (work : List ℕ) (n : ℕ) (x : Joining) : Type 0 where
+  pub room : workCells ≤ length work
+  pub few : x .joins ≡ true → n < uriRows
+
+pub record NamePre (work : List ℕ) (n uri : ℕ) (x : Joining) : Type 0 where
+  pub room : workCells ≤ length work
+  pub few : x .joins ≡ true → n < nameRows
+  pub low : uri < uriRows
+
+pub record ValuePre (work : List ℕ) (n owner : ℕ) (x : Joining) : Type 0 where
+  pub room : workCells ≤ length work
+  pub few : x .joins ≡ true → n < valueRing
+  pub low : owner < nameRows
+
+pub record StringsPre (work : List ℕ) (c : Core) (s : Strings) : Type 0 where
+  pub room : workCells ≤ length work
+  pub uris : s .uri .joins ≡ true → c .uris < uriRows
+  pub names : s .name .joins ≡ true → c .names < nameRows
+  pub values : s .value .joins ≡ true → c .values < valueRing
+  pub uri : s .«uri_row» < uriRows
+  pub owner : s .owner < nameRows
+
+pub record EnterPre (work : List ℕ) (name : ℕ) : Type 0 where
+  pub room : workCells ≤ length work
+  pub low : name < nameRows
+
+pub record LearnPre (work : List ℕ) (n : ℕ) (g : Growth) : Type 0 where
+  pub room : workCells ≤ length work
+  pub few : g .teaches ≡ true → n < learnedRows
+  pub site : g .site < sites
+  pub kind : g .kind < 8
+  pub name : g .name < nameRows
+
+pub record GrowPre (work : List ℕ) (c : Core) (g : Growth) : Type 0 where
+  pub room : workCells ≤ length work
+  pub few : g .teaches ≡ true → c .learned < learnedRows
+  pub site : g .site < sites
+  pub kind : g .kind < 8
+  pub name : g .name < nameRows
+
+pub record One (b : Bool) (r : ℕ) : Type 0 where
+  pub is : r ≡ cond b 1 0
+  pub most : r ≤ 1
+
+pub record CountPre (c : Core) : Type 0 where
+  pub uris : c .uris ≤ 65536
+  pub names : c .names ≤ 65536
+  pub values : c .values ≤ 65536
+  pub learned : c .learned ≤ 65536
+  pub grammars : c .grammars ≤ 65536
+
+pub record TurnPre (c : Core) (kind : ℕ) : Type 0 where
+  pub few : c .depth ≤ 65536
+  pub some : kind ≡ kindNumber EE → 0 < c .depth

@@ -1,0 +1,4 @@
+pub mod Holds
+pub mod Commit
+pub mod Strung
+pub mod Grows

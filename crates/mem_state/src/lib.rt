@@ -1,0 +1,213 @@
+// What goes from event to event beside lent memory, and the one place where an accepted event's
+// rows are added to it. What memory holds is in specs/Holds.antt, what is added in
+// specs/Commit.antt.
+ghost use mathlib.Core.Path.{_≡_};
+ghost use Prim.Native.Nat.{_<_};
+ghost use Rattle.mem_rows.specs.Rows.{modeAfter};
+ghost use Rattle.mem_state.specs.Commit.{joinedUri, joinedName, joinedValue, joinedStrings};
+ghost use Rattle.mem_state.specs.Commit.{entered, learnt, grown, counted, turned};
+ghost use Rattle.mem_state.specs.Commit.{UriPre, NamePre, ValuePre, StringsPre, EnterPre};
+ghost use Rattle.mem_state.specs.Commit.{LearnPre, GrowPre, CountPre, TurnPre, One};
+use event_code::AT;
+use event_code::ED;
+use event_code::EE;
+use event_code::SD;
+use event_code::SE;
+
+// The grammar's states by their numbers (specs of mem_rows have the same names).
+pub const IN_DOC_CONTENT: u32 = 1;
+
+pub const IN_DOC_END: u32 = 2;
+
+pub const IS_OVER: u32 = 3;
+
+pub const IN_TAG: u32 = 4;
+
+pub const IN_ELEMENT: u32 = 5;
+
+// The position in the stream; the code points in the store; the rows of each table; the grammar's
+// state, by its number; the row of the innermost open element's name, or 0; and how many are open.
+pub struct Core {
+    pub at: usize,
+    pub stored: usize,
+    pub uris: u32,
+    pub names: u32,
+    pub values: u32,
+    pub learned: u32,
+    pub grammars: u32,
+    pub mode: u32,
+    pub top: u32,
+    pub depth: usize,
+}
+
+// Whether a string joins its table; where it lies, and the hash of its text.
+pub struct Joining {
+    pub joins: bool,
+    pub place: u32,
+    pub size: u32,
+    pub hash: u32,
+}
+
+// The strings of an event; the rows of its URI and its name, and that of the name whose value it has.
+pub struct Strings {
+    pub uri: Joining,
+    pub name: Joining,
+    pub value: Joining,
+    pub uri_row: u32,
+    pub name_row: u32,
+    pub owner: u32,
+}
+
+// What an event leaves in the grammars: whether its name gets an element grammar, and whether a
+// production of its kind and name is learned at a site.
+pub struct Growth {
+    pub enters: bool,
+    pub teaches: bool,
+    pub site: u32,
+    pub kind: u32,
+    pub name: u32,
+    pub uri: u32,
+}
+
+// ---- rows
+
+fn join_uri(work: &mut [u32], n: u32, x: Joining)
+    requires { ⌜ UriPre (now work) n x ⌝ }
+    ensures { λ _. ⌜ now (work .exit) ≡ joinedUri n x (now (work .entry)) ⌝ }
+{
+    if !x.joins {
+        return;
+    }
+    mem_names::add_uri(work, n, x.place, x.size, n);
+}
+
+fn join_name(work: &mut [u32], n: u32, uri: u32, x: Joining)
+    requires { ⌜ NamePre (now work) n uri x ⌝ }
+    ensures { λ _. ⌜ now (work .exit) ≡ joinedName n uri x (now (work .entry)) ⌝ }
+{
+    if !x.joins {
+        return;
+    }
+    mem_names::add_name(work, n, uri, x.place, x.size, x.hash);
+}
+
+fn join_value(work: &mut [u32], n: u32, owner: u32, x: Joining)
+    requires { ⌜ ValuePre (now work) n owner x ⌝ }
+    ensures { λ _. ⌜ now (work .exit) ≡ joinedValue n owner x (now (work .entry)) ⌝ }
+{
+    if !x.joins {
+        return;
+    }
+    mem_values::add(work, n, owner, x.place, x.size, x.hash);
+}
+
+// Adds the strings of an event to their tables.
+pub fn join_strings(work: &mut [u32], c: Core, s: Strings)
+    requires { ⌜ StringsPre (now work) c s ⌝ }
+    ensures { λ _. ⌜ now (work .exit) ≡ joinedStrings c s (now (work .entry)) ⌝ }
+{
+    join_uri(work, c.uris, s.uri);
+    join_name(work, c.names, s.uri_row, s.name);
+    join_value(work, c.values, s.owner, s.value);
+}
+
+fn enter(work: &mut [u32], enters: bool, name: u32)
+    requires { ⌜ EnterPre (now work) name ⌝ }
+    ensures { λ _. ⌜ now (work .exit) ≡ entered enters name (now (work .entry)) ⌝ }
+{
+    if !enters {
+        return;
+    }
+    mem_learned::add_grammar(work, name);
+}
+
+fn learn(work: &mut [u32], n: u32, g: Growth)
+    requires { ⌜ LearnPre (now work) n g ⌝ }
+    ensures { λ _. ⌜ now (work .exit) ≡ learnt n g (now (work .entry)) ⌝ }
+{
+    if !g.teaches {
+        return;
+    }
+    mem_learned::add(work, n, g.site, g.kind, g.name, g.uri, g.name);
+}
+
+// Adds what an event leaves in the grammars.
+pub fn grow(work: &mut [u32], c: Core, g: Growth)
+    requires { ⌜ GrowPre (now work) c g ⌝ }
+    ensures { λ _. ⌜ now (work .exit) ≡ grown c g (now (work .entry)) ⌝ }
+{
+    enter(work, g.enters, g.name);
+    learn(work, c.learned, g);
+}
+
+// ---- numbers
+
+fn one(b: bool) -> u32
+    ensures { λ r. ⌜ One b r ⌝ }
+{
+    if b {
+        return 1;
+    }
+    0
+}
+
+// The counts with what an event adds.
+pub fn count(c: Core, s: Strings, g: Growth) -> Core
+    requires { ⌜ CountPre c ⌝ }
+    ensures { λ r. ⌜ r ≡ counted c s g ⌝ }
+{
+    let mut d = c;
+    let u = s.uri;
+    let n = s.name;
+    let v = s.value;
+    d.uris = c.uris + one(u.joins);
+    d.names = c.names + one(n.joins);
+    d.values = c.values + one(v.joins);
+    d.learned = c.learned + one(g.teaches);
+    d.grammars = c.grammars + one(g.enters);
+    d
+}
+
+// The grammar's state after an event of this kind.
+fn mode_after(kind: u32, mode: u32, depth: usize) -> u32
+    ensures { λ r. ⌜ r ≡ modeAfter kind mode depth ⌝ }
+{
+    match kind {
+        SD => IN_DOC_CONTENT,
+        ED => IS_OVER,
+        SE => IN_TAG,
+        AT => mode,
+        EE => {
+            if depth == 1 {
+                return IN_DOC_END;
+            }
+            IN_ELEMENT
+        }
+        _ => {
+            if mode == IN_TAG {
+                return IN_ELEMENT;
+            }
+            mode
+        }
+    }
+}
+
+// State and open elements after an event of this kind, whose name has this row. After an end tag the
+// top stays the ended element's.
+pub fn turn(c: Core, kind: u32, name: u32) -> Core
+    requires { ⌜ TurnPre c kind ⌝ }
+    ensures { λ r. ⌜ r ≡ turned c kind name ⌝ }
+{
+    let mut d = c;
+    d.mode = mode_after(kind, c.mode, c.depth);
+    if kind == SE {
+        d.top = name;
+        d.depth = c.depth + 1;
+        return d;
+    }
+    if kind == EE {
+        d.depth = c.depth - 1;
+        return d;
+    }
+    d
+}

@@ -1,2 +1,0 @@
-pub mod Assembly
-pub mod Growth

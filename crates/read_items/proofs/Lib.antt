@@ -1,4 +1,0 @@
-pub mod Memory
-pub mod Names
-pub mod Strings
-pub mod Aligned

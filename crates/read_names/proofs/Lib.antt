@@ -1,0 +1,9 @@
+pub mod Bounds
+pub mod Rows
+pub mod Laid
+pub mod Compact
+pub mod Uris
+pub mod NewUris
+pub mod Meaning
+pub mod Names
+pub mod NewNames

@@ -1,0 +1,143 @@
+-- The state's site and what is learned there, by the rows.
+use Prim.Native.Nat.{ℕ, zero, suc, _+_, _*_, _/_, _≤_, _<_}
+use native.Mathlib.Omega.{arith}
+use mathlib.Core.Path.{_≡_, refl, sym, ap, subst, _∙_}
+use mathlib.Core.Bool.{Bool}
+use mathlib.Core.List.{List, [], _∷_, map}
+use mathlib.Core.Option.{some}
+use lib.ListN.{length, getD, length-map}
+use lib.Dec.{eqb, ltb}
+use borrow.Author.Tests.{eqb-true, eqb-false, eq-eqb, ne-eqb, ltb-true, ltb-false}
+use Rattle.spec_fields.proofs.Tests.{split}
+use Rattle.text.specs.Text.{Text}
+use Rattle.spec_exi.specs.Event.{QName}
+use Rattle.spec_exi.specs.Settings.{Settings}
+use Rattle.spec_exi.specs.Grammar.{learnedIn, learnedAt, siteOf}
+use Rattle.spec_exi.specs.Context.{levelsIn}
+use Rattle.event_code.specs.Parts.{modeOf}
+use Rattle.grammar_codes.specs.Table.{tables, tableOf, withLearned}
+use Rattle.grammar_codes.proofs.Codes.{levels-table}
+use Rattle.mem_layout.specs.Layout.{nameRows, sites}
+use Rattle.mem_learned.specs.Learned.{Sited, CountedAt}
+use Rattle.mem_rows.specs.Rows.{Rows, nameAt, siteAt, learnedOf, stateOf, inTag}
+use Rattle.mem_rows.specs.Rows.{ModeFits, contextOf}
+use Rattle.mem_rows.proofs.States.{site-of, site-none}
+use Rattle.read_production.specs.Learned.{siteIn, SitePre, CountedHere}
+use Rattle.read_production.specs.Production.{CodeRows, learnedHere}
+
+-- ---- the site's number
+
+pub tag-site : {mode : ℕ} (top : ℕ) → mode ≡ inTag → 2 * top + 1 ≡ siteIn mode top
+tag-site {mode} top e = rw (eq-eqb mode inTag e)
+
+pub content-site : {mode : ℕ} (top : ℕ) → (mode ≡ inTag → ⊥) → 2 * top ≡ siteIn mode top
+content-site {mode} top n = rw (ne-eqb mode inTag n)
+
+module _ (mode top : ℕ) where
+  pub site-half : siteIn mode top / 2 ≡ top
+  site-half = split (eqb mode inTag) (λ t. rw t (omega arith)) (λ t. rw t (omega arith))
+
+  pub site-low : top < nameRows → siteIn mode top < sites
+  site-low h = split (eqb mode inTag) (λ t. rw t (omega arith)) (λ t. rw t (omega arith))
+
+pub count-asks : {work : List ℕ} (mode : ℕ) {top site : ℕ} → SitePre work top
+    → site ≡ siteIn mode top → Sited work site 0
+count-asks mode {top} h e =
+    record { room = h .room; low = omega (arith, e, site-low mode top (h .low)); few = omega arith }
+
+pub count-outside : {work : List ℕ} {mode top : ℕ} → mode < 4 → CountedHere work mode top 0
+count-outside l =
+    record { outside = λ _. refl; counted = λ h. absurd (omega arith); few = omega arith }
+
+pub count-inside : {work : List ℕ} {mode top site r : ℕ} → 4 ≤ mode → site ≡ siteIn mode top
+    → CountedAt work site r → CountedHere work mode top r
+count-inside {work} {mode} {top} {r = r} l e g =
+    record {
+      outside = λ h. absurd (omega arith);
+      counted = λ _. subst (λ n. CountedAt work n r) e g;
+      few = g .within;
+    }
+
+-- ---- the state
+
+-- The number of a state is the one that it was made of.
+mode-of : (mode : ℕ) (qs : List (QName Text)) → ModeFits mode (length qs)
+    → modeOf (stateOf mode qs) ≡ mode
+unfolding modeOf stateOf
+mode-of mode (q ∷ outer) f =
+    split (eqb mode inTag)
+    (λ t. rw t (sym (eqb-true mode inTag t)))
+    (λ t. split (ltb mode inTag)
+    (λ u. absurd (omega (arith, f .outer (ltb-true mode inTag u))))
+    (λ u. rw t (omega (arith, eqb-false mode inTag t, ltb-false mode inTag u, f .known))))
+mode-of zero [] f = refl
+mode-of (suc zero) [] f = refl
+mode-of (suc (suc zero)) [] f = refl
+mode-of (suc (suc (suc zero))) [] f = refl
+mode-of (suc (suc (suc (suc m)))) [] f = absurd (omega (arith, f .inner (omega arith)))
+
+module _ {work : List ℕ} {learned mode top : ℕ} {w : Rows} {opened : List ℕ}
+    (h : CodeRows work learned mode top w opened) where
+  names-fit : ModeFits mode (length (map (nameAt w) opened))
+  names-fit = subst (ModeFits mode) (sym (length-map opened (nameAt w))) (h .fits)
+
+  pub state-mode : modeOf (stateOf mode (map (nameAt w) opened)) ≡ mode
+  state-mode = mode-of mode (map (nameAt w) opened) names-fit
+
+  -- The definitions' levels are the table's.
+  pub levels-here : (s : Settings) (store : Text)
+      → levelsIn s (contextOf w store mode opened)
+      ≡ withLearned (learnedHere w mode opened) (tableOf (s .comments) (s .instructions) mode)
+  unfolding levelsIn contextOf
+  levels-here s store =
+      levels-table s (learnedOf w) (stateOf mode (map (nameAt w) opened))
+      ∙ ap (λ m. withLearned (learnedHere w mode opened)
+      (tableOf (s .comments) (s .instructions) m))
+      state-mode
+
+  -- Outside of every element nothing is learned.
+  pub outer-here : mode < 4 → learnedHere w mode opened ≡ []
+  unfolding learnedAt
+  outer-here l =
+      let e : opened ≡ [] = empty opened (h .fits .outer l) in
+      rw (e, site-none mode)
+    where
+      empty : (l : List ℕ) → length l ≡ 0 → l ≡ []
+      empty [] e = refl
+      empty (x ∷ l) e = absurd (omega arith)
+
+  module _ (l : 4 ≤ mode) where
+    pub site-here :
+        siteOf (stateOf mode (map (nameAt w) opened)) ≡ some (siteAt w (siteIn mode top))
+    site-here = go opened (h .fits .inner l) (h .topped)
+      where
+        go : (ns : List ℕ) → 0 < length ns → (0 < length ns → getD ns 0 0 ≡ top)
+            → siteOf (stateOf mode (map (nameAt w) ns)) ≡ some (siteAt w (siteIn mode top))
+        go [] a b = absurd (omega arith)
+        go (n ∷ ns) a b =
+            ap (λ m. siteOf (stateOf mode (nameAt w m ∷ map (nameAt w) ns))) (b a)
+            ∙ site-of w mode top (map (nameAt w) ns)
+
+    pub inner-here :
+        learnedHere w mode opened ≡ learnedIn (siteAt w (siteIn mode top)) (learnedOf w)
+    unfolding learnedAt
+    inner-here = rw site-here
+
+    pub top-row : top < length (w .names)
+    top-row =
+        let a = h .fits .inner l in
+        omega (arith, h .topped a, h .rows 0 a)
+
+  -- Where the table is empty nothing is learned.
+  pub table-empty : (c i : Bool) → tableOf c i mode ≡ [] → learnedHere w mode opened ≡ []
+  unfolding tableOf tables
+  table-empty c i e =
+      split (ltb mode 4)
+      (λ t. outer-here (ltb-true mode 4 t))
+      (λ t. split (eqb mode 4)
+      (λ u.
+      let z : mode ≡ 4 = eqb-true mode 4 u in
+      let n = ap length (rw z at e) in absurd (omega arith))
+      (λ u.
+      let z : mode ≡ 5 = omega (arith, ltb-false mode 4 t, eqb-false mode 4 u, h .fits .known) in
+      let n = ap length (rw z at e) in absurd (omega arith)))

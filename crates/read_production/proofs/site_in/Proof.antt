@@ -1,0 +1,22 @@
+use Rattle.read_production.proofs.Here.{tag-site, content-site}
+use borrow.Author.Needs.{needs}
+use Rattle.read_production.proofs.site_in.Statement.{statement}
+use Rattle.read_production.proofs.site_in.Tie as tie
+
+mul-result : tie.Need-mul-result
+mul-result c = search needs
+
+add-result : tie.Need-add-result
+add-result c = search needs
+
+returns : tie.Need-returns
+returns c = tag-site _ (c .if1 .taken)
+
+mul-result-2 : tie.Need-mul-result-2
+mul-result-2 c = search needs
+
+returns-2 : tie.Need-returns-2
+returns-2 c = content-site _ (c .if1 .left)
+
+pub site-in-spec : {M : Type 1} → statement M
+site-in-spec = tie.close (tie.spec mul-result add-result returns mul-result-2 returns-2)

@@ -1,0 +1,69 @@
+-- What the readers of learned productions ask and leave.
+use Prim.Native.Nat.{ℕ, _/_, _≤_, _<_}
+use mathlib.Core.Path.{_≡_}
+use mathlib.Core.Bool.{true, cond}
+use mathlib.Core.List.{List}
+use mathlib.Core.Option.{some}
+use lib.ListN.{length, getElem?}
+use lib.Dec.{eqb}
+use Rattle.spec_fields.specs.Refusal.{numberOf, code}
+use Rattle.text.specs.Text.{Text}
+use Rattle.spec_exi.specs.Event.{Event}
+use Rattle.spec_exi.specs.Sizes.{maxLearned}
+use Rattle.spec_exi.specs.Grammar.{learnedIn, fits, firstFit}
+use Rattle.mem_layout.specs.Layout.{uriRows, nameRows, sites, workCells}
+use Rattle.mem_entries.specs.Entries.{keyAt}
+use Rattle.mem_learned.specs.Learned.{LearnedHold, CountedAt}
+use Rattle.mem_rows.specs.Rows.{Learnt, Rows, kindAt, carries, siteNumber, siteAt, productionOf}
+use Rattle.mem_rows.specs.Rows.{learnedOf, inTag}
+use Rattle.mem_rows.specs.Valid.{LearntFits, Valid}
+use Rattle.mem_state.specs.Holds.{taughtIn}
+use Rattle.read_production.specs.declared.ProductionRead.{ProductionRead}
+use Rattle.read_production.specs.Answers.{refusedAs}
+
+-- The number of the site, by the state's and the row of the innermost element's name.
+abbrev pub siteIn : ℕ → ℕ → ℕ
+siteIn mode top = siteNumber top (eqb mode inTag)
+
+pub record SitePre (work : List ℕ) (top : ℕ) : Type 0 where
+  pub room : workCells ≤ length work
+  pub low : top < nameRows
+
+pub record CountedHere (work : List ℕ) (mode top r : ℕ) : Type 0 where
+  pub outside : mode < 4 → r ≡ 0
+  pub counted : 4 ≤ mode → CountedAt work (siteIn mode top) r
+  pub few : r ≤ 4096
+
+pub record LearnedPre (work : List ℕ) (site learned : ℕ) : Type 0 where
+  pub room : workCells ≤ length work
+  pub low : site < sites
+  pub few : learned ≤ maxLearned
+
+-- The production of this site in w that has v newer ones, by its row: the first that fits each
+-- event that it fits.
+pub record IsLearned (w : Rows) (site v : ℕ) (r : ProductionRead) : Type 0 where
+  pub number : r .number ≡ 0
+  pub row : Learnt
+  pub fit : LearntFits (length (w .names)) row
+  pub kind : r .kind ≡ row .kind
+  pub name : r .name ≡ row .name
+  pub uri : r .uri ≡ cond (carries (kindAt (row .kind))) (keyAt (w .names) (row .name)) 0
+  pub local : r .local ≡ row .name
+  pub there : getElem? (learnedIn (siteAt w site) (learnedOf w)) v ≡ some (productionOf w row)
+  pub first : (e : Event Text) → fits (productionOf w row) e ≡ true
+      → firstFit (learnedIn (siteAt w site) (learnedOf w)) e ≡ some (v, productionOf w row)
+
+pub record LearnedBounds (r : ProductionRead) : Type 0 where
+  pub from : 2 ≤ r .kind
+  pub upTo : r .kind ≤ 5
+  pub name : r .name < nameRows
+  pub uri : r .uri < uriRows
+  pub local : r .local < nameRows
+
+pub record LearnedRead (work : List ℕ) (site count v learned at next : ℕ) (r : ProductionRead)
+    : Type 0 where
+  pub refused : 0 < r .number → r ≡ refusedAs (numberOf code) at
+  pub read : r .number ≡ 0 → (r .learned ≡ true) × (r .next ≡ next)
+  pub bounds : r .number ≡ 0 → LearnedBounds r
+  pub means : (w : Rows) → Valid w → LearnedHold work learned (taughtIn w)
+      → site / 2 < length (w .names) → CountedAt work site count → v < count → IsLearned w site v r

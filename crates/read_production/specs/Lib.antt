@@ -1,0 +1,5 @@
+pub mod Answers
+pub mod Levels
+pub mod Learned
+pub mod Production
+pub mod Loose

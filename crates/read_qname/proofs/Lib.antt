@@ -1,0 +1,4 @@
+pub mod Texts
+pub mod Got
+pub mod Pair
+pub mod Returns

@@ -1,0 +1,210 @@
+// A qualified name (EXI 7.1.7), read: the one that a learned production carries, or a URI and a local
+// name. What the functions ask and leave is in specs/Qnames.antt, the text store in specs/Texts.antt.
+ghost use mathlib.Core.Path.{_≡_};
+ghost use mathlib.Core.Bool.{true, cond};
+ghost use mathlib.Core.Option.{none, some};
+ghost use Rattle.mem_rows.specs.Rows.{placedAt};
+ghost use Rattle.read_field.specs.View.{alignmentOf};
+ghost use Rattle.read_qname.specs.Qnames.{joiningOf, noJoining, noStrings, partOf};
+ghost use Rattle.read_qname.specs.Qnames.{stoppedAs, carriedAs, CarriedPre, PairPre, NamePre};
+ghost use Rattle.read_qname.specs.Qnames.{pairAs, Carried, NamePost};
+use event::Part;
+use mem_state::Core;
+use mem_state::Joining;
+use mem_state::Strings;
+use read_partition::StringRead;
+
+// The number of a refusal or 0; the position after the name or where it stopped, and how many code
+// points of a literal are left there; the code points in the store; where both strings lie; and
+// what is to join.
+pub struct Named {
+    pub number: u32,
+    pub next: usize,
+    pub left: usize,
+    pub stored: usize,
+    pub uri: Part,
+    pub local: Part,
+    pub strings: Strings,
+}
+
+// What a string that was read adds to its table.
+pub fn joining(x: StringRead) -> Joining
+    ensures { λ r. ⌜ r ≡ joiningOf x ⌝ }
+{
+    Joining {
+        joins: x.joins,
+        place: x.place,
+        size: x.size,
+        hash: x.hash,
+    }
+}
+
+// Nothing.
+pub fn no_joining() -> Joining
+    ensures { λ r. ⌜ r ≡ noJoining ⌝ }
+{
+    Joining {
+        joins: false,
+        place: 0,
+        size: 0,
+        hash: 0,
+    }
+}
+
+// Where a string lies.
+pub fn part_of(x: StringRead) -> Part
+    ensures { λ r. ⌜ r ≡ partOf x ⌝ }
+{
+    Part {
+        place: x.place,
+        size: x.size,
+    }
+}
+
+// An event without strings.
+pub fn no_strings() -> Strings
+    ensures { λ r. ⌜ r ≡ noStrings ⌝ }
+{
+    let uri = no_joining();
+    let name = no_joining();
+    let value = no_joining();
+    Strings {
+        uri,
+        name,
+        value,
+        uri_row: 0,
+        name_row: 0,
+        owner: 0,
+    }
+}
+
+fn stopped(number: u32, next: usize, left: usize, stored: usize) -> Named
+    ensures { λ r. ⌜ r ≡ stoppedAs number next left stored ⌝ }
+{
+    let uri = Part { place: 0, size: 0 };
+    let local = Part { place: 0, size: 0 };
+    let strings = no_strings();
+    Named {
+        number,
+        next,
+        left,
+        stored,
+        uri,
+        local,
+        strings,
+    }
+}
+
+// The name that a learned production carries: no string is read.
+fn carried(at: usize, stored: usize, name: u32, uri: u32, local: u32, work: &[u32]) -> Named
+    requires { ⌜ CarriedPre (now work) name uri local ⌝ }
+    ensures { λ r. ⌜ r ≡ carriedAs (now (work .entry)) at stored name uri local ⌝ }
+{
+    let u = mem_names::uri_at(work, uri);
+    let l = mem_names::name_at(work, local);
+    let mut strings = no_strings();
+    strings.uri_row = uri;
+    strings.name_row = name;
+    strings.owner = name;
+    Named {
+        number: 0,
+        next: at,
+        left: 0,
+        stored,
+        uri: Part {
+            place: u.place,
+            size: u.size,
+        },
+        local: Part {
+            place: l.place,
+            size: l.size,
+        },
+        strings,
+    }
+}
+
+// Both strings, read.
+fn paired(u: StringRead, l: StringRead) -> Named
+    ensures { λ r. ⌜ r ≡ pairAs u l ⌝ }
+{
+    let mut strings = no_strings();
+    strings.uri = joining(u);
+    strings.name = joining(l);
+    strings.uri_row = u.row;
+    strings.name_row = l.row;
+    strings.owner = l.row;
+    Named {
+        number: 0,
+        next: l.next,
+        left: 0,
+        stored: l.stored,
+        uri: part_of(u),
+        local: part_of(l),
+        strings,
+    }
+}
+
+// A URI, then a local name: an attribute's where attr, an element's otherwise.
+fn read_pair(
+    aligned: bool,
+    stream: &[u8],
+    at: usize,
+    attr: bool,
+    c: Core,
+    text: &mut [u32],
+    work: &[u32],
+) -> Named
+    requires { ⌜ PairPre (now stream) at (now text) (now work) c ⌝ }
+    ensures { λ r. ⌜
+        NamePost (alignmentOf aligned) attr (λ w. Unit {0}) (λ w. none) (now (stream .entry)) at
+        (now (text .entry)) (now (work .entry)) c (now (text .exit)) r ⌝ }
+{
+    let u = read_names::read_uri(aligned, stream, at, c.uris, c.stored, text, work);
+    if u.number != 0 {
+        return stopped(u.number, u.next, u.left, u.stored);
+    }
+    let l = read_names::read_local(
+        aligned,
+        stream,
+        u.next,
+        attr,
+        u.row,
+        u.place,
+        u.size,
+        c.names,
+        u.stored,
+        text,
+        work,
+    );
+    if l.number != 0 {
+        return stopped(l.number, l.next, l.left, l.stored);
+    }
+    paired(u, l)
+}
+
+// The name of an element or (attr) an attribute: that in row `name`, which a learned production
+// carries, or two strings.
+pub fn read_name(
+    aligned: bool,
+    stream: &[u8],
+    at: usize,
+    attr: bool,
+    learned: bool,
+    name: u32,
+    uri: u32,
+    local: u32,
+    c: Core,
+    text: &mut [u32],
+    work: &[u32],
+) -> Named
+    requires { ⌜ NamePre (now stream) at (now text) (now work) c name uri local ⌝ }
+    ensures { λ r. ⌜
+        NamePost (alignmentOf aligned) attr (λ w. learned ≡ true → Carried w name uri local)
+        (λ w. cond learned (some (placedAt w name)) none) (now (stream .entry)) at
+        (now (text .entry)) (now (work .entry)) c (now (text .exit)) r ⌝ }
+{
+    if learned {
+        return carried(at, c.stored, name, uri, local, work);
+    }
+    read_pair(aligned, stream, at, attr, c, text, work)
+}

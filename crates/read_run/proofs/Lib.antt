@@ -1,0 +1,5 @@
+pub mod Opened
+pub mod Laid
+pub mod Events
+pub mod Turns
+pub mod Answers

@@ -1,0 +1,407 @@
+-- A turn of the loop: one event more, or its refusal.
+use Prim.Native.Nat.{ℕ, _+_, _*_, _-_, _≤_, _<_}
+use native.Mathlib.Omega.{arith}
+use native.Mathlib.Nat.{le-refl}
+use native.Mathlib.Decide.{ℕ-discrete}
+use mathlib.Core.Path.{_≡_, refl, sym, ap, subst, _∙_}
+use mathlib.Core.List.{List, [], _∷_, _++_}
+use lib.ListN.{length, take, drop, getD, set, length-append, length-set}
+use Rattle.text.specs.Text.{Text}
+use Rattle.spec_fields.specs.Bits.{unpack}
+use Rattle.spec_fields.specs.Refusal.{numberOf}
+use Rattle.spec_exi.specs.Settings.{Settings}
+use Rattle.spec_exi.specs.Sizes.{sizes, maxEvents, maxStore, maxOpen, maxNames, cellsPerEvent}
+use Rattle.spec_exi.specs.Sizes.{eventCells}
+use Rattle.spec_exi.specs.Event.{mapEvent}
+use Rattle.spec_exi.specs.Tables.{spanOf}
+use Rattle.spec_exi.specs.Reader.{step}
+use Rattle.event.specs.Cells.{cellsOf}
+use Rattle.event.proofs.Laws.{cells-length}
+use Rattle.mem_layout.specs.Layout.{nameRows}
+use Rattle.mem_rows.specs.Rows.{Rows, isOver, contextOf}
+use Rattle.mem_state.specs.declared.Core.{Core}
+use Rattle.mem_state.specs.Holds.{Bounded, Topped, Represents, contextAt}
+use Rattle.mem_state.proofs.Joins.{holds-grown}
+use Rattle.read_contract.specs.Outcome.{Declined, Gotten}
+use Rattle.read_literal.specs.Literal.{laidAt}
+use Rattle.read_literal.proofs.Store.{laid-none}
+use Rattle.read_step.specs.declared.Stepped.{Stepped}
+use Rattle.read_step.specs.Step.{StepPre, StepRefused, StepLaid, StepMeans, StepPost, Turned}
+use Rattle.read_run.specs.declared.State.{State}
+use Rattle.read_run.specs.Events.{Steps, none-read, cellsOfAll}
+use Rattle.read_run.specs.Run.{lastFirst, openedIn, innermostIn, AdvancePre}
+use Rattle.read_run.specs.Run.{TextLaid, Running, Progress, Refuses, AdvancePost}
+use Rattle.read_run.proofs.Opened.{last-pushed, last-popped, last-top, innermost-is}
+use Rattle.read_run.proofs.Opened.{innermost-small}
+use Rattle.read_run.proofs.Laid.{cells-size, cells-more, row-next, events-next, text-next}
+use Rattle.read_run.proofs.Laid.{text-cleared, text-same, events-same, cleared-before}
+use Rattle.read_run.proofs.Events.{one-more}
+
+-- ---- what memory represents
+
+-- The store is the same.
+pub represents-text : {work text text′ : List ℕ} {c : Core} {w : Rows} {opened : List ℕ}
+    → take (c .stored) text′ ≡ take (c .stored) text → c .stored ≤ length text′
+    → Represents work text c w opened → Represents work text′ c w opened
+represents-text {c = c} e room h =
+    record {
+      valid = h .valid;
+      holds = holds-grown (record { same = e; longer = le-refl (c .stored); inside = room })
+          (h .holds);
+      counts = h .counts;
+      opens = h .opens;
+    }
+
+-- Another top.
+abbrev pub withTop : Core → ℕ → Core
+withTop c top =
+    record {
+      at = c .at;
+      stored = c .stored;
+      uris = c .uris;
+      names = c .names;
+      values = c .values;
+      learned = c .learned;
+      grammars = c .grammars;
+      mode = c .mode;
+      top = top;
+      depth = c .depth;
+    }
+
+represents-top : {work text : List ℕ} {c : Core} {w : Rows} {opened : List ℕ} (top : ℕ)
+    → Represents work text c w opened → Represents work text (withTop c top) w opened
+represents-top top h =
+    record {
+      valid = h .valid;
+      holds = h .holds;
+      counts =
+          record {
+            uris = h .counts .uris;
+            names = h .counts .names;
+            values = h .counts .values;
+            learned = h .counts .learned;
+            grammars = h .counts .grammars;
+          };
+      opens = record { size = h .opens .size; rows = h .opens .rows };
+    }
+
+bounded-top : {c : Core} (top : ℕ) → top < nameRows → Bounded c → Bounded (withTop c top)
+bounded-top top h b =
+    record {
+      stored = b .stored;
+      uris = b .uris;
+      names = b .names;
+      values = b .values;
+      learned = b .learned;
+      grammars = b .grammars;
+      top = h;
+      depth = b .depth;
+      fits = b .fits;
+    }
+
+-- ---- no event yet
+
+pub progress-start : (s : Settings) {stream events text work : List ℕ} {st : State} {first : ℕ}
+    → AdvancePre stream events text work st first
+    → Progress s stream events text work st first events text work st first
+unfolding cellsOfAll
+progress-start s {events = events} {text} {st = st} {first} h =
+    record {
+      bounded = h .bounded;
+      array = h .array;
+      inside = h .place;
+      from = le-refl first;
+      upTo = h .few;
+      events-laid =
+          record {
+            cells = [];
+            size = omega arith;
+            is = laid-none events (cellsPerEvent * first);
+          };
+      text-laid =
+          record {
+            x = [];
+            cleared = 0;
+            grows = omega arith;
+            room = omega (arith, h .bounded .stored);
+            is = laid-none text (st .core .stored);
+          };
+      work-size = refl;
+      meant = λ w a b.
+          record {
+            es = [];
+            count = omega arith;
+            rows = w;
+            after = a;
+            topped = b;
+            read = none-read;
+            cells = laid-none events (cellsPerEvent * first);
+          };
+    }
+
+-- ---- a turn
+
+module _ {s : Settings} {stream events text work : List ℕ} {st : State} {first : ℕ}
+    (pre : AdvancePre stream events text work st first) {events′ text′ work′ : List ℕ} {t : State}
+    {n : ℕ} (i : Progress s stream events text work st first events′ text′ work′ t n) where
+  cells-fit : cellsPerEvent * n ≤ length events
+  unfolding cellsPerEvent eventCells
+  cells-fit = omega (arith, i .upTo, pre .cells)
+
+  pub same-events : length events′ ≡ length events
+  same-events = events-same (i .events-laid) cells-fit
+
+  pub same-text : length text′ ≡ length text
+  same-text = text-same (i .text-laid) (pre .room)
+
+  store-room : maxStore ≤ length text′
+  store-room = omega (arith, pre .room, same-text)
+
+  pub turn-asks : n < maxEvents → StepPre stream events′ text′ work′ (t .core) (cellsPerEvent * n)
+  unfolding cellsPerEvent eventCells
+  turn-asks h =
+      record {
+        size = pre .size;
+        place = i .inside;
+        room = store-room;
+        rows = omega (arith, pre .rows, i .work-size);
+        cells = omega (arith, pre .cells, same-events);
+        bounded = i .bounded;
+      }
+
+  pub turn-over : t .core .mode ≡ isOver
+      → AdvancePost s stream events text work st first events′ text′ work′
+      (record { number = 0; index = n; state = t })
+  turn-over e =
+      record {
+        progress = i;
+        over = λ _. e;
+        going = λ l. absurd (omega arith);
+        full = λ l. absurd (omega arith);
+        refused = λ l. absurd (omega arith);
+      }
+
+  module _ (going : t .core .mode ≡ isOver → ⊥) where
+    pub turn-full : maxEvents ≤ n
+        → AdvancePost s stream events text work st first events′ text′ work′
+        (record { number = 12; index = n; state = t })
+    unfolding numberOf
+    turn-full l =
+        record {
+          progress = i;
+          over = λ z. absurd (omega arith);
+          going = λ _. going;
+          full = λ _ _. refl;
+          refused = λ _ m. absurd (omega arith);
+        }
+
+    module _ (h : n < maxEvents) {events″ text″ work″ : List ℕ} {r : Stepped}
+        (p : StepPost s stream events′ text′ work′ (t .core) (cellsPerEvent * n) events″ text″
+        work″ r) where
+      module _ (some : r .number ≡ 0 → ⊥) where
+        refusal : StepRefused events′ text′ work′ (t .core) events″ text″ work″ r
+        refusal = p .refused (omega (arith, some))
+
+        store-is : take (t .core .stored) text″ ≡ take (t .core .stored) text′
+        store-is = cleared-before store-room (refusal .cleared)
+
+        context-is : (w : Rows)
+            → contextAt text″ (t .core) w (openedIn t) ≡ contextAt text′ (t .core) w (openedIn t)
+        context-is w = ap (λ (x : Text). contextOf w x (t .core .mode) (openedIn t)) store-is
+
+        text-left : TextLaid text (st .core .stored) text″ (t .core .stored)
+        text-left = text-cleared (i .text-laid) (pre .room) (refusal .cleared)
+
+        same-left : length text″ ≡ length text
+        same-left = text-same text-left (pre .room)
+
+        left : Progress s stream events text work st first events″ text″ work″ t n
+        left =
+            record {
+              bounded = i .bounded;
+              array = i .array;
+              inside = i .inside;
+              from = i .from;
+              upTo = i .upTo;
+              events-laid =
+                  record {
+                    cells = i .events-laid .cells;
+                    size = i .events-laid .size;
+                    is = refusal .events-is ∙ i .events-laid .is;
+                  };
+              text-laid = text-left;
+              work-size = ap length (refusal .work-is) ∙ i .work-size;
+              meant = λ w a b.
+                  let g = i .meant w a b in
+                  record {
+                    es = g .es;
+                    count = g .count;
+                    rows = g .rows;
+                    after = represents-text store-is
+                        (omega (arith, same-left, pre .room, i .bounded .stored))
+                        (subst (λ (m : List ℕ). Represents m text′ (t .core) (g .rows) (openedIn t))
+                        (sym (refusal .work-is)) (g .after));
+                    topped = g .topped;
+                    read = subst
+                        (λ c. Steps s (contextAt text (st .core) w (openedIn st))
+                        (drop (st .core .at) (unpack stream)) (g .es) c
+                        (drop (t .core .at) (unpack stream)))
+                        (sym (context-is (g .rows))) (g .read);
+                    cells = refusal .events-is ∙ g .cells;
+                  };
+            }
+
+        refuses : Refuses s stream text″ work″ t (r .number)
+        refuses =
+            record {
+              next = λ w a b.
+                  subst (λ c. Declined (step sizes s c) stream (t .core .at) (r .number))
+                  (sym (context-is w))
+                  (p .meant w (openedIn t)
+                  (represents-text (sym store-is) (omega (arith, store-room, i .bounded .stored))
+                  (subst (λ (m : List ℕ). Represents m text″ (t .core) w (openedIn t))
+                  (refusal .work-is) a)) b .refused (omega (arith, some)));
+            }
+
+        pub turn-refused : AdvancePost s stream events text work st first events″ text″ work″
+            (record { number = r .number; index = n; state = t })
+        turn-refused =
+            record {
+              progress = left;
+              over = λ z. absurd (some z);
+              going = λ _. going;
+              full = λ _ e. absurd (omega arith);
+              refused = λ _ _. refuses;
+            }
+
+      -- ---- one event more
+
+      module _ (z : r .number ≡ 0) where
+        laid : StepLaid events′ text′ work′ (t .core) (cellsPerEvent * n) events″ text″ work″ r
+        laid = p .laid z
+
+        -- These rows in the array are the open elements after the event.
+        pub record Kept (rows : List ℕ) : Type 0 where
+          pub size : length rows ≡ maxOpen
+          pub is : (o : List ℕ) → Turned (t .core) (r .core) (openedIn t) o
+              → lastFirst (r .core .depth) rows ≡ o
+
+        -- An element begins: its row is stored.
+        pub stored-row : t .core .depth < r .core .depth
+            → Kept (set (t .opened) (t .core .depth) (r .core .top))
+        stored-row l =
+            record {
+              size = simp length-set (i .array);
+              is = λ o u.
+                  let (e, k) = u .enters l in
+                  ap (λ d. lastFirst d (set (t .opened) (t .core .depth) (r .core .top))) e
+                  ∙ last-pushed (t .core .depth) (r .core .top) (t .opened)
+                  (omega (arith, i .array, p .bounded .depth)) ∙ sym k;
+            }
+
+        -- Else the array stays.
+        pub same-rows : r .core .depth ≤ t .core .depth → Kept (t .opened)
+        same-rows l =
+            record {
+              size = i .array;
+              is = λ o u. elim (ℕ-discrete (r .core .depth) (t .core .depth)) [
+                | yes y ↦ ap (λ d. lastFirst d (t .opened)) y ∙ sym (u .stays y)
+                | no y ↦
+                    let (e, k) = u .leaves (omega arith) in
+                    last-popped (t .core .depth) (r .core .depth) (t .opened) (t .core .top) o e k
+              ];
+            }
+
+        module _ {rows : List ℕ} (kept : Kept rows) {top : ℕ}
+            (inner : top ≡ innermostIn rows (r .core .depth)) where
+          abbrev later : State
+          later = record { core = withTop (r .core) top; opened = rows }
+
+          module _ (w : Rows) (a : Represents work text (st .core) w (openedIn st))
+              (b : Topped (st .core) (openedIn st)) where
+            abbrev before : Running s stream events text st first w events′ text′ work′ t n
+            before = i .meant w a b
+
+            abbrev reads : Gotten
+                (step sizes s (contextAt text′ (t .core) (before .rows) (openedIn t))) stream
+                (t .core .at) (r .core .at)
+            reads = p .meant (before .rows) (openedIn t) (before .after) (before .topped) .read z
+
+            abbrev means : StepMeans events′ (t .core) (cellsPerEvent * n) (openedIn t) events″
+                text″ work″ (r .core) (reads .value)
+            means = p .meant (before .rows) (openedIn t) (before .after) (before .topped) .is z
+
+            opened-is : openedIn later ≡ means .opened′
+            opened-is = kept .is (means .opened′) (means .turned)
+
+            represents : Represents work″ text″ (r .core) (means .w) (openedIn later)
+            represents =
+                subst (Represents work″ text″ (r .core) (means .w)) (sym opened-is) (means .after)
+
+            -- The innermost is a row of a name.
+            row-low : 0 < r .core .depth → getD rows (r .core .depth - 1) 0 < nameRows
+            unfolding maxNames
+            row-low d =
+                let o = represents .opens .rows 0 (omega (arith, represents .opens .size)) in
+                omega (
+                  arith,
+                  o,
+                  last-top (r .core .depth) rows d,
+                  represents .counts .names,
+                  p .bounded .names,
+                )
+
+            context-after : reads .value .1 ≡ contextAt text″ (r .core) (means .w) (openedIn later)
+            context-after =
+                means .context
+                ∙ ap (contextOf (means .w) (take (r .core .stored) text″) (r .core .mode))
+                (sym opened-is)
+
+            running : Running s stream events text st first w events″ text″ work″ later (n + 1)
+            unfolding cellsPerEvent
+            running =
+                record {
+                  es = before .es ++ reads .value .0 ∷ [];
+                  count = omega (
+                    arith,
+                    before .count,
+                    length-append (before .es) (reads .value .0 ∷ []),
+                  );
+                  rows = means .w;
+                  after = represents-top top represents;
+                  topped =
+                      record {
+                        is = λ d. last-top (r .core .depth) rows d
+                            ∙ sym (inner ∙ innermost-is rows (r .core .depth) d (row-low d));
+                      };
+                  read = subst
+                      (λ c. Steps s (contextAt text (st .core) w (openedIn st))
+                      (drop (st .core .at) (unpack stream)) (before .es ++ reads .value .0 ∷ []) c
+                      (drop (r .core .at) (unpack stream)))
+                      context-after (one-more (reads .value) (before .read) (reads .result));
+                  cells =
+                      row-next events (cellsPerEvent * first) (cellsOfAll (before .es))
+                      (cellsOf (mapEvent spanOf (reads .value .0))) (before .cells)
+                      (omega (arith, before .count, cells-size (before .es))) cells-fit
+                      (cells-length (mapEvent spanOf (reads .value .0))) (means .cells)
+                      ∙ ap (λ (l : List ℕ). laidAt events (cellsPerEvent * first) l)
+                      (sym (cells-more (before .es) (reads .value .0)));
+                }
+
+          pub turn-more : Progress s stream events text work st first events″ text″ work″ later
+              (n + 1)
+          turn-more =
+              record {
+                bounded = bounded-top top
+                    (omega (arith, inner, innermost-small rows (r .core .depth))) (p .bounded);
+                array = kept .size;
+                inside = p .inside;
+                from = omega (arith, i .from);
+                upTo = omega arith;
+                events-laid = events-next (laid .row) (i .events-laid) cells-fit (laid .row-size)
+                    (laid .events-is);
+                text-laid = text-next (i .text-laid) (pre .room) (laid .x) (laid .text-is)
+                    (laid .stored-is) (p .bounded .stored);
+                work-size = laid .work-size ∙ i .work-size;
+                meant = running;
+              }

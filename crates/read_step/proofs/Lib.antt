@@ -1,0 +1,7 @@
+pub mod Rows
+pub mod Tests
+pub mod Judges
+pub mod Events
+pub mod Returns
+pub mod Turns
+pub mod Steps

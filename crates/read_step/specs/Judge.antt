@@ -1,0 +1,167 @@
+-- What is tested after an event's content, and what reading an event leaves before its rows join.
+use Prim.Native.Nat.{ℕ, _+_, _*_, _≤_, _<_}
+use mathlib.Core.Path.{_≡_}
+use mathlib.Core.Bool.{Bool, true, false, cond, _&&_, not}
+use mathlib.Core.List.{List, map}
+use lib.ListN.{length, take}
+use lib.Dec.{eqb, leb}
+use Rattle.spec_fields.specs.Refusal.{numberOf, loose, limit}
+use Rattle.spec_exi.specs.Settings.{Settings}
+use Rattle.spec_exi.specs.Sizes.{sizes, maxStream, maxStore, maxOpen, maxGrammars, maxLearned}
+use Rattle.spec_exi.specs.Event.{Event, mapEvent, SE}
+use Rattle.spec_exi.specs.Tables.{Placed, spanOf}
+use Rattle.spec_exi.specs.Grammar.{kindNumber}
+use Rattle.spec_exi.specs.Context.{Context}
+use Rattle.spec_exi.specs.Reader.{step}
+use Rattle.event.specs.declared.Event.the-variants.{StartDocument}
+use Rattle.event.specs.Cells.{meaning}
+use Rattle.event_code.specs.Parts.{teachesIn}
+use Rattle.mem_layout.specs.Layout.{uriRows, nameRows, sites, workCells}
+use Rattle.mem_learned.specs.Grammars.{flagIn}
+use Rattle.mem_rows.specs.Rows.{Rows, modeAfter, openedAfter, leaves, contextOf}
+use Rattle.mem_rows.specs.Valid.{Valid}
+use Rattle.mem_state.specs.declared.Core.{Core}
+use Rattle.mem_state.specs.declared.Strings.{Strings}
+use Rattle.mem_state.specs.declared.Growth.{Growth}
+use Rattle.mem_state.specs.Holds.{Bounded, Topped, Represents, contextAt}
+use Rattle.mem_state.specs.Commit.{counted, turned}
+use Rattle.mem_state.specs.Strung.{StringsJoin}
+use Rattle.mem_state.specs.Grows.{learntOf, Grows}
+use Rattle.grammar_codes.specs.Table.{Stands}
+use Rattle.read_contract.specs.Outcome.{Outcome}
+use Rattle.read_literal.specs.Literal.{Cleared}
+use Rattle.read_production.specs.declared.ProductionRead.{ProductionRead}
+use Rattle.read_production.specs.Learned.{siteIn}
+use Rattle.read_production.specs.Loose.{LoosePost}
+use Rattle.read_qname.specs.Texts.{TextRead}
+use Rattle.read_qname.specs.Qnames.{noStrings}
+use Rattle.read_content.specs.Contents.{ContentBounds}
+use Rattle.read_step.specs.declared.Judged.{Judged}
+use Rattle.read_step.specs.declared.EventRead.{EventRead}
+
+-- ---- the tests
+
+pub record GrowthPre (work : List ℕ) (c : Core) (s : Strings) : Type 0 where
+  pub room : workCells ≤ length work
+  pub name : s .«name_row» < nameRows
+  pub top : c .top < nameRows
+  pub few : c .learned ≤ maxLearned
+
+unfoldable pub growthOf : List ℕ → Core → ProductionRead → Strings → Growth
+growthOf work c p s =
+    record {
+      enters = eqb (p .kind) (kindNumber SE) && not (flagIn work (s .«name_row»));
+      teaches = not (p .learned) && teachesIn (c .mode) (p .kind);
+      site = siteIn (c .mode) (c .top);
+      kind = p .kind;
+      name = s .«name_row»;
+      uri = s .«uri_row»;
+    }
+
+-- Open elements, element grammars and learned productions have room.
+unfoldable pub fitsIn : Core → Growth → Bool
+fitsIn c g =
+    not (eqb (g .kind) (kindNumber SE) && leb maxOpen (c .depth))
+    && not (g .enters && leb maxGrammars (c .grammars))
+    && not (g .teaches && leb maxLearned (c .learned))
+
+-- Of a learned production the code is the strict one.
+pub record LooseHere (work : List ℕ) (c : Core) (p : ProductionRead) (s : Strings) (r : Bool) :
+    Type 0 where
+  pub learned : p .learned ≡ true → r ≡ false
+  pub fixed : p .learned ≡ false
+      → LoosePost work (c .mode) (c .top) (p .kind) (s .«name_row») (c .learned) r
+
+unfoldable pub judgeNumber : Bool → Bool → ℕ
+judgeNumber l f = cond l (numberOf loose) (cond f 0 (numberOf limit))
+
+pub record JudgePost (work : List ℕ) (c : Core) (p : ProductionRead) (s : Strings) (r : Judged) :
+    Type 0 where
+  pub growth-is : r .growth ≡ growthOf work c p s
+  pub l : Bool
+  pub l-is : LooseHere work c p s l
+  pub number-is : r .number ≡ judgeNumber l (fitsIn c (growthOf work c p s))
+
+-- ---- an event
+
+pub record EventPre (stream text work : List ℕ) (c : Core) : Type 0 where
+  pub size : length stream ≤ maxStream
+  pub place : c .at ≤ 8 * length stream
+  pub room : maxStore ≤ length text
+  pub rows : workCells ≤ length work
+  pub bounded : Bounded c
+
+abbrev pub noGrowth : Growth
+noGrowth = record { enters = false; teaches = false; site = 0; kind = 0; name = 0; uri = 0 }
+
+abbrev pub refusedAs : ℕ → Core → EventRead
+refusedAs number c =
+    record {
+      number = number;
+      next = c .at;
+      stored = c .stored;
+      event = StartDocument;
+      strings = noStrings;
+      growth = noGrowth;
+    }
+
+-- On every memory: the strings and the growth of an event that is accepted.
+pub record EventBounds (c : Core) (r : EventRead) : Type 0 where
+  pub strings : ContentBounds c (r .strings)
+  pub stands : Stands (c .mode) (r .growth .kind)
+  pub fits : fitsIn c (r .growth) ≡ true
+  pub site : r .growth .site < sites
+  pub name : r .growth .name ≡ r .strings .«name_row»
+  pub uri : r .growth .uri ≡ r .strings .«uri_row»
+
+-- v is the event and the context after it, which is that of the rows that it leaves.
+pub record EventMeans (text′ : List ℕ) (c : Core) (w : Rows) (opened : List ℕ) (r : EventRead)
+    (v : Event Placed × Context) : Type 0 where
+  pub rows : Rows
+  pub joins : StringsJoin text′ (r .stored) (r .strings) w rows
+  pub grows : Grows rows c (r .growth)
+  pub event : meaning (r .event) ≡ mapEvent spanOf (v .0)
+  pub named : r .growth .kind ≡ kindNumber SE → r .growth .name < length (rows .names)
+  pub valid : Valid (leaves (r .growth .kind) (r .growth .name) (r .growth .teaches)
+      (learntOf (r .growth)) rows)
+  pub context : v .1
+      ≡ contextOf
+      (leaves (r .growth .kind) (r .growth .name) (r .growth .teaches) (learntOf (r .growth)) rows)
+      (take (r .stored) text′) (modeAfter (r .growth .kind) (c .mode) (c .depth))
+      (openedAfter (r .growth .kind) (r .growth .name) opened)
+
+pub record EventPost (s : Settings) (stream text work : List ℕ) (c : Core) (text′ : List ℕ)
+    (r : EventRead) : Type 0 where
+  pub inside : r .next ≤ 8 * length stream
+  pub refused : 0 < r .number → (r ≡ refusedAs (r .number) c) × Cleared text (c .stored) text′
+  pub laid : r .number ≡ 0 → TextRead text (c .stored) text′ 0 (r .stored)
+  pub bounds : r .number ≡ 0 → EventBounds c r
+  pub meant : (w : Rows) (opened : List ℕ) → Represents work text c w opened → Topped c opened
+      → Outcome (step sizes s (contextAt text c w opened)) stream (c .at) (r .number) (r .next)
+      (EventMeans text′ c w opened r)
+
+-- ---- the numbers after it
+
+abbrev pub movedTo : Core → ℕ → ℕ → Core
+movedTo c at stored =
+    record {
+      at = at;
+      stored = stored;
+      uris = c .uris;
+      names = c .names;
+      values = c .values;
+      learned = c .learned;
+      grammars = c .grammars;
+      mode = c .mode;
+      top = c .top;
+      depth = c .depth;
+    }
+
+abbrev pub coreAfter : Core → EventRead → Core
+coreAfter c r =
+    turned (counted (movedTo c (r .next) (r .stored)) (r .strings) (r .growth)) (r .growth .kind)
+    (r .growth .name)
+
+pub record AfterPre (c : Core) (r : EventRead) : Type 0 where
+  pub bounded : Bounded c
+  pub stands : Stands (c .mode) (r .growth .kind)

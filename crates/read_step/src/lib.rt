@@ -1,0 +1,213 @@
+// One event of a stream, read: its code, its content, what is tested after these, and then the one
+// place where its rows join memory. What the functions ask and leave is in specs/.
+ghost use mathlib.Core.Path.{_≡_};
+ghost use Rattle.settings.specs.Meant.{settingsFrom};
+ghost use Rattle.read_step.specs.Judge.{growthOf, fitsIn, GrowthPre, LooseHere, JudgePost};
+ghost use Rattle.read_step.specs.Judge.{refusedAs, EventPre, EventPost, coreAfter, AfterPre};
+ghost use Rattle.read_step.specs.Step.{StepPre, StepPost};
+use event::Event;
+use event_code::SE;
+use mem_state::Core;
+use mem_state::Growth;
+use mem_state::Strings;
+use read_production::ProductionRead;
+use refusal::LIMIT;
+use refusal::LOOSE;
+use settings::Settings;
+use sizes::MAX_GRAMMARS;
+use sizes::MAX_LEARNED;
+use sizes::MAX_OPEN;
+
+// The number of the event's refusal or 0, and the numbers after the event.
+pub struct Stepped {
+    pub number: u32,
+    pub core: Core,
+}
+
+// The number of a refusal or 0, and what the event leaves in the grammars.
+struct Judged {
+    number: u32,
+    growth: Growth,
+}
+
+// The number of a refusal or 0; the position after the event; the code points in the store; the event;
+// and what it adds to memory.
+struct EventRead {
+    number: u32,
+    next: usize,
+    stored: usize,
+    event: Event,
+    strings: Strings,
+    growth: Growth,
+}
+
+// ---- the tests after the content
+
+// What an event leaves in the grammars (EXI 8.4.3).
+fn growth(c: Core, p: ProductionRead, s: Strings, work: &[u32]) -> Growth
+    requires { ⌜ GrowthPre (now work) c s ⌝ }
+    ensures { λ r. ⌜ r ≡ growthOf (now (work .entry)) c p s ⌝ }
+{
+    let kind = p.kind;
+    let name = s.name_row;
+    let has = mem_learned::has_grammar(work, name);
+    let teaches = event_code::teaches(c.mode, kind);
+    let site = read_production::site_in(c.mode, c.top);
+    Growth {
+        enters: (kind == SE) & !has,
+        teaches: !p.learned & teaches,
+        site,
+        kind,
+        name,
+        uri: s.uri_row,
+    }
+}
+
+// Whether open elements, element grammars and learned productions have room for it.
+fn fits(c: Core, g: Growth) -> bool
+    ensures { λ r. ⌜ r ≡ fitsIn c g ⌝ }
+{
+    if (g.kind == SE) & (MAX_OPEN <= c.depth) {
+        return false;
+    }
+    if g.enters & (MAX_GRAMMARS <= c.grammars as usize) {
+        return false;
+    }
+    if g.teaches & (MAX_LEARNED <= c.learned as usize) {
+        return false;
+    }
+    true
+}
+
+// Whether a learned production fits the event, and its code is not that one's.
+fn loose(c: Core, p: ProductionRead, s: Strings, work: &[u32]) -> bool
+    requires { ⌜ GrowthPre (now work) c s ⌝ }
+    ensures { λ r. ⌜ LooseHere (now (work .entry)) c p s r ⌝ }
+{
+    if p.learned {
+        return false;
+    }
+    read_production::is_loose(c.mode, c.top, p.kind, s.name_row, c.learned, work)
+}
+
+// Judges an event after its content: LOOSE, then the sizes.
+fn judge(c: Core, p: ProductionRead, s: Strings, work: &[u32]) -> Judged
+    requires { ⌜ GrowthPre (now work) c s ⌝ }
+    ensures { λ r. ⌜ JudgePost (now (work .entry)) c p s r ⌝ }
+{
+    let growth = growth(c, p, s, work);
+    if loose(c, p, s, work) {
+        return Judged {
+            number: LOOSE,
+            growth,
+        };
+    }
+    if !fits(c, growth) {
+        return Judged {
+            number: LIMIT,
+            growth,
+        };
+    }
+    Judged { number: 0, growth }
+}
+
+// ---- an event
+
+fn refused(number: u32, c: Core) -> EventRead
+    ensures { λ r. ⌜ r ≡ refusedAs number c ⌝ }
+{
+    let strings = read_qname::no_strings();
+    let growth = Growth {
+        enters: false,
+        teaches: false,
+        site: 0,
+        kind: 0,
+        name: 0,
+        uri: 0,
+    };
+    EventRead {
+        number,
+        next: c.at,
+        stored: c.stored,
+        event: Event::StartDocument,
+        strings,
+        growth,
+    }
+}
+
+// Reads one event and judges it; work memory is not written. A refusal clears the text that it laid.
+fn read_event(o: Settings, stream: &[u8], c: Core, text: &mut [u32], work: &[u32]) -> EventRead
+    requires { ⌜ EventPre (now stream) (now text) (now work) c ⌝ }
+    ensures { λ r. ⌜
+        EventPost (settingsFrom o) (now (stream .entry)) (now (text .entry)) (now (work .entry)) c
+        (now (text .exit)) r ⌝ }
+{
+    let p = read_production::read_production(o, stream, c.at, c.mode, c.top, c.learned, work);
+    if p.number != 0 {
+        return refused(p.number, c);
+    }
+    let x = read_content::read_content(o.aligned, stream, p.next, p, c, text, work);
+    if x.number != 0 {
+        read_literal::clear_cells(text, c.stored, x.stored - c.stored);
+        return refused(x.number, c);
+    }
+    let strings = x.strings;
+    let event = x.event;
+    let j = judge(c, p, strings, work);
+    if j.number != 0 {
+        read_literal::clear_cells(text, c.stored, x.stored - c.stored);
+        return refused(j.number, c);
+    }
+    let growth = j.growth;
+    EventRead {
+        number: 0,
+        next: x.next,
+        stored: x.stored,
+        event,
+        strings,
+        growth,
+    }
+}
+
+// The numbers after an event.
+fn after(c: Core, r: EventRead) -> Core
+    requires { ⌜ AfterPre c r ⌝ }
+    ensures { λ d. ⌜ d ≡ coreAfter c r ⌝ }
+{
+    let mut d = c;
+    d.at = r.next;
+    d.stored = r.stored;
+    let s = r.strings;
+    let g = r.growth;
+    mem_state::turn(mem_state::count(d, s, g), g.kind, g.name)
+}
+
+// Reads one event after the core's position, and stores it in the nine cells from one on.
+pub fn step(
+    o: Settings,
+    stream: &[u8],
+    c: Core,
+    cell: usize,
+    events: &mut [u32],
+    text: &mut [u32],
+    work: &mut [u32],
+) -> Stepped
+    requires { ⌜ StepPre (now stream) (now events) (now text) (now work) c cell ⌝ }
+    ensures { λ r. ⌜
+        StepPost (settingsFrom o) (now (stream .entry)) (now (events .entry)) (now (text .entry))
+        (now (work .entry)) c cell (now (events .exit)) (now (text .exit)) (now (work .exit)) r ⌝ }
+{
+    let r = read_event(o, stream, c, text, work);
+    if r.number != 0 {
+        return Stepped {
+            number: r.number,
+            core: c,
+        };
+    }
+    mem_state::join_strings(work, c, r.strings);
+    mem_state::grow(work, c, r.growth);
+    let event = r.event;
+    event::store(event, events, cell);
+    let core = after(c, r);
+    Stepped { number: 0, core }
+}
