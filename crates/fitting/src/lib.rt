@@ -1,4 +1,4 @@
-// The learned production that fits an event, in either memory. What the functions ask and leave is in specs/Fitting.antt.
+// The learned production that fits an event, in the writer's memory. What the functions ask and leave is in specs/Fitting.antt.
 ghost use mathlib.Core.Path.{_≡_};
 ghost use Rattle.fitting.specs.Fitting.{NumberedFits, newerOf, NewestFits, newestOf};
 use layout::LEARNED;

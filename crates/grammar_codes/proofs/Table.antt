@@ -2,7 +2,7 @@
 use Prim.Native.Nat.{ℕ, zero, suc, _+_, _≤_, _<_}
 use native.Mathlib.Omega.{arith}
 use mathlib.Core.Path.{_≡_, refl, sym, ap, _∙_}
-use mathlib.Core.Bool.{Bool, true, false, _&&_, _||_, not}
+use mathlib.Core.Bool.{Bool, true, false, _&&_, _||_, not, true≢false}
 use mathlib.Core.List.{List, [], _∷_}
 use lib.ListN.{length, getD, drop, length-drop}
 use lib.Dec.{T, eqb, leb, ltb, leb→le}
@@ -364,3 +364,24 @@ nth-none a b c d (suc zero) p q r s = absurd (q refl)
 nth-none a b c d (suc (suc zero)) p q r s = absurd (r refl)
 nth-none a b c d (suc (suc (suc zero))) p q r s = absurd (s refl)
 nth-none a b c d (suc (suc (suc (suc n)))) p q r s = refl
+
+-- ---- an element's first part
+
+both-are : (mode level m : ℕ) → (eqb mode m && eqb level 0) ≡ true → (mode ≡ m) × (level ≡ 0)
+both-are mode level m e =
+    split (eqb mode m)
+    (λ a. split (eqb level 0)
+    (λ b. (eqb-true mode m a, eqb-true level 0 b))
+    (λ b. absurd (true≢false (sym e ∙ rw (a, b)))))
+    (λ a. absurd (true≢false (sym e ∙ rw a)))
+
+module _ (comments instructions : Bool) (mode level : ℕ) where
+  pub values-content : (eqb mode 5 && eqb level 0) ≡ true
+      → 2 ≡ valuesAt comments instructions mode level
+  unfolding tables tableOf levelAt noKinds
+  values-content e = let (a, b) = both-are mode level 5 e in rw (a, b)
+
+  pub values-tag : (eqb mode 4 && eqb level 0) ≡ true
+      → 1 ≡ valuesAt comments instructions mode level
+  unfolding tables tableOf levelAt noKinds
+  values-tag e = let (a, b) = both-are mode level 4 e in rw (a, b)

@@ -1,5 +1,5 @@
 // The productions of each state that are not learned (EXI 8.4.1, 8.4.3), level by level of their
-// event codes: one table for reader and writer. States and kinds are numbers; comments and
+// event codes, in one table. States and kinds are numbers; comments and
 // instructions stand where they are kept. The table is in specs/Table.antt.
 ghost use mathlib.Core.Path.{_≡_};
 ghost use mathlib.Core.List.{[], _∷_};
@@ -95,6 +95,13 @@ pub fn values_at(mode: u32, level: u32, comments: bool, instructions: bool) -> u
     requires { ⌜ level < 3 ⌝ }
     ensures { λ r. ⌜ r ≡ valuesAt comments instructions mode level ⌝ }
 {
+    // most parts are an element's first
+    if (mode == 5) & (level == 0) {
+        return 2;
+    }
+    if (mode == 4) & (level == 0) {
+        return 1;
+    }
     let here = count_at(mode, level, comments, instructions);
     let next = count_at(mode, level + 1, comments, instructions);
     let last = count_at(mode, level + 2, comments, instructions);

@@ -1,4 +1,4 @@
-// What an event leaves in the grammars: a learned production, an element that is entered or left. Reader and writer share it. The definitions that the
+// What an event leaves in the grammars: a learned production, an element that is entered or left. It is the writer's. The definitions that the
 // contracts cite are in specs/Learning.antt.
 ghost use mathlib.Core.Path.{_≡_};
 ghost use Prim.Native.Nat.{_<_};

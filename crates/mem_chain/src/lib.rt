@@ -1,6 +1,7 @@
 // Chains in work memory: rows in order of insertion, those of one bucket linked from the newest
 // down. A link is an insertion number and 1, or 0. Row i lies at i modulo the ring, so a link may
-// lead to a row that was written over; a walk ends there. What the contracts cite is in
+// lead to a row that was written over: a walk ends before it, at the lowest row that still counts.
+// What the contracts cite is in
 // specs/Chain.antt.
 ghost use mathlib.Core.Path.{_≡_};
 ghost use Prim.Native.Nat.{_<_};

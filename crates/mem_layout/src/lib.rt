@@ -1,5 +1,5 @@
-// Where everything lies in work memory, the reader's and the writer's alike: heads of chains and
-// counts, which are zero at the start, then tables in columns, a cell for each row.
+// Where everything lies in the reader's work memory: heads of chains and counts, which are zero at
+// the start, then tables in columns, a cell for each row. (The writer is to have the same.)
 // specs/Layout.antt has the places by the same names.
 // ---- heads of chains, a cell for each bucket
 

@@ -1,5 +1,5 @@
 -- What holds of the rows between events: each refers to rows that are there, no two of a table are the
--- same, and every string was judged when it joined.
+-- same, and every name was judged when it joined.
 use Prim.Native.Nat.{ℕ, _/_, _≤_, _<_}
 use mathlib.Core.Path.{_≡_}
 use mathlib.Core.Bool.{true, false}

@@ -231,10 +231,6 @@ module _ (w : Rows) (l : Learnt) where
   unfolding taughtIn taughtOf withLearned
   taught-more = map-snoc (taughtOf w) (w .learned) l
 
-  taught-count : length (taughtIn w) ≡ length (w .learned)
-  unfolding taughtIn
-  taught-count = length-map (w .learned) (taughtOf w)
-
   pub holds-learned : {work text : List ℕ} {stored : ℕ} → Holds work text stored w
       → length (w .learned) < learnedRows → l .site < sites → l .name < nameRows
       → taughtOf w l .uriRow < uriRows

@@ -20,9 +20,10 @@ use Rattle.mem_learned.specs.Learned as cells
 use Rattle.mem_rows.specs.Rows.{Learnt, Rows, placedAt, nameAt, kindAt, carries, siteAt, carriedAt}
 use Rattle.mem_rows.specs.Rows.{productionOf, learntAs, backward, learnedOf}
 use Rattle.mem_rows.specs.Valid.{noLearnt, learntAt, LearntFits, Refers, Valid}
-use Rattle.mem_rows.proofs.Kept.{Kept, all-at, map-same, learned-kept}
+use Rattle.mem_rows.proofs.Kept.{Kept, learned-kept}
 use Rattle.mem_learned.proofs.Newest.{newest-same}
 use Rattle.mem_state.specs.Holds.{taughtOf, taughtIn, Ahead}
+use Rattle.mem_state.proofs.Joins.{taught-same}
 
 -- ---- what keys are, and where a name lies
 
@@ -175,22 +176,5 @@ module _ {w v : Rows} (a : Ahead w v) (r : Refers w) where
   pub learned-ahead : learnedOf v ≡ learnedOf w
   learned-ahead = learned-kept ahead-kept r (a .learned)
 
-  taught-same : (l : Learnt) → LearntFits (length (w .names)) l → taughtOf v l ≡ taughtOf w l
-  unfolding taughtOf
-  taught-same l f =
-      ap (λ (x : Entry ℕ).
-      record {
-        site = l .site;
-        kind = kindAt (l .kind);
-        name = l .name;
-        uriRow = cond (carries (kindAt (l .kind))) (x .key) 0;
-        nameRow = l .name;
-      })
-      (a .names (l .name) (f .name))
-
   pub taught-ahead : taughtIn v ≡ taughtIn w
-  unfolding taughtIn
-  taught-ahead =
-      ap (map (taughtOf v)) (a .learned)
-      ∙ map-same (taughtOf v) (taughtOf w) (λ l f. taught-same l f)
-      (all-at noLearnt (w .learned) (r .learned))
+  taught-ahead = taught-same w v r (a .learned) (a .names)

@@ -52,12 +52,12 @@ pub fn no_joining() -> Joining
 }
 
 // Where a string lies.
-pub fn part_of(x: StringRead) -> Part
-    ensures { λ r. ⌜ r ≡ partOf x ⌝ }
+pub fn part_of(s: StringRead) -> Part
+    ensures { λ r. ⌜ r ≡ partOf s ⌝ }
 {
     Part {
-        place: x.place,
-        size: x.size,
+        place: s.place,
+        size: s.size,
     }
 }
 

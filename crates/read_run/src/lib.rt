@@ -8,14 +8,12 @@ ghost use Rattle.mem_layout.specs.Layout.{nameRows};
 ghost use Rattle.read_run.specs.Run.{innermostIn, AdvancePre, AdvancePost};
 use mem_layout::NAME_ROWS;
 use mem_state::Core;
+use mem_state::IS_OVER;
 use refusal::LIMIT;
 use settings::Settings;
 use sizes::CELLS_PER_EVENT;
 use sizes::MAX_EVENTS;
 use sizes::MAX_OPEN;
-
-// The grammar's state after the end document.
-pub const OVER: u32 = 3;
 
 // The numbers, and the open elements by the rows of their names, the innermost last.
 pub struct State {
@@ -78,7 +76,7 @@ pub fn advance(
 {
     let mut t = st;
     let mut n = first;
-    while t.core.mode != OVER {
+    while t.core.mode != IS_OVER {
         if MAX_EVENTS <= n {
             return stopped(LIMIT, n, t);
         }

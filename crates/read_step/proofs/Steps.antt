@@ -213,6 +213,10 @@ module _ {stream events text work : List ℕ} {c : Core} {cell : ℕ}
                   ∙ ap (λ k. laidAt text (c .stored) (t .x ++ replicate k 0)) (t .whole refl)
                   ∙ ap (laidAt text (c .stored)) (append-nil (t .x));
               stored-is = t .stored-is;
+              strings = r .strings;
+              growth = r .growth;
+              work-is = refl;
+              core-is = refl;
               work-size = grown-size c (r .growth) (joinedStrings c (r .strings) work)
                   ∙ strings-size c (r .strings) work;
             };

@@ -14,10 +14,14 @@ use Rattle.event.specs.Cells.{cellsOf}
 use Rattle.mem_layout.specs.Layout.{workCells}
 use Rattle.mem_rows.specs.Rows.{Rows}
 use Rattle.mem_state.specs.declared.Core.{Core}
+use Rattle.mem_state.specs.declared.Strings.{Strings}
+use Rattle.mem_state.specs.declared.Growth.{Growth}
+use Rattle.mem_state.specs.Commit.{joinedStrings, grown, counted, turned}
 use Rattle.mem_state.specs.Holds.{Bounded, Topped, Represents, contextAt}
 use Rattle.read_contract.specs.Outcome.{Outcome}
 use Rattle.read_literal.specs.Literal.{laidAt, Cleared}
 use Rattle.read_step.specs.declared.Stepped.{Stepped}
+use Rattle.read_step.specs.Judge.{movedTo}
 
 -- Bounds alone; the event's cells begin at this one.
 pub record StepPre (stream events text work : List ℕ) (c : Core) (cell : ℕ) : Type 0 where
@@ -38,7 +42,8 @@ pub record StepRefused (events text work : List ℕ) (c : Core) (events′ text�
   pub work-is : work′ ≡ work
   pub cleared : Cleared text (c .stored) text′
 
--- Nine cells are the event's; its literals are laid after the store.
+-- Nine cells are the event's; its literals are laid after the store; its strings and its growth are
+-- all that joins work memory, and the numbers are those after it.
 pub record StepLaid (events text work : List ℕ) (c : Core) (cell : ℕ) (events′ text′ work′ : List ℕ)
     (r : Stepped) : Type 0 where
   pub row : List ℕ
@@ -47,7 +52,13 @@ pub record StepLaid (events text work : List ℕ) (c : Core) (cell : ℕ) (event
   pub x : Text
   pub text-is : text′ ≡ laidAt text (c .stored) x
   pub stored-is : r .core .stored ≡ c .stored + length x
+  pub strings : Strings
+  pub growth : Growth
+  pub work-is : work′ ≡ grown c growth (joinedStrings c strings work)
   pub work-size : length work′ ≡ length work
+  pub core-is : r .core
+      ≡ turned (counted (movedTo c (r .core .at) (r .core .stored)) strings growth) (growth .kind)
+      (growth .name)
 
 -- ---- by the definitions
 

@@ -147,15 +147,16 @@ fn read_event(o: Settings, stream: &[u8], c: Core, text: &mut [u32], work: &[u32
         return refused(p.number, c);
     }
     let x = read_content::read_content(o.aligned, stream, p.next, p, c, text, work);
+    let laid = x.stored - c.stored;
     if x.number != 0 {
-        read_literal::clear_cells(text, c.stored, x.stored - c.stored);
+        read_literal::clear_cells(text, c.stored, laid);
         return refused(x.number, c);
     }
     let strings = x.strings;
     let event = x.event;
     let j = judge(c, p, strings, work);
     if j.number != 0 {
-        read_literal::clear_cells(text, c.stored, x.stored - c.stored);
+        read_literal::clear_cells(text, c.stored, laid);
         return refused(j.number, c);
     }
     let growth = j.growth;

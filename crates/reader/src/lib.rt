@@ -25,7 +25,7 @@ use sizes::MAX_STORE;
 use sizes::MAX_STREAM;
 use sizes::READER_WORK;
 
-// Clears heads and counts, which are zero at the start.
+// Clears heads and counts: they have to be zero at the start.
 fn clear_heads(work: &mut [u32])
     requires { ⌜ workCells ≤ length (now work) ⌝ }
     ensures { λ _. ⌜ now (work .exit) ≡ zeroed zeroCells (now (work .entry)) ⌝ }

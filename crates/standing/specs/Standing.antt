@@ -1,4 +1,4 @@
--- The definitions' context that a reader's or writer's state and lent memory mean, what holds of both between events, and what a string
+-- The definitions' context that the writer's state and lent memory mean, what holds of both between events, and what a string
 -- leaves as it was.
 use Prim.Native.Nat.{ℕ, _≤_, _<_}
 use mathlib.Core.Path.{_≡_}

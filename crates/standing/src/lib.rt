@@ -1,1 +1,1 @@
-// What a reader's or writer's state means over its memory: definitions and laws alone; no function.
+// What the writer's state means over its memory: definitions and laws alone; no function.

@@ -1,4 +1,4 @@
-// What a reader or writer carries from event to event, beside the lent memory: the position in the stream, the counts, the grammar's state, and the
+// What the writer carries from event to event, beside the lent memory: the position in the stream, the counts, the grammar's state, and the
 // open elements.
 ghost use mathlib.Core.Path.{_≡_};
 ghost use Prim.Native.Nat.{_≤_, _<_};
