@@ -3,17 +3,17 @@
 use Prim.Native.Nat.{ℕ, _+_, _≤_, _<_}
 use native.Mathlib.Omega.{arith}
 use mathlib.Core.Path.{_≡_, refl, sym, ap, _∙_}
-use mathlib.Core.Bool.{Bool, true, false}
+use mathlib.Core.Bool.{Bool, true, false, cond}
 use mathlib.Core.Logic.{_≢_}
 use mathlib.Core.List.{List}
 use lib.ListN.{length, getD, take, length-set, length-take}
 use lib.Seq.{lt-length-set, getD-set-same, getD-set-other}
-use lib.Dec.{T}
+use lib.Dec.{T, ltb}
 use Rattle.text.specs.Text.{Text, Span, eqText, part}
 use Rattle.text.proofs.Equal.{eqText-eq, eqText-refl}
 use Rattle.text.proofs.Parts.{part-take, part-length}
 use Rattle.spec_exi.specs.Tables.{Placed, spanOf}
-use Rattle.mem_entries.specs.Texts.{rowHas, withText, Names, Grown, Lies}
+use Rattle.mem_entries.specs.Texts.{rowHas, withText, Names, Grown, Lies, storeOf}
 
 pub text-is : (a b : Text) → eqText a b ≡ true → a ≡ b
 text-is a b e = eqText-eq a b (rw e tt)
@@ -24,6 +24,15 @@ is-text a b e = rw e (is-true (eqText b b) (eqText-refl b))
     is-true : (b : Bool) → T b → b ≡ true
     is-true true t = refl
     is-true false t = absurd t
+
+-- Where first rows and others lie in one store.
+pub one-store : (first : ℕ) (store : List ℕ) (i : ℕ) → store ≡ storeOf first store store i
+unfolding storeOf
+one-store first store i = either (ltb i first)
+  where
+    either : (b : Bool) → store ≡ cond b store store
+    either true = refl
+    either false = refl
 
 -- A row has a text if its string has it.
 pub row-text : {work store : List ℕ} {stored place size : ℕ} {s : Placed} (x : Text)

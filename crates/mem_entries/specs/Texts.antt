@@ -1,9 +1,10 @@
 -- Strings of the text store that two cells of work memory name, and the hash of a text.
 use Prim.Native.Nat.{ℕ, _+_, _*_, _%_, _≤_, _<_}
 use mathlib.Core.Path.{_≡_}
-use mathlib.Core.Bool.{Bool}
+use mathlib.Core.Bool.{Bool, cond}
 use mathlib.Core.List.{List, [], _∷_}
 use lib.ListN.{length, getD, set, take}
+use lib.Dec.{ltb}
 use Rattle.text.specs.Text.{Text, eqText, part}
 use Rattle.spec_exi.specs.Tables.{Placed, spanOf}
 
@@ -31,6 +32,22 @@ rowHas work store place size x =
 
 unfoldable pub withText : List ℕ → ℕ → ℕ → ℕ → ℕ → List ℕ
 withText work place size from long = set (set work place from) size long
+
+-- Where the text of a row lies: in the first cells of a store.
+pub record Source : Type 0 where
+  pub store : List ℕ
+  pub stored : ℕ
+
+abbrev pub upTo : List ℕ → ℕ → Source
+upTo store stored = record { store = store; stored = stored }
+
+-- All rows in one store.
+abbrev pub throughout : List ℕ → ℕ → ℕ → Source
+throughout store stored i = upTo store stored
+
+-- The first rows in a store of their own: a writer's initial entries.
+unfoldable pub storeOf : ℕ → List ℕ → List ℕ → ℕ → List ℕ
+storeOf first opening store i = cond (ltb i first) opening store
 
 -- Two cells name this string, and it lies in the first cells of the store.
 pub record Names (work store : List ℕ) (stored place size : ℕ) (x : Placed) : Type 0 where

@@ -15,6 +15,7 @@ use Rattle.spec_exi.specs.Tables.{nameAllowed, newUri, newName, newEntry, newVa
 use Rattle.spec_exi.specs.Tables.{xmlUri, xsiUri, initialEntries, addedAll, startTables}
 use Rattle.spec_exi.specs.Context.{start}
 use Rattle.mem_layout.specs.Layout.{zeroCells, workCells}
+use Rattle.mem_entries.specs.Texts.{throughout}
 use Rattle.mem_chain.specs.Chain.{firstThat}
 use Rattle.mem_entries.specs.Entries.{entryAt, named}
 use Rattle.mem_names.specs.Uris.{uriAt}
@@ -27,7 +28,7 @@ use Rattle.mem_learned.proofs.Grammars.{grammars-none}
 use Rattle.mem_rows.specs.Rows.{placedAt, nameAt, tablesOf, backward, learnedOf, grammarsOf}
 use Rattle.mem_rows.specs.Rows.{stateOf, contextOf, withUri, withName}
 use Rattle.mem_rows.specs.Valid.{Valid}
-use Rattle.mem_state.specs.Holds.{taughtIn, Holds, Bounded, Topped, Represents, contextAt}
+use Rattle.mem_state.specs.Holds.{taughtIn, inStore, Holds, Bounded, Topped, Represents, contextAt}
 use Rattle.mem_initial.specs.Initial.{initialUris, initialNames, together, urisText}
 use Rattle.mem_initial.specs.Initial.{namesText, initialText, withText, urisLaid, namesLaid}
 use Rattle.mem_initial.specs.Initial.{withRows, plusUris, plusNames, noRows, initialRows}
@@ -61,12 +62,12 @@ none-valid =
 module _ (work : List ℕ) (room : workCells ≤ length work)
     (zeros : (j : ℕ) → j < zeroCells → getD work j 0 ≡ 0) where
   none-holds : (store : List ℕ) (stored : ℕ) → stored ≤ length store
-      → Holds work store stored noRows
+      → Holds work (inStore store stored) noRows
   unfolding taughtIn replaced globalNumber
   none-holds store stored inside =
       record {
-        uris = uris-none work store stored room inside;
-        names = names-none work store stored room inside (λ j h. zeros j (omega arith));
+        uris = uris-none work (throughout store stored) room;
+        names = names-none work (throughout store stored) room (λ j h. zeros j (omega arith));
         values = record {
           holds = values-none work store stored room inside (λ j h. zeros j (omega arith));
           differ = record { texts = λ i j _ h k e. absurd (omega arith) };

@@ -22,7 +22,7 @@ use Rattle.mem_names.specs.Names as names
 use Rattle.mem_rows.specs.Rows.{Rows, nameAt, withUri, withName}
 use Rattle.mem_rows.specs.Valid.{Valid}
 use Rattle.mem_rows.proofs.Grown.{uri-grows, name-grows}
-use Rattle.mem_state.specs.Holds.{Holds}
+use Rattle.mem_state.specs.Holds.{inStore, Holds}
 use Rattle.mem_state.proofs.Joins.{holds-uri, holds-name}
 use Rattle.mem_initial.specs.Initial.{Local, together, withUris, withNames, plusUris}
 use Rattle.mem_initial.specs.Initial.{plusNames}
@@ -30,7 +30,7 @@ use Rattle.mem_initial.proofs.Texts.{Has, first-lies, rest-has}
 
 pub record Stands (work store : List ℕ) (stored : ℕ) (w : Rows) : Type 0 where
   pub valid : Valid w
-  pub holds : Holds work store stored w
+  pub holds : Holds work (inStore store stored) w
 
 -- ---- tests of what joins: there is room, and it is not there yet
 

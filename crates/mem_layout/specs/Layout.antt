@@ -176,6 +176,13 @@ nameBuckets = 64
 abbrev pub uriRows : ℕ
 uriRows = 16
 
+-- rows of the initial entries
+abbrev pub openingUris : ℕ
+openingUris = 3
+
+abbrev pub openingNames : ℕ
+openingNames = 6
+
 -- sites at which productions are learned: two a name, and two more
 abbrev pub sites : ℕ
 sites = 258

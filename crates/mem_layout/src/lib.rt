@@ -130,5 +130,10 @@ pub const NAME_BUCKETS: u32 = 64;
 
 pub const URI_ROWS: u32 = 16;
 
+// rows of the initial entries
+pub const OPENING_URIS: usize = 3;
+
+pub const OPENING_NAMES: usize = 6;
+
 // sites at which productions are learned: two a name, and two more
 pub const SITES: u32 = 258;

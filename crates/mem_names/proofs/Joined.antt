@@ -22,7 +22,7 @@ use Rattle.mem_index.specs.declared.Index.{Index}
 use Rattle.mem_index.specs.Index.{joined, Numbered}
 use Rattle.mem_index.proofs.More.{OrderedCounts, Off, SameIndex, numbered-same, numbered-none}
 use Rattle.mem_index.proofs.More.{numbered-more, joined-length, joined-other}
-use Rattle.mem_entries.specs.Texts.{hashOf, withText, Names, Grown, Lies}
+use Rattle.mem_entries.specs.Texts.{hashOf, withText, Names, Grown, Lies, Source, throughout}
 use Rattle.mem_entries.specs.Entries.{Entries, entryAt, keyAt, joinedBy}
 use Rattle.mem_entries.proofs.Texts.{names-same, names-grown, put-length, put-other, put-names}
 use Rattle.mem_entries.proofs.Entries.{entry-old, entry-new}
@@ -57,8 +57,8 @@ same-index s =
       nexts = record { cells = λ i l. s .columns (nameCodeNexts + i) (omega arith) (omega arith) };
     }
 
-pub names-kept : {work after store : List ℕ} {stored n : ℕ} {ns : Entries} → SameNames work after
-    → NamesHold work store stored n ns → NamesHold after store stored n ns
+pub names-kept : {work after : List ℕ} {from : ℕ → Source} {n : ℕ} {ns : Entries}
+    → SameNames work after → NamesHold work from n ns → NamesHold after from n ns
 names-kept s h =
     record {
       room = s .room;
@@ -83,29 +83,28 @@ names-kept s h =
 
 -- The first cells of the store stay, and it grows.
 pub names-longer : {work before after : List ℕ} {stored more n : ℕ} {ns : Entries}
-    → Grown before after stored more → NamesHold work before stored n ns
-    → NamesHold work after more n ns
+    → Grown before after stored more → NamesHold work (throughout before stored) n ns
+    → NamesHold work (throughout after more) n ns
 names-longer g h =
     record {
       room = h .room;
-      inside = g .inside;
+      inside = λ i l. g .inside;
       count = h .count;
       few = h .few;
-      rows = λ i l. names-grown g (h .inside) (h .rows i l);
+      rows = λ i l. names-grown g (h .inside i l) (h .rows i l);
       firsts = h .firsts;
       byUri = h .byUri;
       byText = h .byText;
     }
 
 -- Memory whose heads and counts are zero has no name.
-pub names-none : (work store : List ℕ) (stored : ℕ) → workCells ≤ length work
-    → stored ≤ length store
-    → ((j : ℕ) → j < nameMarks → getD work j 0 ≡ 0) → NamesHold work store stored 0 []
+pub names-none : (work : List ℕ) (from : ℕ → Source) → workCells ≤ length work
+    → ((j : ℕ) → j < nameMarks → getD work j 0 ≡ 0) → NamesHold work from 0 []
 unfolding lastThat
-names-none work store stored room inside zeros =
+names-none work from room zeros =
     record {
       room = room;
-      inside = inside;
+      inside = λ i l. absurd (omega arith);
       count = refl;
       few = omega arith;
       rows = λ i l. absurd (omega arith);
@@ -218,9 +217,9 @@ module _ (work : List ℕ) (n uri place size h : ℕ) where
 
     -- ---- the table with it
 
-    module _ {store : List ℕ} {stored : ℕ} {ns : Entries} (t : NamesHold work store stored n ns)
+    module _ {from : ℕ → Source} {ns : Entries} (t : NamesHold work from n ns)
         (x : Text)
-        (lies : Lies store stored place size x) (hash : h ≡ hashOf x)
+        (lies : Lies (from n .store) (from n .stored) place size x) (hash : h ≡ hashOf x)
         (fresh : firstThat (isEntry ns uri x) n ≡ 0) where
       abbrev new : Entry ℕ
       new = record { key = uri; string = record { place = place; text = x } }
@@ -371,11 +370,11 @@ module _ (work : List ℕ) (n uri place size h : ℕ) where
           (λ a b. omega arith)
 
       rows-old : (i : ℕ) → i < n
-          → Names (withName work n uri place size h) store stored (namePlaces + i) (nameSizes + i)
-          (entryAt after i .string)
+          → Names (withName work n uri place size h) (from i .store) (from i .stored)
+          (namePlaces + i) (nameSizes + i) (entryAt after i .string)
       rows-old i l =
-          subst (λ (e : Entry ℕ). Names (withName work n uri place size h) store stored
-          (namePlaces + i) (nameSizes + i) (e .string))
+          subst (λ (e : Entry ℕ). Names (withName work n uri place size h) (from i .store)
+          (from i .stored) (namePlaces + i) (nameSizes + i) (e .string))
           (sym (entry-same i l))
           (names-same
           (column-cells (namePlaces + i) (omega arith) (omega arith) (λ a. omega arith)
@@ -384,12 +383,12 @@ module _ (work : List ℕ) (n uri place size h : ℕ) where
           ∙ cells-other (nameSizes + i) (λ e. omega arith) (λ e. omega arith) (λ e. omega arith))
           (t .rows i l))
 
-      rows-new : Names (withName work n uri place size h) store stored (namePlaces + n)
-          (nameSizes + n) (entryAt after n .string)
+      rows-new : Names (withName work n uri place size h) (from n .store) (from n .stored)
+          (namePlaces + n) (nameSizes + n) (entryAt after n .string)
       rows-new =
           let w : workCells ≤ length work = t .room in
-          subst (λ (e : Entry ℕ). Names (withName work n uri place size h) store stored
-          (namePlaces + n) (nameSizes + n) (e .string))
+          subst (λ (e : Entry ℕ). Names (withName work n uri place size h) (from n .store)
+          (from n .stored) (namePlaces + n) (nameSizes + n) (e .string))
           (sym entry-here)
           (names-same
           (column-cells (namePlaces + n) (omega arith) (omega arith) (λ a. omega arith)
@@ -397,16 +396,19 @@ module _ (work : List ℕ) (n uri place size h : ℕ) where
           (column-cells (nameSizes + n) (omega arith) (omega arith) (λ a. omega arith)
           ∙ text-cells (nameSizes + n) (λ e. omega arith))
           (put-names work (namePlaces + n) (nameSizes + n) place size (omega arith) (omega arith)
-          (λ e. omega arith) store stored x lies))
+          (λ e. omega arith) (from n .store) (from n .stored) x lies))
 
-      pub names-more : NamesHold (withName work n uri place size h) store stored (suc n)
+      pub names-more : NamesHold (withName work n uri place size h) from (suc n)
           (joinedBy ns uri place x)
       unfolding after
       names-more =
           let w : workCells ≤ length work = t .room in
           record {
             room = omega (arith, added-length, t .room);
-            inside = t .inside;
+            inside = λ i l.
+                split (eqb i n)
+                (λ e. let z : i ≡ n = eqb-true i n e in rw z (lies .inside))
+                (λ e. t .inside i (omega (arith, eqb-false i n e)));
             count = length-append ns (new ∷ []) ∙ (omega (arith, t .count));
             few = omega arith;
             rows = λ i l.

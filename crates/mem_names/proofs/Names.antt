@@ -6,12 +6,12 @@ use mathlib.Core.Bool.{Bool, true, false, cond, _&&_, true≢false}
 use mathlib.Core.List.{List, [], _∷_, _++_}
 use lib.ListN.{length, getD, length-append}
 use lib.Dec.{eqb, ltb}
-use borrow.Author.Tests.{eqb-true, eqb-false, eq-eqb, ne-eqb, ltb-true, ltb-false, lt-ltb}
+use borrow.Author.Tests.{eqb-true, eqb-false, eq-eqb, ne-eqb, ltb-true, ltb-false, lt-ltb, le-ltb}
 use Rattle.text.specs.Text.{Text, eqText}
 use Rattle.spec_exi.specs.Tables.{Entry}
 use Rattle.mem_layout.specs.Layout.{nameTextHeads, nameTextNexts, nameBuckets, nameRows, nameCounts}
 use Rattle.mem_layout.specs.Layout.{namePlaces, nameSizes, nameCodes, nameFirsts, uriRows}
-use Rattle.mem_layout.specs.Layout.{workCells}
+use Rattle.mem_layout.specs.Layout.{workCells, openingNames}
 use Rattle.mem_chain.specs.Chain.{firstThat, lastThat, below, inBucket}
 use Rattle.mem_chain.proofs.Last.{split, last-same, since-all, below-in, below-less}
 use Rattle.mem_chain.proofs.First.{first-here, first-most, first-is, first-before, first-same}
@@ -23,14 +23,14 @@ use Rattle.mem_index.specs.declared.Index.{Index}
 use Rattle.mem_index.specs.Index.{numbers, tally, hasKey, codeAt, Counted, NthFound, Asking}
 use Rattle.mem_index.specs.Index.{Joining}
 use Rattle.mem_index.proofs.Codes.{and-true, both, code-key, code-number}
-use Rattle.mem_entries.specs.Texts.{hashOf, rowHas}
+use Rattle.mem_entries.specs.Texts.{hashOf, rowHas, Source, storeOf}
 use Rattle.mem_entries.specs.Entries.{Entries, keyAt, textAt, hasTextAt}
 use Rattle.mem_entries.proofs.Texts.{text-is, is-text, row-text}
 use Rattle.mem_entries.proofs.Entries.{entry-old, entry-new, given-tally}
 use Rattle.mem_names.specs.declared.Name.{Name}
 use Rattle.mem_names.specs.Names.{isEntry, firstName, isName, nameIndex, nameSpot}
 use Rattle.mem_names.specs.Names.{nameBucket, NamesHold, rowIsName, nameFoundIn, nameIn}
-use Rattle.mem_names.specs.Names.{FoundName, CountedNames, NthName, NameAt}
+use Rattle.mem_names.specs.Names.{FoundName, CountedNames, NthName, NameAt, nameStore}
 
 pub entry-is : (ns : Entries) (k : ℕ) (x : Text) (i : ℕ) → keyAt ns i ≡ k → textAt ns i ≡ x
     → isEntry ns k x i ≡ true
@@ -197,7 +197,7 @@ module _ (ns : Entries) (e : Entry ℕ) where
 
 -- ---- the turns of `find_name`
 
-module _ {work store : List ℕ} {stored n : ℕ} {ns : Entries} (h : NamesHold work store stored n ns)
+module _ {work : List ℕ} {from : ℕ → Source} {n : ℕ} {ns : Entries} (h : NamesHold work from n ns)
   where
     code-uri : (i : ℕ) → i < n → getD work (nameCodes + i) 0 / numbers ≡ keyAt ns i
     code-uri i l =
@@ -208,11 +208,14 @@ module _ {work store : List ℕ} {stored n : ℕ} {ns : Entries} (h : NamesHold 
         ap (λ j. getD work (nameCodes + j) 0 / numbers) (sym z) ∙ ap (λ k. k / numbers) c
         ∙ code-key (keyAt ns) i (omega arith)
 
-    pub row-name : (uri : ℕ) (x : Text) (i : ℕ) → i < n → rowIsName work store uri x i
-        ≡ isEntry ns uri x i
+    pub row-name : {stores : ℕ → List ℕ} → ((i : ℕ) → from i .store ≡ stores i)
+        → (uri : ℕ) (x : Text) (i : ℕ) → i < n → rowIsName work stores uri x i ≡ isEntry ns uri x i
     unfolding rowIsName
-    row-name uri x i l =
-        ap (λ k. eqb k uri && rowHas work store (namePlaces + i) (nameSizes + i) x) (code-uri i l)
+    row-name {stores = stores} same uri x i l =
+        ap (λ k. eqb k uri && rowHas work (stores i) (namePlaces + i) (nameSizes + i) x)
+        (code-uri i l)
+        ∙ ap (λ s. eqb (keyAt ns i) uri && rowHas work s (namePlaces + i) (nameSizes + i) x)
+        (sym (same i))
         ∙ ap (λ b. eqb (keyAt ns i) uri && b) (row-text x (h .rows i l))
         ∙ ap (λ b. b && hasTextAt ns x i) (turned (keyAt ns i) uri)
       where
@@ -222,13 +225,15 @@ module _ {work store : List ℕ} {stored n : ℕ} {ns : Entries} (h : NamesHold 
             (λ e. e ∙ sym (eq-eqb b a (sym (eqb-true a b e))))
             (λ e. e ∙ sym (ne-eqb b a (λ z. eqb-false a b e (sym z))))
 
-pub record Premise (work store : List ℕ) (uri : ℕ) (x : List ℕ) (h n : ℕ) : Type 0 where
-  pub stored : ℕ
+pub record Premise (work : List ℕ) (stores : ℕ → List ℕ) (uri : ℕ) (x : List ℕ) (h n : ℕ)
+    : Type 0 where
+  pub from : ℕ → Source
   pub names : Entries
-  pub holds : NamesHold work store stored n names
+  pub holds : NamesHold work from n names
+  pub same : (i : ℕ) → from i .store ≡ stores i
   pub hash : h ≡ hashOf x
 
-abbrev pub Seeking : List ℕ → List ℕ → ℕ → List ℕ → ℕ → ℕ → ℕ → Type 0
+abbrev pub Seeking : List ℕ → (ℕ → List ℕ) → ℕ → List ℕ → ℕ → ℕ → ℕ → Type 0
 Seeking work store uri x h n c =
     Turn (Premise work store uri x h n) work (nameTextHeads + nameSpot h uri) nameTextNexts nameRows
     n 0
@@ -239,7 +244,7 @@ spot-low : (h uri : ℕ) → nameSpot h uri < nameBuckets
 unfolding nameSpot
 spot-low h uri = omega arith
 
-module _ {work store : List ℕ} {uri : ℕ} {x : List ℕ} {h n : ℕ} where
+module _ {work : List ℕ} {store : ℕ → List ℕ} {uri : ℕ} {x : List ℕ} {h n : ℕ} where
   found : {r : ℕ}
       → Answer (Premise work store uri x h n) work (nameTextHeads + nameSpot h uri) nameTextNexts
       nameRows n 0
@@ -250,8 +255,8 @@ module _ {work store : List ℕ} {uri : ℕ} {x : List ℕ} {h n : ℕ} where
       record {
         is = a .is;
         within = a .within;
-        means = λ stored ns t b.
-            a .newest (record { stored = stored; names = ns; holds = t; hash = b })
+        means = λ from ns t e b.
+            a .newest (record { from = from; names = ns; holds = t; same = e; hash = b })
             ∙ since-all (lastThat (sought ns uri x) n) ∙ last-sought ns uri x n;
       }
 
@@ -283,7 +288,7 @@ module _ {work store : List ℕ} {uri : ℕ} {x : List ℕ} {h n : ℕ} where
           let l : c - 1 < n = turn-row t up in
           let few : n ≤ nameRows = p .holds .few in
           let z : (c - 1) % nameRows ≡ c - 1 = omega arith in
-          ap (rowIsName work store uri x) z ∙ row-name (p .holds) uri x (c - 1) l
+          ap (rowIsName work store uri x) z ∙ row-name (p .holds) (p .same) uri x (c - 1) l
 
       -- A row of the chain is first of its text.
       first : (p : Premise work store uri x h n) → firstName (p .names) (c - 1) ≡ suc (c - 1)
@@ -338,7 +343,7 @@ nth-is {work} {x} {uri} {number} {n} {r} e f =
     record {
       is = g .is;
       within = g .within;
-      means = λ store stored ns h. g .newest nameCounts uriRows (keyAt ns) (h .byUri) (h .few)
+      means = λ from ns h. g .newest nameCounts uriRows (keyAt ns) (h .byUri) (h .few)
           ∙ since-all _;
     }
 
@@ -348,7 +353,7 @@ counted-names {uri = uri} l f =
     record {
       is = f .is;
       within = f .within;
-      count = λ store stored n ns h.
+      count = λ from n ns h.
           f .means nameIndex uriRows (keyAt ns) n (h .byUri) l
           ∙ ap (tally (hasKey (keyAt ns) uri)) (sym (h .count)) ∙ sym (given-tally ns uri);
     }
@@ -361,7 +366,7 @@ name-at-is {work} {row} low =
       low = below-less uriRows (getD work (nameCodes + row) 0 / numbers) (omega arith);
       small = omega arith;
       lowFirst = below-less nameRows (getD work (nameFirsts + row) 0) (omega arith);
-      means = λ store stored n ns h l.
+      means = λ from n ns h l.
           let few : n ≤ nameRows = h .few in
           let z : row % nameRows ≡ row = omega arith in
           let k : getD work (nameCodes + row) 0 ≡ codeAt (keyAt ns) row =
@@ -424,17 +429,24 @@ name-at-made {work} {row} {u} {f} low d e =
     })) (sym d)
     (name-at-is low))
 
--- Whether a row has URI and text, by the two tests.
-module _ (work store : List ℕ) (uri : ℕ) (x : List ℕ) (row : ℕ) where
+-- Whether a row has URI and text, by the tests.
+module _ (work opening store : List ℕ) (uri : ℕ) (x : List ℕ) (row : ℕ) where
   pub other-uri : (getD work (nameCodes + row) 0 / numbers ≡ uri → ⊥)
-      → false ≡ rowIsName work store uri x row
+      → false ≡ rowIsName work (nameStore opening store) uri x row
   unfolding rowIsName
   other-uri ne = rw (ne-eqb (getD work (nameCodes + row) 0 / numbers) uri ne)
 
-  pub same-uri : getD work (nameCodes + row) 0 / numbers ≡ uri → {b : Bool}
-      → b ≡ rowHas work store (namePlaces + row) (nameSizes + row) x
-      → b ≡ rowIsName work store uri x row
-  unfolding rowIsName
-  same-uri z e =
-      e ∙ sym (ap (λ c. c && rowHas work store (namePlaces + row) (nameSizes + row) x)
-      (eq-eqb (getD work (nameCodes + row) 0 / numbers) uri z))
+  module _ (z : getD work (nameCodes + row) 0 / numbers ≡ uri) {b : Bool} where
+    pub opening-has : row < openingNames
+        → b ≡ rowHas work opening (namePlaces + row) (nameSizes + row) x
+        → b ≡ rowIsName work (nameStore opening store) uri x row
+    unfolding rowIsName storeOf
+    opening-has l e =
+        rw (eq-eqb (getD work (nameCodes + row) 0 / numbers) uri z, lt-ltb row openingNames l) e
+
+    pub store-has : openingNames ≤ row
+        → b ≡ rowHas work store (namePlaces + row) (nameSizes + row) x
+        → b ≡ rowIsName work (nameStore opening store) uri x row
+    unfolding rowIsName storeOf
+    store-has l e =
+        rw (eq-eqb (getD work (nameCodes + row) 0 / numbers) uri z, le-ltb row openingNames l) e

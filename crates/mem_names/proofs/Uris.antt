@@ -2,28 +2,29 @@
 use Prim.Native.Nat.{ℕ, suc, _+_, _≤_, _<_}
 use native.Mathlib.Omega.{arith}
 use mathlib.Core.Path.{_≡_, refl, sym, ap, subst, _∙_}
-use mathlib.Core.Bool.{true, false, true≢false}
+use mathlib.Core.Bool.{Bool, true, false, true≢false}
 use mathlib.Core.Logic.{_≢_}
 use mathlib.Core.List.{List, [], _∷_, _++_}
 use lib.ListN.{length, getD, set, length-set, length-append, List·getD-append}
 use lib.Seq.{getD-set-same, getD-set-other, getD-append-seam}
 use lib.Dec.{eqb, ltb}
-use borrow.Author.Tests.{eqb-true, eqb-false, eq-eqb, ltb-true, ltb-false, lt-ltb}
+use borrow.Author.Tests.{eqb-true, eqb-false, eq-eqb, ltb-true, ltb-false, lt-ltb, le-ltb}
 use Rattle.text.specs.Text.{Text, eqText}
 use Rattle.spec_exi.specs.Tables.{Placed}
 use Rattle.mem_layout.specs.Layout.{uriPlaces, uriSizes, uriFirsts, uriRows, namePlaces, workCells}
+use Rattle.mem_layout.specs.Layout.{openingUris}
 use Rattle.mem_chain.specs.Chain.{firstThat, below}
 use Rattle.mem_chain.proofs.Last.{split, below-in, below-less}
 use Rattle.mem_chain.proofs.First.{first-start, first-here, first-on, first-most, first-is}
 use Rattle.mem_chain.proofs.First.{first-none}
 use Rattle.mem_chain.proofs.First.{first-before, first-found, first-same, first-zero}
 use Rattle.mem_index.proofs.Codes.{and-true, both}
-use Rattle.mem_entries.specs.Texts.{withText, Names, Grown, Lies}
+use Rattle.mem_entries.specs.Texts.{rowHas, withText, Names, Grown, Lies, Source, throughout, storeOf}
 use Rattle.mem_entries.proofs.Texts.{text-is, is-text, row-text, names-same, names-grown}
 use Rattle.mem_entries.proofs.Texts.{put-length}
 use Rattle.mem_entries.proofs.Texts.{put-other, put-names}
 use Rattle.mem_names.specs.Uris.{noUri, uriAt, uriText, hasUri, firstUri, isUri, UrisHold}
-use Rattle.mem_names.specs.Uris.{uriHasText, uriIn, withUri, FoundUri, UriAt}
+use Rattle.mem_names.specs.Uris.{uriHasText, uriStore, uriIn, withUri, FoundUri, UriAt}
 
 -- ---- first rows
 
@@ -151,25 +152,39 @@ module _ (us : List Placed) (u : Placed) where
 
 -- ---- cells
 
-module _ {work store : List ℕ} {stored n : ℕ} {us : List Placed}
-    (h : UrisHold work store stored n us) where
-  pub row-has : (x : Text) (i : ℕ) → i < n → uriHasText work store x i ≡ hasUri us x i
+module _ {work : List ℕ} {from : ℕ → Source} {n : ℕ} {us : List Placed}
+    (h : UrisHold work from n us) {stores : ℕ → List ℕ}
+    (e : (i : ℕ) → from i .store ≡ stores i) where
+  pub row-has : (x : Text) (i : ℕ) → i < n → uriHasText work stores x i ≡ hasUri us x i
   unfolding uriHasText
-  row-has x i l = row-text x (h .rows i l)
+  row-has x i l =
+      ap (λ s. rowHas work s (uriPlaces + i) (uriSizes + i) x) (sym (e i)) ∙ row-text x (h .rows i l)
+
+-- Whether a row has the text, by the store that it lies in.
+module _ (work opening store : List ℕ) (x : List ℕ) (row : ℕ) {b : Bool} where
+  pub opening-has : row < openingUris → b ≡ rowHas work opening (uriPlaces + row) (uriSizes + row) x
+      → b ≡ uriHasText work (uriStore opening store) x row
+  unfolding uriHasText storeOf
+  opening-has l e = rw (lt-ltb row openingUris l) e
+
+  pub store-has : openingUris ≤ row → b ≡ rowHas work store (uriPlaces + row) (uriSizes + row) x
+      → b ≡ uriHasText work (uriStore opening store) x row
+  unfolding uriHasText storeOf
+  store-has l e = rw (le-ltb row openingUris l) e
 
 -- The turns of `find_uri`: no row before i has the text.
-pub record Looking (work store x : List ℕ) (n i : ℕ) : Type 0 where
+pub record Looking (work : List ℕ) (store : ℕ → List ℕ) (x : List ℕ) (n i : ℕ) : Type 0 where
   pub inside : i ≤ n
   pub none : firstThat (uriHasText work store x) i ≡ 0
 
-module _ {work store x : List ℕ} {n : ℕ} where
+module _ {work : List ℕ} {store : ℕ → List ℕ} {x : List ℕ} {n : ℕ} where
   found : {r : ℕ} → r ≡ firstThat (uriHasText work store x) n → FoundUri work store x n r
   found e =
       record {
         is = e;
         within = omega (arith, first-most (uriHasText work store x) n);
-        means = λ stored us h. e
-            ∙ first-same (uriHasText work store x) (hasUri us x) n (λ i l. row-has h x i l);
+        means = λ from us h same. e
+            ∙ first-same (uriHasText work store x) (hasUri us x) n (λ i l. row-has h same x i l);
       }
 
   pub look-start : Looking work store x n 0
@@ -204,7 +219,7 @@ uri-at-is {work} {row} low =
     record {
       is = refl;
       low = below-less uriRows (getD work (uriFirsts + row) 0) (omega arith);
-      means = λ store stored n us h l.
+      means = λ from n us h l.
           let f : suc (getD work (uriFirsts + row) 0) ≡ firstUri us row = h .firsts row l in
           record {
             place = h .rows row l .place-is;
@@ -219,8 +234,8 @@ pub record SameUris (work after : List ℕ) : Type 0 where
   pub room : workCells ≤ length after
   pub cells : (j : ℕ) → uriPlaces ≤ j → j < namePlaces → getD after j 0 ≡ getD work j 0
 
-pub uris-kept : {work after store : List ℕ} {stored n : ℕ} {us : List Placed} → SameUris work after
-    → UrisHold work store stored n us → UrisHold after store stored n us
+pub uris-kept : {work after : List ℕ} {from : ℕ → Source} {n : ℕ} {us : List Placed}
+    → SameUris work after → UrisHold work from n us → UrisHold after from n us
 uris-kept s h =
     record {
       room = s .room;
@@ -237,24 +252,24 @@ uris-kept s h =
     }
 
 pub uris-grown : {work before after : List ℕ} {stored more n : ℕ} {us : List Placed}
-    → Grown before after stored more → UrisHold work before stored n us
-    → UrisHold work after more n us
+    → Grown before after stored more → UrisHold work (throughout before stored) n us
+    → UrisHold work (throughout after more) n us
 uris-grown g h =
     record {
       room = h .room;
-      inside = g .inside;
+      inside = λ i l. g .inside;
       count = h .count;
       few = h .few;
-      rows = λ i l. names-grown g (h .inside) (h .rows i l);
+      rows = λ i l. names-grown g (h .inside i l) (h .rows i l);
       firsts = h .firsts;
     }
 
-pub uris-none : (work store : List ℕ) (stored : ℕ) → workCells ≤ length work → stored ≤ length store
-    → UrisHold work store stored 0 []
-uris-none work store stored room inside =
+pub uris-none : (work : List ℕ) (from : ℕ → Source) → workCells ≤ length work
+    → UrisHold work from 0 []
+uris-none work from room =
     record {
       room = room;
-      inside = inside;
+      inside = λ i l. absurd (omega arith);
       count = refl;
       few = omega arith;
       rows = λ i l. absurd (omega arith);
@@ -294,9 +309,8 @@ module _ (work : List ℕ) (n place size first : ℕ) where
         uri-far j (λ e. off (omega arith) (omega arith)) (λ e. off (omega arith) (omega arith))
         (λ e. off (omega arith) (omega arith))
 
-    module _ {store : List ℕ} {stored : ℕ} {us : List Placed} (h : UrisHold work store stored n us)
-        (x : Text)
-        (lies : Lies store stored place size x)
+    module _ {from : ℕ → Source} {us : List Placed} (h : UrisHold work from n us) (x : Text)
+        (lies : Lies (from n .store) (from n .stored) place size x)
         (is : suc first ≡ firstUri (us ++ (record { place = place; text = x } ∷ [])) n) where
       abbrev new : Placed
       new = record { place = place; text = x }
@@ -305,36 +319,39 @@ module _ (work : List ℕ) (n place size first : ℕ) where
       at-new = ap (uriAt (us ++ (new ∷ []))) (sym (h .count)) ∙ uri-new us new
 
       rows-old : (i : ℕ) → i < n
-          → Names (withUri work n place size first) store stored (uriPlaces + i) (uriSizes + i)
-          (uriAt (us ++ (new ∷ [])) i)
+          → Names (withUri work n place size first) (from i .store) (from i .stored) (uriPlaces + i)
+          (uriSizes + i) (uriAt (us ++ (new ∷ [])) i)
       rows-old i l =
-          subst (λ (y : Placed). Names (withUri work n place size first) store stored
-          (uriPlaces + i) (uriSizes + i) y)
+          subst (λ (y : Placed). Names (withUri work n place size first) (from i .store)
+          (from i .stored) (uriPlaces + i) (uriSizes + i) y)
           (sym (uri-old us new i (omega (arith, h .count))))
           (names-same
           (uri-far (uriPlaces + i) (λ e. omega arith) (λ e. omega arith) (λ e. omega arith))
           (uri-far (uriSizes + i) (λ e. omega arith) (λ e. omega arith) (λ e. omega arith))
           (h .rows i l))
 
-      rows-new : Names (withUri work n place size first) store stored (uriPlaces + n) (uriSizes + n)
-          (uriAt (us ++ (new ∷ [])) n)
+      rows-new : Names (withUri work n place size first) (from n .store) (from n .stored)
+          (uriPlaces + n) (uriSizes + n) (uriAt (us ++ (new ∷ [])) n)
       rows-new =
           let w : workCells ≤ length work = h .room in
-          subst (λ (y : Placed). Names (withUri work n place size first) store stored
-          (uriPlaces + n) (uriSizes + n) y)
+          subst (λ (y : Placed). Names (withUri work n place size first) (from n .store)
+          (from n .stored) (uriPlaces + n) (uriSizes + n) y)
           (sym at-new)
           (names-same (uri-cells (uriPlaces + n) (λ e. omega arith))
           (uri-cells (uriSizes + n) (λ e. omega arith))
           (put-names work (uriPlaces + n) (uriSizes + n) place size (omega arith) (omega arith)
-          (λ e. omega arith) store stored x lies))
+          (λ e. omega arith) (from n .store) (from n .stored) x lies))
 
-      pub uris-more : UrisHold (withUri work n place size first) store stored (suc n)
+      pub uris-more : UrisHold (withUri work n place size first) from (suc n)
           (us ++ (record { place = place; text = x } ∷ []))
       uris-more =
           let w : workCells ≤ length work = h .room in
           record {
             room = omega (arith, uri-length, h .room);
-            inside = h .inside;
+            inside = λ i l.
+                split (eqb i n)
+                (λ e. let z : i ≡ n = eqb-true i n e in rw z (lies .inside))
+                (λ e. h .inside i (omega (arith, eqb-false i n e)));
             count = length-append us (new ∷ []) ∙ (omega (arith, h .count));
             few = omega arith;
             rows = λ i l.

@@ -10,11 +10,11 @@ use Rattle.spec_exi.specs.Event.{QName}
 use Rattle.spec_exi.specs.Tables.{Placed, Tables}
 use Rattle.mem_layout.specs.Layout.{nameTextHeads, nameCodeHeads, nameCounts, nameBuckets, nameRows}
 use Rattle.mem_layout.specs.Layout.{namePlaces, nameSizes, nameCodes, nameTextNexts, nameCodeNexts}
-use Rattle.mem_layout.specs.Layout.{nameFirsts, uriRows, workCells}
+use Rattle.mem_layout.specs.Layout.{nameFirsts, uriRows, workCells, openingNames}
 use Rattle.mem_chain.specs.Chain.{firstThat, lastThat, below, linked, walkedFrom, Chained}
 use Rattle.mem_index.specs.declared.Index.{Index}
 use Rattle.mem_index.specs.Index.{numbers, numberAt, isNumbered, Numbered, countIn, nthIn, joined}
-use Rattle.mem_entries.specs.Texts.{hashOf, rowHas, withText, Names}
+use Rattle.mem_entries.specs.Texts.{hashOf, rowHas, withText, Names, Source, storeOf}
 use Rattle.mem_entries.specs.Entries.{Entries, entryAt, keyAt, textAt, hasTextAt, given, Alike}
 use Rattle.mem_entries.specs.Entries.{named, Keyed}
 use Rattle.mem_names.specs.declared.Name.{Name}
@@ -70,28 +70,33 @@ unfoldable pub nameBucket : Entries → ℕ → ℕ
 nameBucket ns i =
     cond (eqb (firstName ns i) (suc i)) (nameSpot (hashOf (textAt ns i)) (keyAt ns i)) nameBuckets
 
--- Work memory is the table of these n names; their texts lie in the first cells of the store.
-pub record NamesHold (work store : List ℕ) (stored n : ℕ) (ns : Entries) : Type 0 where
+-- Work memory is the table of these n names; their texts lie in first cells of stores.
+pub record NamesHold (work : List ℕ) (from : ℕ → Source) (n : ℕ) (ns : Entries) : Type 0 where
   pub room : workCells ≤ length work
-  pub inside : stored ≤ length store
+  pub inside : (i : ℕ) → i < n → from i .stored ≤ length (from i .store)
   pub count : length ns ≡ n
   pub few : n ≤ nameRows
   pub rows : (i : ℕ) → i < n
-      → Names work store stored (namePlaces + i) (nameSizes + i) (entryAt ns i .string)
+      → Names work (from i .store) (from i .stored) (namePlaces + i) (nameSizes + i)
+      (entryAt ns i .string)
   pub firsts : (i : ℕ) → i < n → suc (getD work (nameFirsts + i) 0) ≡ firstName ns i
   pub byUri : Numbered work nameIndex nameCounts uriRows (keyAt ns) n
   pub byText : Chained work nameTextHeads nameBuckets nameTextNexts nameRows (nameBucket ns) n
 
-unfoldable pub rowIsName : List ℕ → Text → ℕ → Text → ℕ → Bool
-rowIsName work store uri x row =
+-- The store of a row, where the initial entries lie in the opening text.
+abbrev pub nameStore : List ℕ → List ℕ → ℕ → List ℕ
+nameStore = storeOf openingNames
+
+unfoldable pub rowIsName : List ℕ → (ℕ → Text) → ℕ → Text → ℕ → Bool
+rowIsName work stores uri x row =
     eqb (getD work (nameCodes + row) 0 / numbers) uri
-    && rowHas work store (namePlaces + row) (nameSizes + row) x
+    && rowHas work (stores row) (namePlaces + row) (nameSizes + row) x
 
 -- What a search by URI and text finds in memory.
-unfoldable pub nameFoundIn : List ℕ → Text → ℕ → Text → ℕ → ℕ → ℕ
-nameFoundIn work store uri x h n =
+unfoldable pub nameFoundIn : List ℕ → (ℕ → Text) → ℕ → Text → ℕ → ℕ → ℕ
+nameFoundIn work stores uri x h n =
     walkedFrom work (nameTextHeads + nameSpot h uri) nameTextNexts nameRows n 0
-    (rowIsName work store uri x)
+    (rowIsName work stores uri x)
 
 unfoldable pub nameIn : List ℕ → ℕ → Name
 nameIn work row =
@@ -140,22 +145,23 @@ pub record NameSpot (h uri r : ℕ) : Type 0 where
   pub is : r ≡ nameSpot h uri
   pub low : r < nameBuckets
 
-pub record FoundName (work store : List ℕ) (uri : ℕ) (x : List ℕ) (h n r : ℕ) : Type 0 where
-  pub is : r ≡ nameFoundIn work store uri x h n
+pub record FoundName (work : List ℕ) (stores : ℕ → List ℕ) (uri : ℕ) (x : List ℕ) (h n r : ℕ)
+    : Type 0 where
+  pub is : r ≡ nameFoundIn work stores uri x h n
   pub within : r ≤ n
-  pub means : (stored : ℕ) (ns : Entries) → NamesHold work store stored n ns → h ≡ hashOf x
-      → r ≡ firstThat (isEntry ns uri x) n
+  pub means : (from : ℕ → Source) (ns : Entries) → NamesHold work from n ns
+      → ((i : ℕ) → from i .store ≡ stores i) → h ≡ hashOf x → r ≡ firstThat (isEntry ns uri x) n
 
 pub record CountedNames (work : List ℕ) (uri r : ℕ) : Type 0 where
   pub is : r ≡ countIn work nameCounts uri
   pub within : r ≤ numbers
-  pub count : (store : List ℕ) (stored n : ℕ) (ns : Entries) → NamesHold work store stored n ns
+  pub count : (from : ℕ → Source) (n : ℕ) (ns : Entries) → NamesHold work from n ns
       → r ≡ length (given ns uri)
 
 pub record NthName (work : List ℕ) (uri number n r : ℕ) : Type 0 where
   pub is : r ≡ nthIn work nameIndex uri number n 0
   pub within : r ≤ n
-  pub means : (store : List ℕ) (stored : ℕ) (ns : Entries) → NamesHold work store stored n ns
+  pub means : (from : ℕ → Source) (ns : Entries) → NamesHold work from n ns
       → r ≡ lastThat (isNumbered (keyAt ns) uri number) n
 
 pub record IsName (ns : Entries) (i : ℕ) (r : Name) : Type 0 where
@@ -170,5 +176,5 @@ pub record NameAt (work : List ℕ) (row : ℕ) (r : Name) : Type 0 where
   pub low : r .uri < uriRows
   pub small : r .number < numbers
   pub lowFirst : r .first < nameRows
-  pub means : (store : List ℕ) (stored n : ℕ) (ns : Entries) → NamesHold work store stored n ns
-      → row < n → IsName ns row r
+  pub means : (from : ℕ → Source) (n : ℕ) (ns : Entries) → NamesHold work from n ns → row < n
+      → IsName ns row r

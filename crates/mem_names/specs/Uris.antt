@@ -9,8 +9,9 @@ use lib.Dec.{eqb, ltb}
 use Rattle.text.specs.Text.{Text, eqText}
 use Rattle.spec_exi.specs.Tables.{Placed}
 use Rattle.mem_layout.specs.Layout.{uriPlaces, uriSizes, uriFirsts, uriRows, workCells}
+use Rattle.mem_layout.specs.Layout.{openingUris}
 use Rattle.mem_chain.specs.Chain.{firstThat, below}
-use Rattle.mem_entries.specs.Texts.{rowHas, withText, Names}
+use Rattle.mem_entries.specs.Texts.{rowHas, withText, Names, Source, storeOf}
 use Rattle.mem_names.specs.declared.Uri.{Uri}
 
 -- ---- the list
@@ -42,17 +43,23 @@ rowOf (suc i) = some i
 
 -- ---- cells
 
--- Work memory is the table of these n URIs; their texts lie in the first cells of the store.
-pub record UrisHold (work store : List ℕ) (stored n : ℕ) (us : List Placed) : Type 0 where
+-- Work memory is the table of these n URIs; their texts lie in first cells of stores.
+pub record UrisHold (work : List ℕ) (from : ℕ → Source) (n : ℕ) (us : List Placed) : Type 0 where
   pub room : workCells ≤ length work
-  pub inside : stored ≤ length store
+  pub inside : (i : ℕ) → i < n → from i .stored ≤ length (from i .store)
   pub count : length us ≡ n
   pub few : n ≤ uriRows
-  pub rows : (i : ℕ) → i < n → Names work store stored (uriPlaces + i) (uriSizes + i) (uriAt us i)
+  pub rows : (i : ℕ) → i < n
+      → Names work (from i .store) (from i .stored) (uriPlaces + i) (uriSizes + i) (uriAt us i)
   pub firsts : (i : ℕ) → i < n → suc (getD work (uriFirsts + i) 0) ≡ firstUri us i
 
-unfoldable pub uriHasText : List ℕ → Text → Text → ℕ → Bool
-uriHasText work store x row = rowHas work store (uriPlaces + row) (uriSizes + row) x
+-- The store of a row, where the initial entries lie in the opening text.
+abbrev pub uriStore : List ℕ → List ℕ → ℕ → List ℕ
+uriStore = storeOf openingUris
+
+unfoldable pub uriHasText : List ℕ → (ℕ → Text) → Text → ℕ → Bool
+uriHasText work stores x row =
+    rowHas work (stores row) (uriPlaces + row) (uriSizes + row) x
 
 unfoldable pub uriIn : List ℕ → ℕ → Uri
 uriIn work row =
@@ -76,11 +83,11 @@ pub record FindableUri (work : List ℕ) (n : ℕ) : Type 0 where
   pub room : workCells ≤ length work
   pub few : n ≤ uriRows
 
-pub record FoundUri (work store x : List ℕ) (n r : ℕ) : Type 0 where
-  pub is : r ≡ firstThat (uriHasText work store x) n
+pub record FoundUri (work : List ℕ) (stores : ℕ → List ℕ) (x : List ℕ) (n r : ℕ) : Type 0 where
+  pub is : r ≡ firstThat (uriHasText work stores x) n
   pub within : r ≤ n
-  pub means : (stored : ℕ) (us : List Placed) → UrisHold work store stored n us
-      → r ≡ firstThat (hasUri us x) n
+  pub means : (from : ℕ → Source) (us : List Placed) → UrisHold work from n us
+      → ((i : ℕ) → from i .store ≡ stores i) → r ≡ firstThat (hasUri us x) n
 
 pub record IsUri (us : List Placed) (i : ℕ) (r : Uri) : Type 0 where
   pub place : r .place ≡ uriAt us i .place
@@ -90,5 +97,5 @@ pub record IsUri (us : List Placed) (i : ℕ) (r : Uri) : Type 0 where
 pub record UriAt (work : List ℕ) (row : ℕ) (r : Uri) : Type 0 where
   pub is : r ≡ uriIn work row
   pub low : r .first < uriRows
-  pub means : (store : List ℕ) (stored n : ℕ) (us : List Placed) → UrisHold work store stored n us
-      → row < n → IsUri us row r
+  pub means : (from : ℕ → Source) (n : ℕ) (us : List Placed) → UrisHold work from n us → row < n
+      → IsUri us row r

@@ -6,10 +6,11 @@
 ghost use mathlib.Core.Path.{_≡_};
 ghost use Prim.Native.Nat.{_<_};
 ghost use Rattle.mem_names.specs.Uris.{uriHasText, UriRow, FindableUri, FoundUri, UriAt};
-ghost use Rattle.mem_names.specs.Uris.{withUri};
+ghost use Rattle.mem_names.specs.Uris.{uriStore, withUri};
 ghost use Rattle.mem_names.specs.Names.{nameIndex, nameSpot, NameSpot, rowIsName, NameRow};
 ghost use Rattle.mem_names.specs.Names.{FindableName, FoundName, AskableName, CountedNames};
 ghost use Rattle.mem_names.specs.Names.{NthName, NameAt, withCells, withName, AddableName};
+ghost use Rattle.mem_names.specs.Names.{nameStore};
 use mem_index::Index;
 use mem_index::NUMBERS;
 use mem_layout::NAME_BUCKETS;
@@ -23,6 +24,8 @@ use mem_layout::NAME_ROWS;
 use mem_layout::NAME_SIZES;
 use mem_layout::NAME_TEXT_HEADS;
 use mem_layout::NAME_TEXT_NEXTS;
+use mem_layout::OPENING_NAMES;
+use mem_layout::OPENING_URIS;
 use mem_layout::URI_FIRSTS;
 use mem_layout::URI_PLACES;
 use mem_layout::URI_ROWS;
@@ -44,22 +47,28 @@ pub struct Name {
 
 // ---- URIs
 
-fn uri_has(work: &[u32], store: &[u32], row: usize, x: &[u32]) -> bool
+fn uri_has(work: &[u32], opening: &[u32], store: &[u32], row: usize, x: &[u32]) -> bool
     requires { ⌜ UriRow (now work) row ⌝ }
     ensures { λ r. ⌜
-        r ≡ uriHasText (now (work .entry)) (now (store .entry)) (now (x .entry)) row ⌝ }
+        r ≡ uriHasText (now (work .entry)) (uriStore (now (opening .entry)) (now (store .entry)))
+        (now (x .entry)) row ⌝ }
 {
+    if row < OPENING_URIS {
+        return mem_entries::has_text(work, opening, URI_PLACES + row, URI_SIZES + row, x);
+    }
     mem_entries::has_text(work, store, URI_PLACES + row, URI_SIZES + row, x)
 }
 
 // The first row with this text among n.
-pub fn find_uri(work: &[u32], store: &[u32], x: &[u32], n: u32) -> u32
+pub fn find_uri(work: &[u32], opening: &[u32], store: &[u32], x: &[u32], n: u32) -> u32
     requires { ⌜ FindableUri (now work) n ⌝ }
-    ensures { λ r. ⌜ FoundUri (now (work .entry)) (now (store .entry)) (now (x .entry)) n r ⌝ }
+    ensures { λ r. ⌜
+        FoundUri (now (work .entry)) (uriStore (now (opening .entry)) (now (store .entry)))
+        (now (x .entry)) n r ⌝ }
 {
     let mut i: u32 = 0;
     while i < n {
-        if uri_has(work, store, i as usize, x) {
+        if uri_has(work, opening, store, i as usize, x) {
             return i + 1;
         }
         i += 1;
@@ -113,28 +122,41 @@ fn spot(h: u32, uri: u32) -> u32
     (h % NAME_BUCKETS + uri * 37) % NAME_BUCKETS
 }
 
-fn name_has(work: &[u32], store: &[u32], row: usize, uri: u32, x: &[u32]) -> bool
+fn name_has(work: &[u32], opening: &[u32], store: &[u32], row: usize, uri: u32, x: &[u32]) -> bool
     requires { ⌜ NameRow (now work) row ⌝ }
     ensures { λ r. ⌜
-        r ≡ rowIsName (now (work .entry)) (now (store .entry)) uri (now (x .entry)) row ⌝ }
+        r ≡ rowIsName (now (work .entry)) (nameStore (now (opening .entry)) (now (store .entry)))
+        uri (now (x .entry)) row ⌝ }
 {
     if work[NAME_CODES + row] / NUMBERS != uri {
         return false;
+    }
+    if row < OPENING_NAMES {
+        return mem_entries::has_text(work, opening, NAME_PLACES + row, NAME_SIZES + row, x);
     }
     mem_entries::has_text(work, store, NAME_PLACES + row, NAME_SIZES + row, x)
 }
 
 // The first name of a URI with this text, whose hash is h.
-pub fn find_name(work: &[u32], store: &[u32], uri: u32, x: &[u32], h: u32, n: u32) -> u32
+pub fn find_name(
+    work: &[u32],
+    opening: &[u32],
+    store: &[u32],
+    uri: u32,
+    x: &[u32],
+    h: u32,
+    n: u32,
+) -> u32
     requires { ⌜ FindableName (now work) uri n ⌝ }
     ensures { λ r. ⌜
-        FoundName (now (work .entry)) (now (store .entry)) uri (now (x .entry)) h n r ⌝ }
+        FoundName (now (work .entry)) (nameStore (now (opening .entry)) (now (store .entry))) uri
+        (now (x .entry)) h n r ⌝ }
 {
     let head = NAME_TEXT_HEADS + spot(h, uri) as usize;
     let mut c = mem_chain::falling(work, head, n + 1);
     while 0 < c {
         let row = ((c - 1) % NAME_ROWS) as usize;
-        if name_has(work, store, row, uri, x) {
+        if name_has(work, opening, store, row, uri, x) {
             return c;
         }
         c = mem_chain::falling(work, NAME_TEXT_NEXTS + row, c);

@@ -16,7 +16,7 @@ use Rattle.mem_rows.specs.Rows.{Learnt, Rows, kindAt, carries, isAmong, withGra
 use Rattle.mem_rows.specs.Rows.{afterGrammar, afterLearned, leaves}
 use Rattle.mem_state.specs.declared.Core.{Core}
 use Rattle.mem_state.specs.declared.Growth.{Growth}
-use Rattle.mem_state.specs.Holds.{taughtOf, Holds}
+use Rattle.mem_state.specs.Holds.{taughtOf, Stores, Holds}
 use Rattle.mem_state.specs.Commit.{entered, learnt, grown}
 use Rattle.mem_state.specs.Grows.{learntOf, entersIn, Grows}
 use Rattle.mem_state.proofs.Joins.{holds-grammar, holds-learned}
@@ -44,16 +44,16 @@ module _ (v : Rows) (kind n : ℕ) where
       (λ a. rw a)
 
 module _ {v : Rows} {c : Core} {g : Growth} (q : Grows v c g) where
-  entered-holds : {work text : List ℕ} {stored : ℕ} → Holds work text stored v
-      → Holds (entered (g .enters) (g .name) work) text stored (afterGrammar (g .kind) (g .name) v)
+  entered-holds : {work : List ℕ} {from : Stores} → Holds work from v
+      → Holds (entered (g .enters) (g .name) work) from (afterGrammar (g .kind) (g .name) v)
   unfolding entered
-  entered-holds {work} {text} {stored} h =
+  entered-holds {work} {from} h =
       split (g .enters)
       (λ e.
       let (f, r) = enters-yes v (g .kind) (g .name) (sym (q .enters) ∙ e) in
-      rw e (subst (Holds _ text stored) (sym r) (holds-grammar v (g .name) f h (q .name))))
+      rw e (subst (Holds _ from) (sym r) (holds-grammar v (g .name) f h (q .name))))
       (λ e.
-      rw e (subst (Holds work text stored)
+      rw e (subst (Holds work from)
       (sym (enters-no v (g .kind) (g .name) (sym (q .enters) ∙ e))) h))
 
   after-names : afterGrammar (g .kind) (g .name) v .names ≡ v .names
@@ -78,10 +78,10 @@ module _ {v : Rows} {c : Core} {g : Growth} (q : Grows v c g) where
   uri-same =
       ap (λ es. cond (carries (kindAt (g .kind))) (keyAt es (g .name)) 0) after-names
 
-  pub grown-holds : {work text : List ℕ} {stored : ℕ} → Holds work text stored v
-      → Holds (grown c g work) text stored (leaves (g .kind) (g .name) (g .teaches) (learntOf g) v)
+  pub grown-holds : {work : List ℕ} {from : Stores} → Holds work from v
+      → Holds (grown c g work) from (leaves (g .kind) (g .name) (g .teaches) (learntOf g) v)
   unfolding grown learnt leaves afterLearned
-  grown-holds {work} {text} {stored} h =
+  grown-holds {work} {from} h =
       let u = afterGrammar (g .kind) (g .name) v in
       let k = entered-holds h in
       split (g .teaches)
@@ -94,7 +94,7 @@ module _ {v : Rows} {c : Core} {g : Growth} (q : Grows v c g) where
       (subst
       (λ k. Holds
       (cells.withLearned (entered (g .enters) (g .name) work) (length (u .learned)) (g .site) k
-      (g .name) (taughtOf u (learntOf g) .uriRow) (g .name)) text stored
+      (g .name) (taughtOf u (learntOf g) .uriRow) (g .name)) from
       (withLearned u (learntOf g))) (q .kind-is)
       (holds-learned u (learntOf g) k f (q .site) (q .name) (omega (arith, m)))))
       (λ e. rw e k)

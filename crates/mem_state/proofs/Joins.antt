@@ -42,7 +42,7 @@ use Rattle.mem_rows.specs.Rows.{withUri, withName, withValue, withLearned, with
 use Rattle.mem_rows.specs.Valid.{noLearnt, LearntFits, Refers, Distinct, Valid}
 use Rattle.mem_rows.proofs.Kept.{map-same, all-at}
 use Rattle.mem_rows.proofs.Joins.{map-snoc}
-use Rattle.mem_state.specs.Holds.{taughtOf, taughtIn, Holds}
+use Rattle.mem_state.specs.Holds.{taughtOf, taughtIn, Stores, inStore, Holds}
 use Rattle.mem_state.proofs.Frames.{SameFlags, uri-names, uri-values, uri-learned, uri-flags}
 use Rattle.mem_state.proofs.Frames.{name-uris, name-values, name-learned, name-flags}
 use Rattle.mem_state.proofs.Frames.{value-uris, value-names, value-learned, value-flags}
@@ -59,7 +59,8 @@ flags-kept s h = grammars-kept (s .room) (λ j a b. s .cells j a b) h
 
 -- The store grows.
 pub holds-grown : {work text text′ : List ℕ} {stored more : ℕ} {w : Rows}
-    → Grown text text′ stored more → Holds work text stored w → Holds work text′ more w
+    → Grown text text′ stored more → Holds work (inStore text stored) w
+    → Holds work (inStore text′ more) w
 holds-grown g h =
     record {
       uris = uris-grown g (h .uris);
@@ -84,17 +85,19 @@ module _ (w : Rows) (x : Placed) (v : Valid (withUri w x)) where
       ∙ sym (ap (λ (p : Placed). p .text) (uri-new (w .uris) x))) in
       omega arith))
 
-  pub holds-uri : {work text : List ℕ} {stored : ℕ} → Holds work text stored w
-      → length (w .uris) < uriRows → Lies text stored (x .place) (length (x .text)) (x .text)
+  pub holds-uri : {work : List ℕ} {from : Stores} → Holds work from w
+      → length (w .uris) < uriRows
+      → Lies (from .uris (length (w .uris)) .store) (from .uris (length (w .uris)) .stored)
+      (x .place) (length (x .text)) (x .text)
       → Holds (uris.withUri work (length (w .uris)) (x .place) (length (x .text))
-      (length (w .uris))) text stored (withUri w x)
+      (length (w .uris))) from (withUri w x)
   unfolding withUri taughtIn taughtOf
-  holds-uri {work} {text} {stored} h low lies =
+  holds-uri {work} {from} h low lies =
       let n = length (w .uris) in
       let r : workCells ≤ length work = h .uris .room in
       record {
         uris = subst
-            (λ m. UrisHold (uris.withUri work n (x .place) (length (x .text)) n) text stored m
+            (λ m. UrisHold (uris.withUri work n (x .place) (length (x .text)) n) (from .uris) m
             (w .uris ++ (x ∷ []))) (sym (length-snoc (w .uris) x))
             (uris-more work n (x .place) (length (x .text)) n low (h .uris) (x .text) lies
             (sym (first-fresh (w .uris) x uri-fresh)));
@@ -156,13 +159,14 @@ module _ (w : Rows) (r : Refers w) (u : ℕ) (x : Placed) (v : Valid (withName w
           (ap q old ∙ a ∙ sym (ap q new)) in
           omega arith
 
-  pub holds-name : {work text : List ℕ} {stored : ℕ} → Holds work text stored w
+  pub holds-name : {work : List ℕ} {from : Stores} → Holds work from w
       → length (w .names) < nameRows → u < uriRows
-      → Lies text stored (x .place) (length (x .text)) (x .text)
+      → Lies (from .names (length (w .names)) .store) (from .names (length (w .names)) .stored)
+      (x .place) (length (x .text)) (x .text)
       → Holds (names.withName work (length (w .names)) u (x .place) (length (x .text))
-      (hashOf (x .text))) text stored (withName w u x)
+      (hashOf (x .text))) from (withName w u x)
   unfolding withName
-  holds-name {work} {text} {stored} h few low lies =
+  holds-name {work} {from} h few low lies =
       let n = length (w .names) in
       let m : workCells ≤ length work = h .names .room in
       let a = x .place in
@@ -171,7 +175,7 @@ module _ (w : Rows) (r : Refers w) (u : ℕ) (x : Placed) (v : Valid (withName w
       record {
         uris = uris-kept (name-uris work n u a b k m few low) (h .uris);
         names = subst
-            (λ i. NamesHold (names.withName work n u a b k) text stored i
+            (λ i. NamesHold (names.withName work n u a b k) (from .names) i
             (w .names ++ (new-name ∷ []))) (sym (length-snoc (w .names) new-name))
             (names-more work n u a b k few low (h .names) (x .text) lies refl name-fresh);
         values = stand-kept (name-values work n u a b k m few low) (h .values);
@@ -192,13 +196,13 @@ module _ (w : Rows) (k : ℕ) (x : Placed) (v : Valid (withValue w k x)) where
             let z : i ≡ j = v .distinct .values i j (omega arith) b e in omega arith;
       }
 
-  pub holds-value : {work text : List ℕ} {stored : ℕ} → Holds work text stored w
+  pub holds-value : {work : List ℕ} {from : Stores} → Holds work from w
       → length (w .values) < valueRing → k < nameRows
-      → Lies text stored (x .place) (length (x .text)) (x .text)
+      → Lies (from .values .store) (from .values .stored) (x .place) (length (x .text)) (x .text)
       → Holds (values.withValue work (length (w .values)) k (x .place) (length (x .text))
-      (hashOf (x .text))) text stored (withValue w k x)
+      (hashOf (x .text))) from (withValue w k x)
   unfolding withValue taughtIn taughtOf replaced globalNumber
-  holds-value {work} {text} {stored} h few low lies =
+  holds-value {work} {from} h few low lies =
       let n = length (w .values) in
       let m : workCells ≤ length work = h .names .room in
       let a = x .place in
@@ -209,7 +213,8 @@ module _ (w : Rows) (k : ℕ) (x : Placed) (v : Valid (withValue w k x)) where
         uris = uris-kept (value-uris work n k a b g m low) (h .uris);
         names = names-kept (value-names work n k a b g m low) (h .names);
         values = subst
-            (λ i. ValuesStand (values.withValue work n k a b g) text stored i 0 i
+            (λ i. ValuesStand (values.withValue work n k a b g) (from .values .store)
+            (from .values .stored) i 0 i
             (w .values ++ (e ∷ [])) none) (sym (length-snoc (w .values) e))
             (record {
               holds = values-more work n k a b g low (h .values .holds) (x .text) (omega arith) lies
@@ -231,14 +236,14 @@ module _ (w : Rows) (l : Learnt) where
   unfolding taughtIn taughtOf withLearned
   taught-more = map-snoc (taughtOf w) (w .learned) l
 
-  pub holds-learned : {work text : List ℕ} {stored : ℕ} → Holds work text stored w
+  pub holds-learned : {work : List ℕ} {from : Stores} → Holds work from w
       → length (w .learned) < learnedRows → l .site < sites → l .name < nameRows
       → taughtOf w l .uriRow < uriRows
       → Holds (learned.withLearned work (length (w .learned)) (l .site)
-      (kindNumber (kindAt (l .kind))) (l .name) (taughtOf w l .uriRow) (l .name)) text stored
+      (kindNumber (kindAt (l .kind))) (l .name) (taughtOf w l .uriRow) (l .name)) from
       (withLearned w l)
   unfolding withLearned taughtOf
-  holds-learned {work} {text} {stored} h few low nameLow uriLow =
+  holds-learned {work} {from} h few low nameLow uriLow =
       let n = length (w .learned) in
       let m : workCells ≤ length work = h .names .room in
       let k = kindAt (l .kind) in
@@ -271,10 +276,10 @@ among-row [] n = refl
 among-row (g ∷ gs) n = rw (among-row gs n)
 
 module _ (w : Rows) (k : ℕ) (fresh : isAmong k (w .grammars) ≡ false) where
-  pub holds-grammar : {work text : List ℕ} {stored : ℕ} → Holds work text stored w → k < nameRows
-      → Holds (withGrammarOf work k) text stored (withGrammar w k)
+  pub holds-grammar : {work : List ℕ} {from : Stores} → Holds work from w → k < nameRows
+      → Holds (withGrammarOf work k) from (withGrammar w k)
   unfolding withGrammar taughtIn taughtOf
-  holds-grammar {work} {text} {stored} h low =
+  holds-grammar {work} {from} h low =
       let m : workCells ≤ length work = h .names .room in
       record {
         uris = uris-kept (grammar-uris work k m low) (h .uris);

@@ -21,7 +21,7 @@ use Rattle.mem_rows.specs.Valid.{Refers, Valid}
 use Rattle.mem_state.specs.declared.Core.{Core}
 use Rattle.mem_state.specs.declared.Joining.{Joining}
 use Rattle.mem_state.specs.declared.Strings.{Strings}
-use Rattle.mem_state.specs.Holds.{Holds, Ahead, Counts}
+use Rattle.mem_state.specs.Holds.{Stores, Holds, Ahead, Counts}
 use Rattle.mem_state.specs.Commit.{joinedUri, joinedName, joinedValue, joinedStrings}
 use Rattle.mem_state.specs.Commit.{StringsPre}
 use Rattle.mem_state.specs.Strung.{uriAdded, nameAdded, valueAdded, Joins, StringsJoin}
@@ -29,11 +29,11 @@ use Rattle.mem_state.proofs.Joins.{holds-uri, holds-name, holds-value}
 
 -- ---- one string
 
-module _ {work text : List ℕ} {stored : ℕ} where
+module _ {work : List ℕ} {from : Stores} where
   uri-holds : (w : Rows) (n : ℕ) (b : Bool) (x : Joining) (y : Placed) → x .joins ≡ b
-      → n ≡ length (w .uris) → (b ≡ true → Joins text stored x y) → (b ≡ true → n < uriRows)
-      → Valid (uriAdded b w y) → Holds work text stored w
-      → Holds (joinedUri n x work) text stored (uriAdded b w y)
+      → n ≡ length (w .uris) → (b ≡ true → Joins (from .uris (length (w .uris))) x y) → (b ≡ true → n < uriRows)
+      → Valid (uriAdded b w y) → Holds work from w
+      → Holds (joinedUri n x work) from (uriAdded b w y)
   unfolding uriAdded joinedUri
   uri-holds w n true x y e c j few v h =
       rw (e, c, j refl .place, j refl .size)
@@ -41,9 +41,9 @@ module _ {work text : List ℕ} {stored : ℕ} where
   uri-holds w n false x y e c j few v h = rw e h
 
   name-holds : (w : Rows) → Refers w → (n u : ℕ) (b : Bool) (x : Joining) (y : Placed)
-      → x .joins ≡ b → n ≡ length (w .names) → (b ≡ true → Joins text stored x y)
+      → x .joins ≡ b → n ≡ length (w .names) → (b ≡ true → Joins (from .names (length (w .names))) x y)
       → (b ≡ true → n < nameRows) → u < uriRows → Valid (nameAdded b u w y)
-      → Holds work text stored w → Holds (joinedName n u x work) text stored (nameAdded b u w y)
+      → Holds work from w → Holds (joinedName n u x work) from (nameAdded b u w y)
   unfolding nameAdded joinedName
   name-holds w r n u true x y e c j few low v h =
       rw (e, c, j refl .place, j refl .size, j refl .hash)
@@ -51,9 +51,9 @@ module _ {work text : List ℕ} {stored : ℕ} where
   name-holds w r n u false x y e c j few low v h = rw e h
 
   value-holds : (w : Rows) (n k : ℕ) (b : Bool) (x : Joining) (y : Placed)
-      → x .joins ≡ b → n ≡ length (w .values) → (b ≡ true → Joins text stored x y)
+      → x .joins ≡ b → n ≡ length (w .values) → (b ≡ true → Joins (from .values) x y)
       → (b ≡ true → n < valueRing) → k < nameRows → Valid (valueAdded b k w y)
-      → Holds work text stored w → Holds (joinedValue n k x work) text stored (valueAdded b k w y)
+      → Holds work from w → Holds (joinedValue n k x work) from (valueAdded b k w y)
   unfolding valueAdded joinedValue
   value-holds w n k true x y e c j few low v h =
       rw (e, c, j refl .place, j refl .size, j refl .hash)
@@ -182,8 +182,7 @@ ahead-value false k w y = ahead-none w
 
 -- ---- all strings of an event
 
-module _ {text : List ℕ} {stored : ℕ} {s : Strings} {w v : Rows}
-    (j : StringsJoin text stored s w v) where
+module _ {from : Stores} {s : Strings} {w v : Rows} (j : StringsJoin from s w v) where
   abbrev with-uri : Rows
   with-uri = uriAdded (s .uri .joins) w (j .uri)
 
@@ -222,8 +221,8 @@ module _ {text : List ℕ} {stored : ℕ} {s : Strings} {w v : Rows}
         (ap length (name-values with-uri (j .name) (s .«uri_row») (s .name .joins)
         ∙ uri-values w (j .uri) (s .uri .joins)) ∙ sym (n .values)))
 
-    pub strings-hold : {work : List ℕ} → StringsPre work c s → Holds work text stored w
-        → Holds (joinedStrings c s work) text stored v
+    pub strings-hold : {work : List ℕ} → StringsPre work c s → Holds work from w
+        → Holds (joinedStrings c s work) from v
     unfolding joinedStrings
     strings-hold p h =
         let names-are : c .names ≡ length (with-uri .names) =
@@ -235,9 +234,11 @@ module _ {text : List ℕ} {stored : ℕ} {s : Strings} {w v : Rows}
         let a = uri-holds w (c .uris) (s .uri .joins) (s .uri) (j .uri) refl (n .uris)
         (j .uri-joins) (p .uris) (j .uri-valid) h in
         let b = name-holds with-uri (j .uri-valid .refers) (c .names) (s .«uri_row»)
-        (s .name .joins) (s .name) (j .name) refl names-are (j .name-joins) (p .names) (p .uri)
-        (j .name-valid) a in
-        subst (Holds _ text stored) (sym (j .is))
+        (s .name .joins) (s .name) (j .name) refl names-are
+        (λ e. subst (λ m. Joins (from .names m) (s .name) (j .name))
+        (sym (ap length (uri-names w (j .uri) (s .uri .joins)))) (j .name-joins e))
+        (p .names) (p .uri) (j .name-valid) a in
+        subst (Holds _ from) (sym (j .is))
         (value-holds with-name (c .values) (s .owner) (s .value .joins) (s .value) (j .value)
         refl values-are (j .value-joins) (p .values) (p .owner)
         (subst Valid (j .is) (j .valid)) b)

@@ -9,6 +9,7 @@ use Rattle.spec_exi.specs.Sizes.{maxStore, maxUris, maxNames, maxValues, maxLea
 use Rattle.spec_exi.specs.Sizes.{maxOpen}
 use Rattle.spec_exi.specs.Context.{Context}
 use Rattle.mem_layout.specs.Layout.{nameRows}
+use Rattle.mem_entries.specs.Texts.{Source, upTo, throughout}
 use Rattle.mem_entries.specs.Entries.{entryAt, keyAt}
 use Rattle.mem_names.specs.Uris.{uriAt, UrisHold}
 use Rattle.mem_names.specs.Names.{NamesHold}
@@ -33,12 +34,27 @@ taughtOf w l =
 unfoldable pub taughtIn : Rows → List Taught
 taughtIn w = map (taughtOf w) (w .learned)
 
--- The cells of work memory hold these rows, whose texts lie in the first cells of the store.
-pub record Holds (work text : List ℕ) (stored : ℕ) (w : Rows) : Type 0 where
-  pub uris : UrisHold work text stored (length (w .uris)) (w .uris)
-  pub names : NamesHold work text stored (length (w .names)) (w .names)
-  pub values : ValuesStand work text stored (length (w .values)) 0 (length (w .values)) (w .values)
-      none
+-- Where the texts of the rows of each table lie.
+pub record Stores : Type 0 where
+  pub uris : ℕ → Source
+  pub names : ℕ → Source
+  pub values : Source
+
+-- All in the first cells of one store: a reader's.
+abbrev pub inStore : List ℕ → ℕ → Stores
+inStore text stored =
+    record {
+      uris = throughout text stored;
+      names = throughout text stored;
+      values = upTo text stored;
+    }
+
+-- The cells of work memory hold these rows, whose texts lie in these stores.
+pub record Holds (work : List ℕ) (from : Stores) (w : Rows) : Type 0 where
+  pub uris : UrisHold work (from .uris) (length (w .uris)) (w .uris)
+  pub names : NamesHold work (from .names) (length (w .names)) (w .names)
+  pub values : ValuesStand work (from .values .store) (from .values .stored) (length (w .values)) 0
+      (length (w .values)) (w .values) none
   pub learned : LearnedHold work (length (w .learned)) (taughtIn w)
   pub grammars : GrammarsHold work (w .grammars)
 
@@ -87,7 +103,7 @@ pub record Topped (c : Core) (opened : List ℕ) : Type 0 where
 -- number that memory does not know.)
 pub record Represents (work text : List ℕ) (c : Core) (w : Rows) (opened : List ℕ) : Type 0 where
   pub valid : Valid w
-  pub holds : Holds work text (c .stored) w
+  pub holds : Holds work (inStore text (c .stored)) w
   pub counts : Counts c w
   pub opens : Opens c w opened
 

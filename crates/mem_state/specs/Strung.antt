@@ -2,14 +2,14 @@
 use Prim.Native.Nat.{ℕ}
 use mathlib.Core.Path.{_≡_}
 use mathlib.Core.Bool.{Bool, true, false}
-use mathlib.Core.List.{List}
 use lib.ListN.{length}
 use Rattle.spec_exi.specs.Tables.{Placed}
-use Rattle.mem_entries.specs.Texts.{hashOf, Lies}
+use Rattle.mem_entries.specs.Texts.{hashOf, Lies, Source}
 use Rattle.mem_rows.specs.Rows.{Rows, withUri, withName, withValue}
 use Rattle.mem_rows.specs.Valid.{Valid}
 use Rattle.mem_state.specs.declared.Joining.{Joining}
 use Rattle.mem_state.specs.declared.Strings.{Strings}
+use Rattle.mem_state.specs.Holds.{Stores}
 
 unfoldable pub uriAdded : Bool → Rows → Placed → Rows
 uriAdded true w x = withUri w x
@@ -23,21 +23,21 @@ unfoldable pub valueAdded : Bool → ℕ → Rows → Placed → Rows
 valueAdded true n w x = withValue w n x
 valueAdded false n w x = w
 
--- The cells of a string that joins: it lies in the first cells of the store.
-pub record Joins (text : List ℕ) (stored : ℕ) (x : Joining) (y : Placed) : Type 0 where
+-- The cells of a string that joins: it lies in the first cells of a store.
+pub record Joins (at : Source) (x : Joining) (y : Placed) : Type 0 where
   pub place : x .place ≡ y .place
   pub size : x .size ≡ length (y .text)
   pub hash : x .hash ≡ hashOf (y .text)
-  pub lies : Lies text stored (y .place) (length (y .text)) (y .text)
+  pub lies : Lies (at .store) (at .stored) (y .place) (length (y .text)) (y .text)
 
 -- v is w with these strings: the URI, the local name and the value that join.
-pub record StringsJoin (text : List ℕ) (stored : ℕ) (s : Strings) (w v : Rows) : Type 0 where
+pub record StringsJoin (from : Stores) (s : Strings) (w v : Rows) : Type 0 where
   pub uri : Placed
   pub name : Placed
   pub value : Placed
-  pub uri-joins : s .uri .joins ≡ true → Joins text stored (s .uri) uri
-  pub name-joins : s .name .joins ≡ true → Joins text stored (s .name) name
-  pub value-joins : s .value .joins ≡ true → Joins text stored (s .value) value
+  pub uri-joins : s .uri .joins ≡ true → Joins (from .uris (length (w .uris))) (s .uri) uri
+  pub name-joins : s .name .joins ≡ true → Joins (from .names (length (w .names))) (s .name) name
+  pub value-joins : s .value .joins ≡ true → Joins (from .values) (s .value) value
   pub uri-valid : Valid (uriAdded (s .uri .joins) w uri)
   pub name-valid : Valid
       (nameAdded (s .name .joins) (s .«uri_row») (uriAdded (s .uri .joins) w uri) name)

@@ -22,7 +22,7 @@ use Rattle.event.specs.declared.Event as declared
 use Rattle.event.specs.Cells.{asSpan, meaning}
 use Rattle.event.specs.Cells as cells
 use Rattle.mem_layout.specs.Layout.{uriRows, nameRows, workCells}
-use Rattle.mem_entries.specs.Texts.{Grown}
+use Rattle.mem_entries.specs.Texts.{Grown, upTo}
 use Rattle.mem_entries.specs.Entries.{entryAt, keyAt}
 use Rattle.mem_names.specs.Uris.{uriAt}
 use Rattle.mem_values.specs.Forms.{ValuesStand}
@@ -31,7 +31,7 @@ use Rattle.mem_rows.specs.Valid.{Valid}
 use Rattle.mem_state.specs.declared.Core.{Core}
 use Rattle.mem_state.specs.declared.Joining.{Joining}
 use Rattle.mem_state.specs.declared.Strings.{Strings}
-use Rattle.mem_state.specs.Holds.{Bounded}
+use Rattle.mem_state.specs.Holds.{inStore, Bounded}
 use Rattle.mem_state.specs.Strung.{uriAdded, nameAdded, valueAdded, Joins, StringsJoin}
 use Rattle.mem_state.proofs.Joins.{holds-grown}
 use Rattle.mem_state.proofs.Strung.{value-uris, value-names}
@@ -61,7 +61,7 @@ use Rattle.read_content.specs.Contents as contents
 
 -- None.
 pub none-join : (text : List ℕ) (stored owner : ℕ) {w : Rows} → Valid w
-    → StringsJoin text stored (ownedBy owner) w w
+    → StringsJoin (inStore text stored) (ownedBy owner) w w
 unfolding uriAdded nameAdded valueAdded
 none-join text stored owner {w} v =
     let x : Placed = record { place = 0; text = [] } in
@@ -79,14 +79,14 @@ none-join text stored owner {w} v =
     }
 
 joins-grown : {text text′ : List ℕ} {stored stored′ : ℕ} {x : Joining} {y : Placed}
-    → Grown text text′ stored stored′ → Joins text stored x y → Joins text′ stored′ x y
+    → Grown text text′ stored stored′ → Joins (upTo text stored) x y → Joins (upTo text′ stored′) x y
 joins-grown g j =
     record { place = j .place; size = j .size; hash = j .hash; lies = lies-grown g (j .lies) }
 
 -- The store grows.
 pub join-grown : {text text′ : List ℕ} {stored stored′ : ℕ} {s : Strings} {w v : Rows}
-    → Grown text text′ stored stored′ → StringsJoin text stored s w v
-    → StringsJoin text′ stored′ s w v
+    → Grown text text′ stored stored′ → StringsJoin (inStore text stored) s w v
+    → StringsJoin (inStore text′ stored′) s w v
 join-grown g j =
     record {
       uri = j .uri;
@@ -111,9 +111,9 @@ without-value true k w y e = absurd (true≢false e)
 without-value false k w y e = refl
 
 pub join-value : {text text′ : List ℕ} {stored : ℕ} {s : Strings} {w v : Rows} {x : StringRead}
-    {y : Placed × Tables} → s .value .joins ≡ false → StringsJoin text stored s w v
+    {y : Placed × Tables} → s .value .joins ≡ false → StringsJoin (inStore text stored) s w v
     → Grown text text′ stored (x .stored) → StringIs (addValue (s .owner)) v text′ x y
-    → StringsJoin text′ (x .stored) (contents.withValue s x) w
+    → StringsJoin (inStore text′ (x .stored)) (contents.withValue s x) w
     (valueAdded (x .joins) (s .owner) v (y .0))
 join-value {s = s} {x = x} {y = y} f j g i =
     let base = j .is ∙ without-value (s .value .joins) (s .owner) _ (j .value) f in

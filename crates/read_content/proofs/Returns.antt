@@ -30,7 +30,7 @@ use Rattle.mem_rows.specs.Rows.{Rows, placedAt, nameAt, kindAt, carries, carrie
 use Rattle.mem_rows.specs.Valid.{Valid}
 use Rattle.mem_state.specs.declared.Core.{Core}
 use Rattle.mem_state.specs.declared.Strings.{Strings}
-use Rattle.mem_state.specs.Holds.{Holds, Bounded, Counts}
+use Rattle.mem_state.specs.Holds.{inStore, Holds, Bounded, Counts}
 use Rattle.mem_state.specs.Strung.{valueAdded, StringsJoin}
 use Rattle.mem_state.proofs.Joins.{holds-grown}
 use Rattle.mem_state.proofs.Strung.{uris-counted, names-counted, values-counted, value-names}
@@ -352,7 +352,7 @@ module _ {stream : List ℕ} {at : ℕ} {text work : List ℕ} {c : Core} {p : P
         named-rows :
             ValueRows work text₁ (n .stored) (c .values) (n .strings .owner) (m .rows)
         named-rows =
-            let h : Holds work text₁ (n .stored) w =
+            let h : Holds work (inStore text₁ (n .stored)) w =
             holds-grown (text-grown room (post .text-read)) (q .holds) in
             record {
               stand = subst

@@ -21,7 +21,7 @@ use Rattle.mem_entries.specs.Entries.{keyAt}
 use Rattle.mem_rows.specs.Rows.{Rows, placedAt, nameAt, kindAt, carries, carriedAt}
 use Rattle.mem_state.specs.declared.Core.{Core}
 use Rattle.mem_state.specs.declared.Strings.{Strings}
-use Rattle.mem_state.specs.Holds.{Bounded}
+use Rattle.mem_state.specs.Holds.{inStore, Bounded}
 use Rattle.mem_state.specs.Strung.{StringsJoin}
 use Rattle.read_contract.specs.Outcome.{Outcome}
 use Rattle.read_literal.specs.Literal.{LiteralFit}
@@ -128,7 +128,7 @@ pub record UnnamedAt (s : Strings) : Type 0 where
 pub record ContentMeans (kind : ℕ) (text′ : List ℕ) (w : Rows) (r : Content)
     (v : Event Placed × Tables) : Type 0 where
   pub rows : Rows
-  pub joins : StringsJoin text′ (r .stored) (r .strings) w rows
+  pub joins : StringsJoin (inStore text′ (r .stored)) (r .strings) w rows
   pub tables : v .1 ≡ tablesAt text′ (r .stored) rows
   pub event : meaning (r .event) ≡ mapEvent spanOf (v .0)
   pub kind-is : kindOf (v .0) ≡ kindAt kind

@@ -18,7 +18,7 @@ use Rattle.mem_chain.proofs.First.{first-found, first-zero}
 use Rattle.mem_chain.proofs.Last.{last-is}
 use Rattle.mem_index.specs.Index.{tally, hasKey, isNumbered}
 use Rattle.mem_index.proofs.Codes.{numbered-is}
-use Rattle.mem_entries.specs.Texts.{Names}
+use Rattle.mem_entries.specs.Texts.{Names, throughout}
 use Rattle.mem_entries.specs.Entries.{Entries, entryAt, keyAt, textAt, given, slots, slotOf}
 use Rattle.mem_entries.proofs.Slots.{slots-all}
 use Rattle.mem_entries.proofs.Nth.{nth-slot}
@@ -53,10 +53,10 @@ element-allowed attr u x h =
 -- ---- a row that memory holds
 
 module _ {text : List ℕ} {stored : ℕ} {work : List ℕ} {names : ℕ} {ns : Entries}
-    (p : NamesHold work text stored names ns) where
+    (p : NamesHold work (throughout text stored) names ns) where
   module _ {i : ℕ} (h : i < names) {v : Name} (a : NameAt work i v) where
     pub is-name : IsName ns i v
-    is-name = a .means text stored names ns p h
+    is-name = a .means _ names ns p h
 
     pub name-lies : part text (record { place = v .place; size = v .size }) ≡ textAt ns i
     unfolding spanOf
@@ -72,7 +72,7 @@ module _ {text : List ℕ} {stored : ℕ} {work : List ℕ} {names : ℕ} {ns : 
     numbered : (keyAt ns g ≡ uri) × (tally (hasKey (keyAt ns) uri) g ≡ i)
     numbered =
         numbered-is (keyAt ns) uri i g
-        (last-is (isNumbered (keyAt ns) uri i) names g (sym (f .means text stored ns p) ∙ z))
+        (last-is (isNumbered (keyAt ns) uri i) names g (sym (f .means _ ns p) ∙ z))
 
     pub nth-key : keyAt ns g ≡ uri
     nth-key = numbered .0
@@ -115,7 +115,7 @@ module _ {text : List ℕ} {stored : ℕ} {w : Rows} {store : Text} (t : Tabled 
         ap (λ l. getElem? l i) own-slots ∙ nth-slot (w .names) 0 uri i
         ∙ ap (slotOf (w .names) 0)
         (ap (lastThat (isNumbered (keyAt (w .names)) uri i)) count-is
-        ∙ sym (f .means text stored (w .names) (p .hold)))
+        ∙ sym (f .means (throughout text stored) (w .names) (p .hold)))
 
     pub own-missing : r ≡ 0 → (x : Placed) → getElem? (ownNames uri w store) i ≡ some (some x) → ⊥
     unfolding slotOf

@@ -16,6 +16,7 @@ use Rattle.spec_exi.specs.Sizes.{maxNames}
 use Rattle.spec_exi.specs.Tables.{Placed, Slot, Tables, Role, partitionsOf, hit, eqForm, formOf}
 use Rattle.spec_exi.specs.Tables.{nameAllowed}
 use Rattle.spec_exi.specs.Reader.{readHit}
+use Rattle.mem_entries.specs.Texts.{throughout}
 use Rattle.mem_entries.specs.Entries.{entryAt, textAt}
 use Rattle.mem_entries.proofs.Slots.{at-none}
 use Rattle.mem_names.specs.declared.Name.{Name}
@@ -82,7 +83,7 @@ module _ (a : Alignment) {stream : List ℕ} {at : ℕ} {text : List ℕ} {store
     counted : (w : Rows) (store : Text) → Tabled text stored w store
         → NameRows work text stored names uri place size w → length (ownNames uri w store) ≡ among
     counted w store t p =
-        own-count t p ∙ sym (c .count text stored names (w .names) (p .hold))
+        own-count t p ∙ sym (c .count (throughout text stored) names (w .names) (p .hold))
 
     pub own-refused : {k : ℕ} → f ≡ Refused k
         → NameAnswer a attr asOwn stream at text stored work names uri place size text

@@ -18,10 +18,12 @@ use Rattle.spec_exi.specs.Tables.{tablesAfter, nameAllowed}
 use Rattle.spec_exi.specs.Lists.{withinTables}
 use Rattle.mem_chain.specs.Chain.{firstThat}
 use Rattle.mem_chain.proofs.First.{first-none}
+use Rattle.mem_layout.specs.Layout.{openingNames}
 use Rattle.mem_entries.specs.Texts.{hashOf}
+use Rattle.mem_entries.proofs.Texts.{one-store}
 use Rattle.mem_entries.specs.Entries.{Entries, keyAt}
 use Rattle.mem_names.specs.Uris.{uriText}
-use Rattle.mem_names.specs.Names.{isEntry, FoundName}
+use Rattle.mem_names.specs.Names.{isEntry, nameStore, FoundName}
 use Rattle.mem_names.proofs.Names.{entry-is}
 use Rattle.mem_names.proofs.Joined.{names-longer}
 use Rattle.mem_names.proofs.Tables.{numberFrom}
@@ -79,10 +81,10 @@ module _ {text : List ℕ} {stored : ℕ} {w : Rows} {store : Text} (t : Tabled 
     row-is : q .row ≡ firstThat (isEntry (w .names) uri x) names
     row-is =
         let e = laid-found d in
-        let f : FoundName work text′ uri x (q .hash) names (q .row) =
-        subst (λ y. FoundName work text′ uri y (q .hash) names (q .row)) e (s .found) in
-        f .means stored (w .names) (names-longer (store-grown d) (p .hold))
-        (s .hash ∙ ap hashOf e)
+        let f : FoundName work (nameStore text′ text′) uri x (q .hash) names (q .row) =
+        subst (λ y. FoundName work (nameStore text′ text′) uri y (q .hash) names (q .row)) e (s .found) in
+        f .means _ (w .names) (names-longer (store-grown d) (p .hold))
+        (one-store openingNames text′) (s .hash ∙ ap hashOf e)
 
     absent-strict : q .row ≡ 0
         → eqForm literal (formOf (partitionsOf (tablesOf w store) (nameRole attr uri w)) x) ≡ true

@@ -16,9 +16,10 @@ use Rattle.spec_exi.specs.Tables.{tablesAfter, nameAllowed}
 use Rattle.spec_exi.specs.Lists.{withinTables}
 use Rattle.mem_chain.specs.Chain.{firstThat}
 use Rattle.mem_chain.proofs.First.{first-none}
+use Rattle.mem_layout.specs.Layout.{openingUris}
 use Rattle.mem_entries.specs.Texts.{hashOf}
-use Rattle.mem_entries.proofs.Texts.{is-text}
-use Rattle.mem_names.specs.Uris.{uriText, hasUri, rowOf, FoundUri}
+use Rattle.mem_entries.proofs.Texts.{is-text, one-store}
+use Rattle.mem_names.specs.Uris.{uriText, hasUri, rowOf, uriStore, FoundUri}
 use Rattle.mem_names.proofs.Uris.{uris-grown}
 use Rattle.mem_rows.specs.Rows.{Rows, tablesOf, withUri}
 use Rattle.mem_rows.proofs.Joins.{uri-joins}
@@ -53,9 +54,9 @@ module _ {text : List ℕ} {stored : ℕ} {w : Rows} {store : Text} (t : Tabled 
   -- The answer of the search.
   row-is : q .row ≡ firstThat (hasUri (w .uris) x) uris
   row-is =
-      let f : FoundUri work text′ x uris (q .row) =
-      subst (λ y. FoundUri work text′ y uris (q .row)) (laid-found d) (s .found) in
-      f .means stored (w .uris) (uris-grown (store-grown d) (p .hold))
+      let f : FoundUri work (uriStore text′ text′) x uris (q .row) =
+      subst (λ y. FoundUri work (uriStore text′ text′) y uris (q .row)) (laid-found d) (s .found) in
+      f .means _ (w .uris) (uris-grown (store-grown d) (p .hold)) (one-store openingUris text′)
 
   absent-strict : q .row ≡ 0
       → eqForm literal (formOf (partitionsOf (tablesOf w store) uri) x) ≡ true

@@ -16,7 +16,7 @@ use Rattle.spec_exi.specs.Tables.{Placed, spanOf, uri, partitionsOf, literal, h
 use Rattle.spec_exi.specs.Tables.{firstHit, formOf, nameAllowed}
 use Rattle.mem_chain.specs.Chain.{firstThat}
 use Rattle.mem_chain.proofs.First.{first-found, first-zero}
-use Rattle.mem_entries.specs.Texts.{Names}
+use Rattle.mem_entries.specs.Texts.{Names, throughout}
 use Rattle.mem_entries.proofs.Texts.{is-text}
 use Rattle.mem_entries.proofs.Alike.{at-map}
 use Rattle.mem_names.specs.declared.Uri.{Uri}
@@ -43,10 +43,10 @@ use Rattle.read_names.proofs.Compact.{hit-comes, literal-leads, post-le
 -- ---- where memory holds the URIs
 
 module _ {text : List ℕ} {stored : ℕ} {work : List ℕ} {uris : ℕ} {us : List Placed}
-    (p : UrisHold work text stored uris us) {i : ℕ} (h : i < uris) {u : Uri} (at : UriAt work i u)
+    (p : UrisHold work (throughout text stored) uris us) {i : ℕ} (h : i < uris) {u : Uri} (at : UriAt work i u)
   where
     is-uri : IsUri us i u
-    is-uri = at .means text stored uris us p h
+    is-uri = at .means _ uris us p h
 
     uri-lies : part text (record { place = u .place; size = u .size }) ≡ uriText us i
     unfolding spanOf

@@ -10,10 +10,10 @@ use Rattle.text.specs.Text.{Text}
 use Rattle.spec_exi.specs.Sizes.{maxStore, maxNames}
 use Rattle.spec_exi.specs.Tables.{Slot, Role, local, namesOf}
 use Rattle.mem_layout.specs.Layout.{uriRows, nameRows, workCells}
-use Rattle.mem_entries.specs.Texts.{hashOf, Lies}
+use Rattle.mem_entries.specs.Texts.{hashOf, Lies, throughout}
 use Rattle.mem_entries.specs.Entries.{Entries, entryAt, keyAt}
 use Rattle.mem_names.specs.Uris.{uriText}
-use Rattle.mem_names.specs.Names.{NamesHold, FoundName}
+use Rattle.mem_names.specs.Names.{NamesHold, nameStore, FoundName}
 use Rattle.mem_rows.specs.Rows.{Rows, tablesOf, withName}
 use Rattle.read_literal.specs.Literal.{LiteralFit}
 use Rattle.read_partition.specs.declared.StringRead.{StringRead}
@@ -40,7 +40,7 @@ pub record NameSought (stored : ℕ) (work : List ℕ) (names uri : ℕ) : Type 
 
 -- Memory holds the names of w; the URI has a row in w, and its text lies in the store.
 pub record NameRows (work text : List ℕ) (stored names uri place size : ℕ) (w : Rows) : Type 0 where
-  pub hold : NamesHold work text stored names (w .names)
+  pub hold : NamesHold work (throughout text stored) names (w .names)
   pub row : uri < length (w .uris)
   pub lies : Lies text stored place size (uriText (w .uris) uri)
 
@@ -79,9 +79,9 @@ pub record NameRowed (text : List ℕ) (stored : ℕ) (work : List ℕ) (names u
   pub left : r .joins ≡ true → names < maxNames
   pub new : r .joins ≡ true → r .row ≡ names
   pub old : r .number ≡ 0 → r .joins ≡ false → (ns : Entries)
-      → NamesHold work text stored names ns → InNames ns uri text′ r
+      → NamesHold work (throughout text stored) names ns → InNames ns uri text′ r
 
 -- The hash of a text, and where it is found among the names of the URI.
 pub record SoughtName (work text x : List ℕ) (names uri : ℕ) (r : Sought) : Type 0 where
   pub hash : r .hash ≡ hashOf x
-  pub found : FoundName work text uri x (r .hash) names (r .row)
+  pub found : FoundName work (nameStore text text) uri x (r .hash) names (r .row)

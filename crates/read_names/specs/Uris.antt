@@ -11,8 +11,8 @@ use Rattle.spec_exi.specs.Sizes.{sizes, maxStore, maxUris}
 use Rattle.spec_exi.specs.Tables.{Placed, uri}
 use Rattle.spec_exi.specs.Reader.{readByLiterals}
 use Rattle.mem_layout.specs.Layout.{uriRows, workCells}
-use Rattle.mem_entries.specs.Texts.{hashOf}
-use Rattle.mem_names.specs.Uris.{uriAt, UrisHold, FoundUri}
+use Rattle.mem_entries.specs.Texts.{hashOf, throughout}
+use Rattle.mem_names.specs.Uris.{uriAt, UrisHold, uriStore, FoundUri}
 use Rattle.mem_rows.specs.Rows.{Rows, withUri}
 use Rattle.read_literal.specs.Literal.{LiteralFit}
 use Rattle.read_partition.specs.declared.StringRead.{StringRead}
@@ -36,7 +36,7 @@ pub record UriSought (stored : ℕ) (work : List ℕ) (uris : ℕ) : Type 0 wher
 
 -- Memory holds the URIs of w.
 pub record UriRows (work text : List ℕ) (stored uris : ℕ) (w : Rows) : Type 0 where
-  pub hold : UrisHold work text stored uris (w .uris)
+  pub hold : UrisHold work (throughout text stored) uris (w .uris)
 
 abbrev pub asUri : Reading
 asUri = asString uri
@@ -73,9 +73,9 @@ pub record UriRowed (text : List ℕ) (stored : ℕ) (work : List ℕ) (uris : �
   pub left : r .joins ≡ true → uris < maxUris
   pub new : r .joins ≡ true → r .row ≡ uris
   pub old : r .number ≡ 0 → r .joins ≡ false → (us : List Placed)
-      → UrisHold work text stored uris us → InUris us text′ r
+      → UrisHold work (throughout text stored) uris us → InUris us text′ r
 
 -- The hash of a text, and where it is found among the URIs.
 pub record SoughtUri (work text x : List ℕ) (uris : ℕ) (r : Sought) : Type 0 where
   pub hash : r .hash ≡ hashOf x
-  pub found : FoundUri work text x uris (r .row)
+  pub found : FoundUri work (uriStore text text) x uris (r .row)

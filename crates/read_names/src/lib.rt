@@ -40,7 +40,7 @@ fn seek_uri(text: &[u32], stored: usize, n: u32, work: &[u32], uris: u32) -> Sou
         (part (now (text .entry)) (record { place = stored; size = n })) uris r ⌝ }
 {
     let x = text::look_up(text, stored as u32, n);
-    let row = mem_names::find_uri(work, text, x, uris);
+    let row = mem_names::find_uri(work, text, text, x, uris);
     let hash = mem_entries::hash(x);
     Sought { row, hash }
 }
@@ -193,7 +193,7 @@ fn seek_name(text: &[u32], stored: usize, n: u32, work: &[u32], names: u32, uri:
 {
     let x = text::look_up(text, stored as u32, n);
     let hash = mem_entries::hash(x);
-    let row = mem_names::find_name(work, text, uri, x, hash, names);
+    let row = mem_names::find_name(work, text, text, uri, x, hash, names);
     Sought { row, hash }
 }
 

@@ -14,7 +14,7 @@ use Rattle.text.specs.Text.{Text, part}
 use Rattle.spec_exi.specs.Sizes.{sizes, maxStore, maxUris, maxNames, maxValues}
 use Rattle.spec_exi.specs.Tables.{Placed, Tables, Role}
 use Rattle.spec_exi.specs.Lists.{withinTables}
-use Rattle.mem_entries.specs.Texts.{hashOf, Grown, Lies}
+use Rattle.mem_entries.specs.Texts.{hashOf, Grown, Lies, upTo}
 use Rattle.mem_rows.specs.Rows.{Rows, tablesOf}
 use Rattle.mem_rows.specs.Valid.{Valid}
 use Rattle.mem_rows.proofs.Within.{names-count, values-count}
@@ -66,7 +66,7 @@ pub record StringIs (added : Bool → Rows → Placed → Rows) (w : Rows) (text
   pub size : r .size ≡ length (v .0 .text)
   pub found : part text′ (record { place = r .place; size = r .size }) ≡ v .0 .text
   pub valid : Valid (added (r .joins) w (v .0))
-  pub joins : r .joins ≡ true → Joins text′ (r .stored) (joiningOf r) (v .0)
+  pub joins : r .joins ≡ true → Joins (upTo text′ (r .stored)) (joiningOf r) (v .0)
 
 module _ {a : Alignment} {Premise : Rows → Type 0} (role : Rows → Role)
     {join : Rows → Placed → Rows} {added : Bool → Rows → Placed → Rows} (adds : Adds join added)
@@ -111,7 +111,7 @@ module _ {a : Alignment} {Premise : Rows → Type 0} (role : Rows → Role)
 
       joins-is : r .joins ≡ true → (v : Placed × Tables)
           → Means join w (take stored text) text stored text′ r v
-          → Joins text′ (r .stored) (joiningOf r) (v .0)
+          → Joins (upTo text′ (r .stored)) (joiningOf r) (v .0)
       joins-is j v m =
           let x = m .laid .x in
           let same : v .0 .text ≡ x = m .new j .0 in

@@ -19,7 +19,7 @@ use Rattle.spec_fields.specs.Parser.{return, _>>=_}
 use Rattle.event.specs.Cells.{asSpan}
 use Rattle.read_contract.specs.Outcome.{Outcome}
 use Rattle.read_contract.proofs.Outcome.{outcome-weaken, outcome-then, outcome-map}
-use Rattle.mem_entries.specs.Texts.{hashOf, Grown, Lies}
+use Rattle.mem_entries.specs.Texts.{hashOf, Grown, Lies, upTo, throughout}
 use Rattle.mem_entries.specs.Entries.{entryAt, keyAt}
 use Rattle.mem_entries.proofs.Entries.{entry-old, entry-new}
 use Rattle.mem_names.specs.Uris.{uriAt, uriText, UrisHold}
@@ -123,9 +123,9 @@ module _ {a : Alignment} {stream : List ℕ} {at : ℕ} {text work : List ℕ} {
   uri-text = string-text (λ w. uri) adds-uri room (b .stored) post
 
   module _ (w : Rows) (p : Prepared work text c w) where
-    pub uris-held : UrisHold work text (c .stored) (c .uris) (w .uris)
+    pub uris-held : UrisHold work (throughout text (c .stored)) (c .uris) (w .uris)
     uris-held =
-        subst (λ n. UrisHold work text (c .stored) n (w .uris)) (sym (p .counts .uris))
+        subst (λ n. UrisHold work (throughout text (c .stored)) n (w .uris)) (sym (p .counts .uris))
         (p .holds .uris)
 
     pub uri-outcome : (s : Settings) → s .alignment ≡ a
@@ -190,10 +190,10 @@ module _ {a : Alignment} {stream : List ℕ} {at : ℕ} {text work : List ℕ} {
           few-uri (u .joins) (v .0) (few-rows b (p .counts))
           (λ j. omega (arith, rowed .left j, p .counts .uris))
 
-      names-held : NamesHold work text₁ (u .stored) (c .names) (with-uri .names)
+      names-held : NamesHold work (throughout text₁ (u .stored)) (c .names) (with-uri .names)
       names-held =
-          subst (NamesHold work text₁ (u .stored) (c .names)) (sym (uri-names w (v .0) (u .joins)))
-          (subst (λ n. NamesHold work text₁ (u .stored) n (w .names)) (sym (p .counts .names))
+          subst (NamesHold work (throughout text₁ (u .stored)) (c .names)) (sym (uri-names w (v .0) (u .joins)))
+          (subst (λ n. NamesHold work (throughout text₁ (u .stored)) n (w .names)) (sym (p .counts .names))
           (holds-grown (text-grown room uri-text) (p .holds) .names))
 
       name-rows : NameRows work text₁ (u .stored) (c .names) (u .row) (u .place) (u .size) with-uri
@@ -278,7 +278,7 @@ module _ {a : Alignment} {stream : List ℕ} {at : ℕ} {text work : List ℕ} {
           name-at-row false j = name-old j
 
           -- The URI's text is still there.
-          uri-still : u .joins ≡ true → Joins text₂ (l .stored) (joiningOf u) (v .0)
+          uri-still : u .joins ≡ true → Joins (upTo text₂ (l .stored)) (joiningOf u) (v .0)
           uri-still j =
               let q = i .joins j in
               record {

@@ -148,11 +148,11 @@ module _ {stream : List ℕ} {at : ℕ} {text work : List ℕ} {c : Core} {name 
   carried-means {w} p q =
       let r : name < length (w .names) = q .row in
       let n = p .holds .names in
-      let x = name-at-is {work = work} {row = name} (pre .carried .nameLow) .means text (c .stored)
-      (length (w .names)) (w .names) n r in
+      let x = name-at-is {work = work} {row = name} (pre .carried .nameLow) .means _ (length (w .names))
+      (w .names) n r in
       let k : keyAt (w .names) name < length (w .uris) = p .valid .refers .names .below name r in
       let y = uri-at-is {work = work} {row = keyAt (w .names) name}
-      (omega (arith, k, p .holds .uris .few)) .means text (c .stored) (length (w .uris)) (w .uris)
+      (omega (arith, k, p .holds .uris .few)) .means _ (length (w .uris)) (w .uris)
       (p .holds .uris) k in
       record {
         rows = w;

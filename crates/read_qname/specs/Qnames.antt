@@ -25,7 +25,7 @@ use Rattle.mem_rows.specs.Valid.{Valid}
 use Rattle.mem_state.specs.declared.Core.{Core}
 use Rattle.mem_state.specs.declared.Joining.{Joining}
 use Rattle.mem_state.specs.declared.Strings.{Strings}
-use Rattle.mem_state.specs.Holds.{Holds, Counts, Bounded}
+use Rattle.mem_state.specs.Holds.{inStore, Holds, Counts, Bounded}
 use Rattle.mem_state.specs.Strung.{StringsJoin}
 use Rattle.read_contract.specs.Outcome.{Outcome}
 use Rattle.read_literal.specs.Literal.{LiteralFit}
@@ -133,7 +133,7 @@ pub record NamePre (stream : List ℕ) (at : ℕ) (text work : List ℕ) (c : Co
 -- Memory is that of these rows.
 pub record Prepared (work text : List ℕ) (c : Core) (w : Rows) : Type 0 where
   pub valid : Valid w
-  pub holds : Holds work text (c .stored) w
+  pub holds : Holds work (inStore text (c .stored)) w
   pub counts : Counts c w
 
 -- The store, as the definitions have it.
@@ -159,7 +159,7 @@ pub record NameBounds (c : Core) (s : Strings) : Type 0 where
 pub record NameMeans (text′ : List ℕ) (w : Rows) (r : Named) (v : QName Placed × Tables) : Type 0
   where
     pub rows : Rows
-    pub joins : StringsJoin text′ (r .stored) (r .strings) w rows
+    pub joins : StringsJoin (inStore text′ (r .stored)) (r .strings) w rows
     pub tables : v .1 ≡ tablesAt text′ (r .stored) rows
     pub row : r .strings .«name_row» < length (rows .names)
     pub name : placedAt rows (r .strings .«name_row») ≡ v .0

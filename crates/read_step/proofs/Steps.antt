@@ -20,7 +20,8 @@ use Rattle.mem_rows.specs.Rows.{Rows, openedAfter, leaves}
 use Rattle.mem_rows.specs.Valid.{Valid}
 use Rattle.mem_rows.proofs.Events.{leaves-lists}
 use Rattle.mem_state.specs.declared.Core.{Core}
-use Rattle.mem_state.specs.Holds.{Holds, Counts, Bounded, Topped, Represents, contextAt}
+use Rattle.mem_state.specs.Holds.{inStore, Holds, Counts, Bounded, Topped, Represents}
+use Rattle.mem_state.specs.Holds.{contextAt}
 use Rattle.mem_state.specs.Commit.{joinedStrings, grown, turned, counted, depthAfter, topAfter}
 use Rattle.mem_state.specs.Commit.{StringsPre, GrowPre, CountPre, TurnPre}
 use Rattle.mem_state.specs.Grows.{learntOf}
@@ -118,8 +119,8 @@ module _ {stream events text work : List ℕ} {c : Core} {cell : ℕ}
         left = leaves (r .growth .kind) (r .growth .name) (r .growth .teaches)
             (learntOf (r .growth)) (m .rows)
 
-        left-holds : Holds (grown c (r .growth) (joinedStrings c (r .strings) work)) text′
-            (r .stored) left
+        left-holds : Holds (grown c (r .growth) (joinedStrings c (r .strings) work))
+            (inStore text′ (r .stored)) left
         left-holds =
             grown-holds (m .grows)
             (strings-hold (m .joins) (rep .counts) join-asks

@@ -23,7 +23,7 @@ use Rattle.mem_rows.specs.Valid.{Valid}
 use Rattle.mem_state.specs.declared.Core.{Core}
 use Rattle.mem_state.specs.declared.Strings.{Strings}
 use Rattle.mem_state.specs.declared.Growth.{Growth}
-use Rattle.mem_state.specs.Holds.{Bounded, Topped, Represents, contextAt}
+use Rattle.mem_state.specs.Holds.{inStore, Bounded, Topped, Represents, contextAt}
 use Rattle.mem_state.specs.Commit.{counted, turned}
 use Rattle.mem_state.specs.Strung.{StringsJoin}
 use Rattle.mem_state.specs.Grows.{learntOf, Grows}
@@ -118,7 +118,7 @@ pub record EventBounds (c : Core) (r : EventRead) : Type 0 where
 pub record EventMeans (text′ : List ℕ) (c : Core) (w : Rows) (opened : List ℕ) (r : EventRead)
     (v : Event Placed × Context) : Type 0 where
   pub rows : Rows
-  pub joins : StringsJoin text′ (r .stored) (r .strings) w rows
+  pub joins : StringsJoin (inStore text′ (r .stored)) (r .strings) w rows
   pub grows : Grows rows c (r .growth)
   pub event : meaning (r .event) ≡ mapEvent spanOf (v .0)
   pub named : r .growth .kind ≡ kindNumber SE → r .growth .name < length (rows .names)

@@ -1,5 +1,6 @@
 -- `find_uri` meets its contract.
 use Rattle.mem_names.proofs.Uris.{Looking, look-start, look-here, look-on, look-end}
+use Rattle.mem_names.specs.Uris.{uriStore}
 use mathlib.Core.Path.{sym, _∙_}
 use Prim.Native.Nat.{_-_}
 use borrow.Author.Needs.{needs}
@@ -7,10 +8,10 @@ use Rattle.mem_names.proofs.find_uri.Statement.{statement}
 use Rattle.mem_names.proofs.find_uri.Tie as tie
 
 abbrev Inv-loop : tie.InvT-loop
-Inv-loop work store x n i₀ i = Looking work store x n i
+Inv-loop work opening store x n i₀ i = Looking work (uriStore opening store) x n i
 
 abbrev μ-loop : tie.MeasureT-loop
-μ-loop work store x n i₀ i = n - i
+μ-loop work opening store x n i₀ i = n - i
 
 loop-holds : tie.Need-loop-holds Inv-loop μ-loop
 loop-holds c = look-start
