@@ -1,0 +1,3 @@
+pub mod Tests
+pub mod Strings
+pub mod Hits

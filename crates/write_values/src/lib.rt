@@ -1,0 +1,182 @@
+// Values (EXI 7.3.3) and strings by no table (EXI 7.1.10), judged; and values, written. Work memory is
+// not written: a value that joins is added once the whole event is accepted. What the functions ask
+// and leave is in specs/Values.antt and specs/Texts.antt.
+ghost use mathlib.Core.Path.{_≡_};
+ghost use Prim.Native.Nat.{_+_, _≤_};
+ghost use Rattle.spec_exi.specs.Sizes.{maxStore};
+ghost use Rattle.spec_exi.specs.Tables.{target, plain};
+ghost use Rattle.read_field.specs.View.{alignmentOf};
+ghost use Rattle.write_field.specs.Written.{Put};
+ghost use Rattle.write_values.specs.Texts.{TextPre, TextPost};
+ghost use Rattle.write_values.specs.Values.{refusedAs, foundAs, literalAs};
+ghost use Rattle.write_values.specs.Values.{NewValuePre, NewValuePost, ValuePre, ValuePost};
+ghost use Rattle.write_values.specs.Values.{valueBits, PutValuePre};
+use mem_values::Form;
+use refusal::LIMIT;
+use refusal::NAME;
+use sizes::MAX_STRING;
+use sizes::MAX_VALUES;
+use write_partition::StringJudged;
+
+// ---- strings by no table
+
+// Judges a comment, or an instruction's text.
+pub fn judge_plain(x: &[u32], stored: usize) -> StringJudged
+    requires { ⌜ TextPre stored ⌝ }
+    ensures { λ r. ⌜ TextPost plain (now (x .entry)) stored r ⌝ }
+{
+    if MAX_STRING < x.len() {
+        return write_partition::refused(LIMIT, stored);
+    }
+    let fault = write_partition::literal_fault(x, stored);
+    if fault != 0 {
+        return write_partition::refused(fault, stored);
+    }
+    write_partition::literal(0, stored, x.len(), false, 0)
+}
+
+// Judges an instruction's target.
+pub fn judge_target(x: &[u32], stored: usize) -> StringJudged
+    requires { ⌜ TextPre stored ⌝ }
+    ensures { λ r. ⌜ TextPost target (now (x .entry)) stored r ⌝ }
+{
+    let r = judge_plain(x, stored);
+    if r.number != 0 {
+        return r;
+    }
+    if !names::target_allowed(x) {
+        return write_partition::refused(NAME, stored);
+    }
+    r
+}
+
+// ---- values
+
+// The partition that has a value: its name's own values, or all of them.
+pub const OWN: u32 = 0;
+
+pub const ALL: u32 = 1;
+
+// None has it.
+pub const NEITHER: u32 = 2;
+
+// The number of a refusal or 0; the partition that has the value, and its compact identifier there;
+// the code points in the store after it; and whether it is to join, with the hash of its text.
+pub struct ValueJudged {
+    pub number: u32,
+    pub partition: u32,
+    pub id: u32,
+    pub stored: usize,
+    pub joins: bool,
+    pub hash: u32,
+}
+
+fn refused(number: u32, stored: usize) -> ValueJudged
+    ensures { λ r. ⌜ r ≡ refusedAs number stored ⌝ }
+{
+    ValueJudged {
+        number,
+        partition: NEITHER,
+        id: 0,
+        stored,
+        joins: false,
+        hash: 0,
+    }
+}
+
+fn found(partition: u32, id: u32, stored: usize) -> ValueJudged
+    ensures { λ r. ⌜ r ≡ foundAs partition id stored ⌝ }
+{
+    ValueJudged {
+        number: 0,
+        partition,
+        id,
+        stored,
+        joins: false,
+        hash: 0,
+    }
+}
+
+fn literal(stored: usize, n: usize, joins: bool, hash: u32) -> ValueJudged
+    requires { ⌜ stored + n ≤ maxStore ⌝ }
+    ensures { λ r. ⌜ r ≡ literalAs stored n joins hash ⌝ }
+{
+    ValueJudged {
+        number: 0,
+        partition: NEITHER,
+        id: 0,
+        stored: stored + n,
+        joins,
+        hash,
+    }
+}
+
+// A value that no partition has.
+fn judge_new_value(x: &[u32], values: u32, stored: usize, h: u32) -> ValueJudged
+    requires { ⌜ NewValuePre (now x) stored ⌝ }
+    ensures { λ r. ⌜ NewValuePost (now (x .entry)) values stored h r ⌝ }
+{
+    let fault = write_partition::literal_fault(x, stored);
+    if fault != 0 {
+        return refused(fault, stored);
+    }
+    if MAX_VALUES <= values as usize {
+        return refused(LIMIT, stored);
+    }
+    literal(stored, x.len(), true, h)
+}
+
+// Judges a value of the name in a row: one search by text answers whether it is the name's own.
+pub fn judge_value(
+    text: &[u32],
+    x: &[u32],
+    owner: u32,
+    values: u32,
+    stored: usize,
+    work: &[u32],
+) -> ValueJudged
+    requires { ⌜ ValuePre (now work) owner values stored ⌝ }
+    ensures { λ r. ⌜
+        ValuePost (now (text .entry)) (now (x .entry)) owner values stored (now (work .entry)) r ⌝ }
+{
+    if MAX_STRING < x.len() {
+        return refused(LIMIT, stored);
+    }
+    if x.len() == 0 {
+        return literal(stored, 0, false, 0);
+    }
+    let h = mem_entries::hash(x);
+    match mem_values::form_of(work, text, x, h, values, 0, values, owner) {
+        Form::Local(i) => found(OWN, i, stored),
+        Form::Global(i) => found(ALL, i, stored),
+        Form::Absent => judge_new_value(x, values, stored, h),
+    }
+}
+
+// Writes a value: a hit among the name's own or among all, or the String, its length raised by 2.
+pub fn put_value(
+    aligned: bool,
+    stream: &mut [u8],
+    at: usize,
+    partition: u32,
+    id: u32,
+    owner: u32,
+    values: u32,
+    x: &[u32],
+    work: &[u32],
+) -> usize
+    requires { ⌜ PutValuePre (now stream) at partition owner values (now x) (now work) ⌝ }
+    ensures { λ r. ⌜
+        Put (now (stream .entry)) at
+        (valueBits (now (work .entry)) partition id owner values (now (x .entry))
+        (alignmentOf aligned)) (now (stream .exit)) r ⌝ }
+{
+    if partition == OWN {
+        let among = mem_values::count_local(work, owner);
+        return write_partition::put_hit(aligned, stream, at, 0, among, id);
+    }
+    if partition == ALL {
+        return write_partition::put_hit(aligned, stream, at, 1, values, id);
+    }
+    write_string::put_string(stream, at, 2, x)
+}
