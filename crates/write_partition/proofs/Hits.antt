@@ -3,13 +3,16 @@ use Prim.Native.Nat.{ℕ, _+_, _^_, _≤_, _<_}
 use native.Mathlib.Omega.{arith}
 use native.Mathlib.Nat.{lt-of-lt-of-le}
 use mathlib.Core.Path.{_≡_}
-use mathlib.Core.List.{List}
+use mathlib.Core.List.{List, []}
+use lib.ListN.{length, getD}
 use lib.Pow.{pow-pos}
 use lib.Dec.{ltb}
 use borrow.Author.Tests.{ltb-true}
 use Rattle.spec_fields.specs.Field.{Alignment, width, maxUnsigned, unsignedBits, numberBits, choiceBits}
 use Rattle.spec_fields.proofs.Number.{width-enough, width-least}
 use Rattle.spec_fields.proofs.Tests.{split}
+use Rattle.text.specs.Text.{Text}
+use Rattle.spec_exi.specs.Tables.{Slot, literals, hit, formBits}
 use Rattle.mem_chain.specs.Chain.{below}
 use Rattle.mem_chain.proofs.Last.{below-in}
 use Rattle.write_field.specs.Written.{Put, NumberFits, UnsignedFits}
@@ -45,3 +48,9 @@ module _ {stream : List ℕ} {at partition among : ℕ} (h : HitPre stream at pa
         → Put mid next (numberBits a n v) after r → Put stream at (hitBits a partition among i) after r
     unfolding hitBits choiceBits
     hit-put a q = put-then p (rw (w, e) at q)
+
+-- The bits of a hit by the definitions, where the identifier is among so many.
+pub hit-form-bits : (a : Alignment) (ess : List (List Slot)) (j i : ℕ) (x : Text) {among : ℕ}
+    → length (getD ess j []) ≡ among → i < among → formBits a (literals ess) (hit j i) x ≡ hitBits a j among i
+unfolding formBits hitBits
+hit-form-bits a ess j i x {among} e h = rw (e, below-in among i h)

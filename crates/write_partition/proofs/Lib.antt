@@ -1,4 +1,5 @@
 pub mod Tests
 pub mod Strings
 pub mod Rows
+pub mod Means
 pub mod Hits

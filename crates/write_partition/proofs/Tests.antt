@@ -1,13 +1,13 @@
 -- Tests in order, each with its refusal; and the number of the first that fails.
 use Prim.Native.Nat.{ℕ, _+_, _-_, _≤_, _<_}
 use native.Mathlib.Omega.{arith}
-use mathlib.Core.Path.{_≡_, refl, _∙_}
+use mathlib.Core.Path.{_≡_, refl, sym, _∙_}
 use mathlib.Core.Bool.{Bool, true, false, cond, not}
 use mathlib.Core.List.{List, [], _∷_, _++_}
 use mathlib.Core.Option.{Option, none, some, Option·some-ne-none}
 use lib.ListN.{length}
 use lib.Dec.{leb, ltb}
-use borrow.Author.Tests.{le-leb, lt-leb, not-true, not-false}
+use borrow.Author.Tests.{leb-true, le-leb, lt-leb, not-true, not-false}
 use Rattle.spec_fields.specs.Refusal.{Refusal, numberOf, character, limit}
 use Rattle.spec_fields.proofs.Refusal.{refusal-number}
 use Rattle.spec_fields.proofs.Tests.{split}
@@ -64,6 +64,20 @@ number-first xs ys {n} e h =
     let (k, f) = some-refusal (firstFailed xs) (omega arith) in
     e ∙ rw (f, failed-first k xs ys f)
 
+-- A test that passes says nothing.
+pub passed-test : (xs ys : List Test) (b : Bool) (k : Refusal) → b ≡ true
+    → firstFailed (xs ++ ((b, k) ∷ ys)) ≡ firstFailed (xs ++ ys)
+unfolding firstFailed
+passed-test [] ys b k e = rw e
+passed-test (x ∷ xs) ys b k e = rw (passed-test xs ys b k e)
+
+-- None fails: the first passes, and the others do.
+pub first-passes : (b : Bool) (k : Refusal) (xs : List Test) → firstFailed ((b, k) ∷ xs) ≡ none
+    → (b ≡ true) × (firstFailed xs ≡ none)
+unfolding firstFailed
+first-passes true k xs e = (refl, e)
+first-passes false k xs e = absurd (Option·some-ne-none k e)
+
 -- ---- the text of a literal
 
 module _ (x : Text) (stored : ℕ) (low : stored ≤ maxStore) where
@@ -82,3 +96,17 @@ module _ (x : Text) (stored : ℕ) (low : stored ≤ maxStore) where
     pub no-fault : not b ≡ false → 0 ≡ faultNumber (firstFailed (literalTests x stored))
     unfolding faultNumber firstFailed literalTests
     no-fault h = rw (fits, ← e, not-false b h)
+
+-- What a literal without a fault has passed; ys are the tests after those of its text.
+pub record Passed (x : Text) (stored : ℕ) (ys : List Test) : Type 0 where
+  pub store : stored + length x ≤ maxStore
+  pub chars : allChars x ≡ true
+  pub others : firstFailed ys ≡ none
+
+pub literal-passes : (x : Text) (stored : ℕ) (ys : List Test) {n : ℕ}
+    → n ≡ faultNumber (firstFailed (literalTests x stored ++ ys)) → n ≡ 0 → Passed x stored ys
+unfolding literalTests
+literal-passes x stored ys e z =
+    let (s, more) = first-passes (leb (stored + length x) maxStore) limit _ (fault-none _ (sym e ∙ z)) in
+    let (c, others) = first-passes (allChars x) character ys more in
+    record { store = leb-true (stored + length x) maxStore s; chars = c; others = others }
