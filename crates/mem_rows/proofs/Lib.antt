@@ -9,3 +9,4 @@ pub mod Grown
 pub mod Events
 pub mod Alike
 pub mod Within
+pub mod Forms

@@ -1,6 +1,6 @@
 -- The answer at each test of a name.
 use mathlib.Core.Path.{_≡_, refl, sym, ap}
-use mathlib.Core.Bool.{Bool, true, false, not}
+use mathlib.Core.Bool.{Bool, true, false, not, _&&_, true≢false}
 use mathlib.Core.List.{[], _∷_}
 use native.Mathlib.Omega.{arith}
 use lib.ListN.{length}
@@ -68,3 +68,20 @@ module _ (u x : Text) {i : Bool} (uri : i ≡ eqText u xsiUri) where
     pub is-type : n ≡ false → {t : Bool} → t ≡ eqText x (text "type") → t ≡ isReserved u x
     unfolding isReserved
     is-type h e = rw (← uri, there, ← nil, h, ← e)
+
+-- ---- names that were judged as an element's
+
+-- An element's name may be an attribute's, unless it is reserved.
+pub attribute-allowed : (attr : Bool) (u x : Text) → nameAllowed (local false u) x ≡ true
+    → nameAllowed (local attr u) x ≡ not (attr && isReserved u x)
+unfolding nameAllowed isReserved isEmpty
+attribute-allowed true u [] h = absurd (true≢false (sym h))
+attribute-allowed true u (c ∷ x) h = refl
+attribute-allowed false u x h = h
+
+-- A name that is allowed may be an element's.
+pub element-allowed : (attr : Bool) (u x : Text) → nameAllowed (local attr u) x ≡ true
+    → nameAllowed (local false u) x ≡ true
+unfolding nameAllowed isEmpty
+element-allowed attr u [] h = absurd (true≢false (sym h))
+element-allowed attr u (c ∷ x) h = refl

@@ -3,52 +3,32 @@
 use Prim.Native.Nat.{ℕ, suc, _<_}
 use native.Mathlib.Omega.{arith}
 use mathlib.Core.Path.{_≡_, refl, sym, ap, _∙_}
-use mathlib.Core.Bool.{Bool, true, false, not, _&&_, true≢false}
-use mathlib.Core.List.{List, map}
+use mathlib.Core.Bool.{Bool, true, false}
+use mathlib.Core.List.{List}
 use mathlib.Core.Option.{some}
-use lib.ListN.{length, getElem?, length-map}
-use lib.Dec.{eqb}
+use lib.ListN.{length, getElem?}
 use borrow.Author.Tests.{le-ltb}
 use Rattle.spec_fields.proofs.Tests.{split}
-use Rattle.text.specs.Text.{Text, part, isEmpty}
-use Rattle.spec_exi.specs.Tables.{Placed, spanOf, indexOf, local, partitionsOf, hit, literal}
-use Rattle.spec_exi.specs.Tables.{hitOr, firstHit, formOf, nameAllowed}
+use Rattle.text.specs.Text.{Text, part}
+use Rattle.spec_exi.specs.Tables.{Placed, spanOf, local, partitionsOf, hit, literal}
+use Rattle.spec_exi.specs.Tables.{hitOr, formOf, nameAllowed}
 use Rattle.mem_chain.specs.Chain.{firstThat, lastThat}
 use Rattle.mem_chain.proofs.First.{first-found, first-zero}
 use Rattle.mem_chain.proofs.Last.{last-is}
 use Rattle.mem_index.specs.Index.{tally, hasKey, isNumbered}
 use Rattle.mem_index.proofs.Codes.{numbered-is}
 use Rattle.mem_entries.specs.Texts.{Names, throughout}
-use Rattle.mem_entries.specs.Entries.{Entries, entryAt, keyAt, textAt, given, slots, slotOf}
-use Rattle.mem_entries.proofs.Slots.{slots-all}
+use Rattle.mem_entries.specs.Entries.{Entries, entryAt, keyAt, textAt, slotOf}
 use Rattle.mem_entries.proofs.Nth.{nth-slot}
 use Rattle.mem_names.specs.declared.Name.{Name}
 use Rattle.mem_names.specs.Uris.{uriText}
 use Rattle.mem_names.specs.Names.{isEntry, NamesHold, NthName, IsName, NameAt}
 use Rattle.mem_names.proofs.Names.{entry-is, is-entry}
-use Rattle.mem_names.proofs.Tables.{numberFrom, name-number}
+use Rattle.mem_names.proofs.Tables.{numberFrom}
 use Rattle.mem_rows.specs.Rows.{Rows, placedAt, nameAt, tablesOf}
-use Rattle.mem_rows.proofs.Partitions.{names-part}
-use Rattle.names.specs.Names.{isReserved}
+use Rattle.mem_rows.proofs.Forms.{own-slots, name-form}
 use Rattle.read_partition.specs.Strings.{Tabled}
 use Rattle.read_names.specs.Names.{NameRows, nameRole, ownNames}
-
--- ---- names that are refused
-
--- An element's name may be an attribute's, unless it is reserved.
-pub attribute-allowed : (attr : Bool) (u x : Text) → nameAllowed (local false u) x ≡ true
-    → nameAllowed (local attr u) x ≡ not (attr && isReserved u x)
-unfolding nameAllowed isReserved
-attribute-allowed true u x h =
-    split (isEmpty x) (λ e. absurd (true≢false (sym (rw e at h)))) (λ e. rw e)
-attribute-allowed false u x h = h
-
--- A name that is allowed may be an element's.
-pub element-allowed : (attr : Bool) (u x : Text) → nameAllowed (local attr u) x ≡ true
-    → nameAllowed (local false u) x ≡ true
-unfolding nameAllowed
-element-allowed attr u x h =
-    split (isEmpty x) (λ e. absurd (true≢false (sym (rw e at h)))) (λ e. rw e)
 
 -- ---- a row that memory holds
 
@@ -88,31 +68,17 @@ module _ {text : List ℕ} {stored : ℕ} {w : Rows} {store : Text} (t : Tabled 
   pub count-is : length (w .names) ≡ names
   count-is = p .hold .count
 
-  own-is : ownNames uri w store ≡ map some (given (w .names) uri)
-  own-is = ap (map some) (names-part (t .valid) store uri (p .row))
-
-  own-slots : ownNames uri w store ≡ slots 0 (eqb uri) (w .names)
-  unfolding given
-  own-slots = own-is ∙ sym (slots-all (eqb uri) (w .names))
-
-  pub own-count : length (ownNames uri w store) ≡ length (given (w .names) uri)
-  own-count = ap length own-is ∙ length-map (given (w .names) uri) some
-
   -- The strict form of a text, by what a search for it answers.
   pub form-of : (attr : Bool) (x : Text) (r : ℕ) → r ≡ firstThat (isEntry (w .names) uri x) names
       → formOf (partitionsOf (tablesOf w store) (nameRole attr uri w)) x
       ≡ hitOr 0 (numberFrom (w .names) uri r) literal
-  unfolding partitionsOf formOf firstHit
   form-of attr x r e =
-      ap (λ o. hitOr 0 o literal)
-      (ap (λ l. indexOf l x) own-slots
-      ∙ name-number (w .names) uri x r
-      (e ∙ ap (firstThat (isEntry (w .names) uri x)) (sym count-is)))
+      name-form (t .valid) uri (p .row) x r (e ∙ ap (firstThat (isEntry (w .names) uri x)) (sym count-is)) store attr
 
   module _ {i r : ℕ} (f : NthName work uri i names r) where
     own-slot : getElem? (ownNames uri w store) i ≡ slotOf (w .names) 0 r
     own-slot =
-        ap (λ l. getElem? l i) own-slots ∙ nth-slot (w .names) 0 uri i
+        ap (λ l. getElem? l i) (own-slots (t .valid) uri (p .row) store) ∙ nth-slot (w .names) 0 uri i
         ∙ ap (slotOf (w .names) 0)
         (ap (lastThat (isNumbered (keyAt (w .names)) uri i)) count-is
         ∙ sym (f .means (throughout text stored) (w .names) (p .hold)))

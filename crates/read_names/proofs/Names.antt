@@ -23,7 +23,9 @@ use Rattle.mem_names.specs.declared.Name.{Name}
 use Rattle.mem_names.specs.Uris.{uriText}
 use Rattle.mem_names.specs.Names.{CountedNames, NthName, NameAt}
 use Rattle.mem_rows.specs.Rows.{Rows, tablesOf}
+use Rattle.mem_rows.proofs.Forms.{own-count}
 use Rattle.names.specs.Names.{isReserved}
+use Rattle.names.proofs.Laws.{attribute-allowed}
 use Rattle.read_field.specs.declared.Field.{Field}
 use Rattle.read_field.specs.declared.Field.the-variants.{Value, Refused}
 use Rattle.read_field.specs.View.{fieldAt}
@@ -41,8 +43,8 @@ use Rattle.read_names.specs.Names.{NamePre, NameRows, nameRole, ownNames
 use Rattle.read_names.specs.Names.{asNewName, NamePost, NameRowed}
 use Rattle.read_names.proofs.Rows.{name-refused-row}
 use Rattle.read_names.proofs.Compact.{same-form}
-use Rattle.read_names.proofs.Meaning.{attribute-allowed, is-name, name-lies, nth-inside}
-use Rattle.read_names.proofs.Meaning.{nth-key, own-count, own-missing, own-there}
+use Rattle.read_names.proofs.Meaning.{is-name, name-lies, nth-inside}
+use Rattle.read_names.proofs.Meaning.{nth-key, own-missing, own-there}
 use Rattle.read_names.proofs.Meaning.{own-strict, own-judged}
 
 -- What `read_local` and its parts leave.
@@ -83,7 +85,7 @@ module _ (a : Alignment) {stream : List ℕ} {at : ℕ} {text : List ℕ} {store
     counted : (w : Rows) (store : Text) → Tabled text stored w store
         → NameRows work text stored names uri place size w → length (ownNames uri w store) ≡ among
     counted w store t p =
-        own-count t p ∙ sym (c .count (throughout text stored) names (w .names) (p .hold))
+        own-count (t .valid) uri (p .row) store ∙ sym (c .count (throughout text stored) names (w .names) (p .hold))
 
     pub own-refused : {k : ℕ} → f ≡ Refused k
         → NameAnswer a attr asOwn stream at text stored work names uri place size text

@@ -5,32 +5,31 @@ use native.Mathlib.Omega.{arith}
 use mathlib.Core.Path.{_≡_, refl, sym, ap, subst, _∙_}
 use mathlib.Core.Bool.{Bool, true, false, true≢false}
 use mathlib.Core.List.{List}
-use lib.ListN.{length, replicate}
+use lib.ListN.{replicate}
 use lib.Dec.{ltb}
 use borrow.Author.Tests.{lt-ltb, le-ltb}
 use Rattle.spec_fields.specs.Refusal.{numberOf, loose, name, limit}
 use Rattle.spec_fields.specs.Field.{Alignment}
 use Rattle.text.specs.Text.{Text, part}
-use Rattle.spec_exi.specs.Event.{QName}
 use Rattle.spec_exi.specs.Sizes.{sizes, maxNames}
 use Rattle.spec_exi.specs.Tables.{local, partitionsOf, literal, eqForm, hitOr, formOf, laid, added}
 use Rattle.spec_exi.specs.Tables.{tablesAfter, nameAllowed}
 use Rattle.spec_exi.specs.Lists.{withinTables}
 use Rattle.mem_chain.specs.Chain.{firstThat}
-use Rattle.mem_chain.proofs.First.{first-none}
 use Rattle.mem_layout.specs.Layout.{openingNames}
 use Rattle.mem_entries.specs.Texts.{hashOf}
 use Rattle.mem_entries.proofs.Texts.{one-store}
-use Rattle.mem_entries.specs.Entries.{Entries, keyAt}
+use Rattle.mem_entries.specs.Entries.{Entries}
 use Rattle.mem_names.specs.Uris.{uriText}
 use Rattle.mem_names.specs.Names.{isEntry, nameStore, FoundName}
-use Rattle.mem_names.proofs.Names.{entry-is}
 use Rattle.mem_names.proofs.Joined.{names-longer}
 use Rattle.mem_names.proofs.Tables.{numberFrom}
-use Rattle.mem_rows.specs.Rows.{Rows, placedAt, nameAt, tablesOf, withName}
+use Rattle.mem_rows.specs.Rows.{Rows, tablesOf, withName}
 use Rattle.mem_rows.proofs.Joins.{name-joins}
 use Rattle.mem_rows.proofs.Grown.{name-grows}
 use Rattle.mem_rows.proofs.Within.{names-count, within-local}
+use Rattle.mem_rows.proofs.Forms.{name-fresh}
+use Rattle.names.proofs.Laws.{element-allowed}
 use Rattle.read_literal.specs.declared.Literal as declared
 use Rattle.read_literal.specs.Literal.{laidAt, LiteralRead}
 use Rattle.read_partition.specs.Strings.{refusedAs, literalAs, Tabled}
@@ -41,7 +40,7 @@ use Rattle.read_names.specs.Names.{NamePre, NameRows, nameRole, asNewNam
 use Rattle.read_names.specs.Names.{SoughtName}
 use Rattle.read_names.proofs.Laid.{TextLaid, laid-found, store-grown, store-fits, lies-grown}
 use Rattle.read_names.proofs.Laid.{text-laid}
-use Rattle.read_names.proofs.Meaning.{element-allowed, count-is, form-of}
+use Rattle.read_names.proofs.Meaning.{count-is, form-of}
 
 -- ---- the form by what a search answers
 
@@ -98,20 +97,6 @@ module _ {text : List ℕ} {stored : ℕ} {w : Rows} {store : Text} (t : Tabled 
         ap (eqForm literal) (form-of t p attr x (q .row) row-is)
         ∙ present-form (w .names) uri (q .row) ne
 
-    -- No name of the rows is the same.
-    fresh : q .row ≡ 0 → (i : ℕ) → i < length (w .names)
-        → nameAt w i ≡ record { uri = uriText (w .uris) uri; local = x } → ⊥
-    unfolding nameAt placedAt
-    fresh z i h e =
-        let u : uriText (w .uris) (keyAt (w .names) i) ≡ uriText (w .uris) uri =
-        ap (λ (y : QName Text). y .uri) e in
-        let k : keyAt (w .names) i ≡ uri =
-        t .valid .distinct .uris (keyAt (w .names) i) uri (t .valid .refers .names .below i h)
-        (p .row) u in
-        true≢false (sym (entry-is (w .names) uri x i k (ap (λ (y : QName Text). y .local) e))
-        ∙ first-none (isEntry (w .names) uri x) names i (sym row-is ∙ z)
-        (omega (arith, count-is t p)))
-
     new-passes : q .row ≡ 0 → nameAllowed (nameRole attr uri w) x ≡ true → names < maxNames
         → Passes (λ w y. withName w uri y) (nameRole attr uri w) w store x true
     unfolding laid tablesOf
@@ -123,7 +108,9 @@ module _ {text : List ℕ} {stored : ℕ} {w : Rows} {store : Text} (t : Tabled 
           stays = λ j. absurd (true≢false j);
           joined = λ _. name-joins w (t .valid .refers) store x attr uri;
           valid = λ _.
-              name-grows (t .valid) uri _ (p .row) (fresh z)
+              name-grows (t .valid) uri _ (p .row)
+              (name-fresh (t .valid) uri (p .row) x (q .row)
+              (row-is ∙ ap (firstThat (isEntry (w .names) uri x)) (sym (count-is t p))) z)
               (element-allowed attr (uriText (w .uris) uri) x ok);
         }
 

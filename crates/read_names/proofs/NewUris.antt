@@ -15,15 +15,15 @@ use Rattle.spec_exi.specs.Tables.{uri, partitionsOf, literal, eqForm, hitOr, fo
 use Rattle.spec_exi.specs.Tables.{tablesAfter, nameAllowed}
 use Rattle.spec_exi.specs.Lists.{withinTables}
 use Rattle.mem_chain.specs.Chain.{firstThat}
-use Rattle.mem_chain.proofs.First.{first-none}
 use Rattle.mem_layout.specs.Layout.{openingUris}
 use Rattle.mem_entries.specs.Texts.{hashOf}
-use Rattle.mem_entries.proofs.Texts.{is-text, one-store}
-use Rattle.mem_names.specs.Uris.{uriText, hasUri, rowOf, uriStore, FoundUri}
+use Rattle.mem_entries.proofs.Texts.{one-store}
+use Rattle.mem_names.specs.Uris.{hasUri, rowOf, uriStore, FoundUri}
 use Rattle.mem_names.proofs.Uris.{uris-grown}
 use Rattle.mem_rows.specs.Rows.{Rows, tablesOf, withUri}
 use Rattle.mem_rows.proofs.Joins.{uri-joins}
 use Rattle.mem_rows.proofs.Grown.{uri-grows}
+use Rattle.mem_rows.proofs.Forms.{uri-fresh}
 use Rattle.mem_rows.proofs.Within.{within-uri}
 use Rattle.read_literal.specs.declared.Literal as declared
 use Rattle.read_literal.specs.Literal.{laidAt, LiteralRead}
@@ -84,9 +84,7 @@ module _ {text : List ℕ} {stored : ℕ} {w : Rows} {store : Text} (t : Tabled 
         joined = λ _. uri-joins w (t .valid .refers) store x;
         valid = λ _.
             uri-grows (t .valid) _
-            (λ u l e. true≢false (sym (is-text (uriText (w .uris) u) x e)
-            ∙ first-none (hasUri (w .uris) x) uris u (sym row-is ∙ z)
-            (omega (arith, count-is t p))));
+            (uri-fresh w x (q .row) (row-is ∙ ap (firstThat (hasUri (w .uris) x)) (sym (count-is t p))) z);
       }
 
 -- ---- by what `read_literal` and `seek_uri` answer

@@ -13,7 +13,7 @@ use Rattle.text.specs.Text.{Text, part}
 use Rattle.text.proofs.Equal.{eqText-no}
 use Rattle.spec_exi.specs.Sizes.{maxUris}
 use Rattle.spec_exi.specs.Tables.{Placed, spanOf, uri, partitionsOf, literal, hitOr}
-use Rattle.spec_exi.specs.Tables.{firstHit, formOf, nameAllowed}
+use Rattle.spec_exi.specs.Tables.{formOf, nameAllowed}
 use Rattle.mem_chain.specs.Chain.{firstThat}
 use Rattle.mem_chain.proofs.First.{first-found, first-zero}
 use Rattle.mem_entries.specs.Texts.{Names, throughout}
@@ -21,8 +21,9 @@ use Rattle.mem_entries.proofs.Texts.{is-text}
 use Rattle.mem_entries.proofs.Alike.{at-map}
 use Rattle.mem_names.specs.declared.Uri.{Uri}
 use Rattle.mem_names.specs.Uris.{uriAt, uriText, hasUri, rowOf, UrisHold, IsUri, UriAt}
-use Rattle.mem_names.proofs.Tables.{uri-index, uri-nth}
+use Rattle.mem_names.proofs.Tables.{uri-nth}
 use Rattle.mem_rows.specs.Rows.{Rows, tablesOf}
+use Rattle.mem_rows.proofs.Forms.{uri-form}
 use Rattle.read_field.specs.declared.Field.{Field}
 use Rattle.read_field.specs.declared.Field.the-variants.{Value, Refused}
 use Rattle.read_field.specs.View.{fieldAt}
@@ -70,10 +71,7 @@ module _ {text : List ℕ} {stored : ℕ} {w : Rows} {store : Text} (t : Tabled 
   -- The strict form of a text, by what a search for it answers.
   pub form-of : (x : Text) (r : ℕ) → r ≡ firstThat (hasUri (w .uris) x) uris
       → formOf (partitionsOf (tablesOf w store) uri) x ≡ hitOr 0 (rowOf r) literal
-  unfolding partitionsOf formOf firstHit tablesOf
-  form-of x r e =
-      ap (λ o. hitOr 0 o literal)
-      (uri-index (w .uris) x r (e ∙ ap (firstThat (hasUri (w .uris) x)) (sym count-is)))
+  form-of x r e = uri-form w x r (e ∙ ap (firstThat (hasUri (w .uris) x)) (sym count-is)) store
 
   module _ {i : ℕ} (h : i < uris) where
     -- No URI before it has its text.

@@ -1,10 +1,9 @@
 -- What the judgement of a string means, by its form.
 use Prim.Native.Nat.{ℕ, _+_, _≤_, _<_}
 use native.Mathlib.Omega.{arith}
-use mathlib.Core.Path.{_≡_, refl, sym, ap, subst, _∙_}
+use mathlib.Core.Path.{_≡_, sym, ap, subst, _∙_}
 use mathlib.Core.Bool.{Bool, true, false}
-use mathlib.Core.List.{List, [], _∷_, _++_}
-use mathlib.Core.Option.{some}
+use mathlib.Core.List.{[], _∷_, _++_}
 use lib.ListN.{length, replicate, length-append}
 use Rattle.spec_fields.specs.Bits.{Bits}
 use Rattle.spec_fields.specs.Field.{Alignment}
@@ -13,7 +12,7 @@ use Rattle.text.specs.Text.{Text}
 use Rattle.spec_exi.specs.Sizes.{sizes, maxString, maxStore}
 use Rattle.spec_exi.specs.Tables.{Role, partitionsOf, hit, literal, formOf, formBits, added}
 use Rattle.spec_exi.specs.Tables.{nameAllowed}
-use Rattle.spec_exi.specs.Context.{item, afterItem}
+use Rattle.spec_exi.specs.Context.{item}
 use Rattle.spec_exi.specs.Lists.{withinTables}
 use Rattle.spec_exi.specs.Writer.{firstFailed, stringTests}
 use Rattle.spec_exi.specs.Alike.{AlikeTables}

@@ -1,19 +1,17 @@
 -- What the writer knows of the rows: their tables pass no size, and a text that was judged may join.
 use Prim.Native.Nat.{ℕ, _≤_, _<_}
-use native.Mathlib.Omega.{arith}
-use mathlib.Core.Path.{_≡_, refl, sym, ap, subst, _∙_}
-use mathlib.Core.Bool.{true, _&&_}
+use mathlib.Core.Path.{_≡_, sym, ap, subst}
+use mathlib.Core.Bool.{true}
 use mathlib.Core.List.{List, [], _∷_, _++_}
 use lib.ListN.{length, replicate, length-replicate}
-use lib.Dec.{leb}
 use borrow.Author.Tests.{le-leb}
 use Rattle.text.specs.Text.{Text}
 use Rattle.spec_exi.specs.Sizes.{sizes, maxUris, maxNames, maxValues, maxStore}
 use Rattle.spec_exi.specs.Tables.{Placed, Entry}
 use Rattle.spec_exi.specs.Lists.{withinTables}
-use Rattle.mem_entries.specs.Entries.{entryAt, textAt}
+use Rattle.mem_entries.specs.Entries.{textAt}
 use Rattle.mem_entries.proofs.Entries.{entry-old, entry-new}
-use Rattle.mem_names.specs.Uris.{uriAt, uriText}
+use Rattle.mem_names.specs.Uris.{uriText}
 use Rattle.mem_rows.specs.Rows.{Rows, tablesOf, withUri, withName, withValue}
 use Rattle.mem_rows.proofs.Entries.{last-or}
 use Rattle.mem_rows.proofs.Joins.{uri-old, uri-new}
