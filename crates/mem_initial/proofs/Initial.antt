@@ -120,7 +120,7 @@ module _ (work : List ℕ) (room : workCells ≤ length work)
       (rest-has urisText namesText has (origin + length urisText) refl) (names-fresh origin)
 
   pub start-represents : (text : List ℕ) → 99 ≤ length text → (at : ℕ)
-      → Represents (withRows work 0) (withText text 0) (startAt at) startRows []
+      → Represents (withRows work 0) (inStore (withText text 0) 99) (startAt at) startRows []
   unfolding startAt initialRows plusUris plusNames withUri withName initialUris initialNames
   start-represents text fits at =
       let s = initial-stands text 0 99 (omega arith) fits in

@@ -24,14 +24,14 @@ use Rattle.mem_state.specs.declared.Strings.{Strings}
 use Rattle.mem_state.specs.Holds.{Stores, Holds, Ahead, Counts}
 use Rattle.mem_state.specs.Commit.{joinedUri, joinedName, joinedValue, joinedStrings}
 use Rattle.mem_state.specs.Commit.{StringsPre}
-use Rattle.mem_state.specs.Strung.{uriAdded, nameAdded, valueAdded, Joins, StringsJoin}
+use Rattle.mem_state.specs.Strung.{uriAdded, nameAdded, valueAdded, Lain, Joins, StringsJoin}
 use Rattle.mem_state.proofs.Joins.{holds-uri, holds-name, holds-value}
 
 -- ---- one string
 
 module _ {work : List ℕ} {from : Stores} where
   uri-holds : (w : Rows) (n : ℕ) (b : Bool) (x : Joining) (y : Placed) → x .joins ≡ b
-      → n ≡ length (w .uris) → (b ≡ true → Joins (from .uris (length (w .uris))) x y) → (b ≡ true → n < uriRows)
+      → n ≡ length (w .uris) → (b ≡ true → Lain (from .uris (length (w .uris))) x y) → (b ≡ true → n < uriRows)
       → Valid (uriAdded b w y) → Holds work from w
       → Holds (joinedUri n x work) from (uriAdded b w y)
   unfolding uriAdded joinedUri
@@ -46,8 +46,8 @@ module _ {work : List ℕ} {from : Stores} where
       → Holds work from w → Holds (joinedName n u x work) from (nameAdded b u w y)
   unfolding nameAdded joinedName
   name-holds w r n u true x y e c j few low v h =
-      rw (e, c, j refl .place, j refl .size, j refl .hash)
-      (holds-name w r u y v h (omega (arith, few refl)) low (j refl .lies))
+      rw (e, c, j refl .lain .place, j refl .lain .size, j refl .hash)
+      (holds-name w r u y v h (omega (arith, few refl)) low (j refl .lain .lies))
   name-holds w r n u false x y e c j few low v h = rw e h
 
   value-holds : (w : Rows) (n k : ℕ) (b : Bool) (x : Joining) (y : Placed)
@@ -56,8 +56,8 @@ module _ {work : List ℕ} {from : Stores} where
       → Holds work from w → Holds (joinedValue n k x work) from (valueAdded b k w y)
   unfolding valueAdded joinedValue
   value-holds w n k true x y e c j few low v h =
-      rw (e, c, j refl .place, j refl .size, j refl .hash)
-      (holds-value w k y v h (omega (arith, few refl)) low (j refl .lies))
+      rw (e, c, j refl .lain .place, j refl .lain .size, j refl .hash)
+      (holds-value w k y v h (omega (arith, few refl)) low (j refl .lain .lies))
   value-holds w n k false x y e c j few low v h = rw e h
 
 -- ---- which lists each touches

@@ -101,9 +101,10 @@ pub record Topped (c : Core) (opened : List ℕ) : Type 0 where
 
 -- Memory and numbers are those of these rows and open elements. (The top is said apart: it is the one
 -- number that memory does not know.)
-pub record Represents (work text : List ℕ) (c : Core) (w : Rows) (opened : List ℕ) : Type 0 where
+pub record Represents (work : List ℕ) (from : Stores) (c : Core) (w : Rows) (opened : List ℕ) :
+    Type 0 where
   pub valid : Valid w
-  pub holds : Holds work (inStore text (c .stored)) w
+  pub holds : Holds work from w
   pub counts : Counts c w
   pub opens : Opens c w opened
 

@@ -24,18 +24,22 @@ valueAdded true n w x = withValue w n x
 valueAdded false n w x = w
 
 -- The cells of a string that joins: it lies in the first cells of a store.
-pub record Joins (at : Source) (x : Joining) (y : Placed) : Type 0 where
+pub record Lain (at : Source) (x : Joining) (y : Placed) : Type 0 where
   pub place : x .place ≡ y .place
   pub size : x .size ≡ length (y .text)
-  pub hash : x .hash ≡ hashOf (y .text)
   pub lies : Lies (at .store) (at .stored) (y .place) (length (y .text)) (y .text)
+
+-- Names and values are found by the hash of their text; URIs are not.
+pub record Joins (at : Source) (x : Joining) (y : Placed) : Type 0 where
+  pub lain : Lain at x y
+  pub hash : x .hash ≡ hashOf (y .text)
 
 -- v is w with these strings: the URI, the local name and the value that join.
 pub record StringsJoin (from : Stores) (s : Strings) (w v : Rows) : Type 0 where
   pub uri : Placed
   pub name : Placed
   pub value : Placed
-  pub uri-joins : s .uri .joins ≡ true → Joins (from .uris (length (w .uris))) (s .uri) uri
+  pub uri-joins : s .uri .joins ≡ true → Lain (from .uris (length (w .uris))) (s .uri) uri
   pub name-joins : s .name .joins ≡ true → Joins (from .names (length (w .names))) (s .name) name
   pub value-joins : s .value .joins ≡ true → Joins (from .values) (s .value) value
   pub uri-valid : Valid (uriAdded (s .uri .joins) w uri)

@@ -9,7 +9,7 @@ use Rattle.spec_exi.specs.Settings.{Settings}
 use Rattle.spec_exi.specs.Sizes.{sizes, maxStream, maxEvents}
 use Rattle.spec_exi.specs.Reader.{Reading, readEvents}
 use Rattle.mem_rows.specs.Rows.{Rows, isOver}
-use Rattle.mem_state.specs.Holds.{Topped, Represents, contextAt}
+use Rattle.mem_state.specs.Holds.{inStore, Topped, Represents, contextAt}
 use Rattle.read_literal.specs.Literal.{ZeroFrom}
 use Rattle.read_run.specs.declared.State.{State}
 use Rattle.read_run.specs.Run.{openedIn, EventsLaid, TextLaid}
@@ -23,7 +23,7 @@ pub record PlaceIn (stream : List ℕ) (at : ℕ) : Type 0 where
 
 -- No event is read yet, and memory holds these rows.
 pub record BodyReady (events text work : List ℕ) (st : State) (w : Rows) : Type 0 where
-  pub represents : Represents work text (st .core) w (openedIn st)
+  pub represents : Represents work (inStore text (st .core .stored)) (st .core) w (openedIn st)
   pub topped : Topped (st .core) (openedIn st)
   pub going : st .core .mode ≡ isOver → ⊥
   pub none : events ≡ replicate (length events) 0

@@ -32,14 +32,14 @@ use Rattle.mem_state.specs.declared.Core.{Core}
 use Rattle.mem_state.specs.declared.Joining.{Joining}
 use Rattle.mem_state.specs.declared.Strings.{Strings}
 use Rattle.mem_state.specs.Holds.{inStore, Bounded}
-use Rattle.mem_state.specs.Strung.{uriAdded, nameAdded, valueAdded, Joins, StringsJoin}
+use Rattle.mem_state.specs.Strung.{uriAdded, nameAdded, valueAdded, Lain, Joins, StringsJoin}
 use Rattle.mem_state.proofs.Joins.{holds-grown}
 use Rattle.mem_state.proofs.Strung.{value-uris, value-names}
 use Rattle.read_contract.specs.Outcome.{Declined, Gotten, Outcome}
 use Rattle.read_contract.proofs.Outcome.{refused-outcome, return-outcome, declined-then}
 use Rattle.read_contract.proofs.Outcome.{outcome-weaken, outcome-then, outcome-map}
 use Rattle.read_partition.specs.declared.StringRead.{StringRead}
-use Rattle.read_partition.specs.Strings.{asString}
+use Rattle.read_partition.specs.Strings.{Hashed, asString}
 use Rattle.read_values.specs.Values.{ValueRows, valueRole, asValue, ValuePost, JoinsWithin}
 use Rattle.read_values.specs.Texts.{TextPost}
 use Rattle.read_production.specs.declared.ProductionRead.{ProductionRead}
@@ -48,7 +48,7 @@ use Rattle.read_qname.specs.Texts.{TextRead}
 use Rattle.read_qname.specs.Qnames.{joiningOf, noJoining, noStrings, partOf, Prepared, tablesAt}
 use Rattle.read_qname.specs.Qnames.{Carried, NameMeans, NamePost, PairPre}
 use Rattle.read_qname.proofs.Texts.{text-size, text-grown, text-none, text-then}
-use Rattle.read_qname.proofs.Got.{Adds, StringIs, string-text, string-is}
+use Rattle.read_qname.proofs.Got.{Adds, StringIs, string-joins, string-text, string-is}
 use Rattle.read_qname.proofs.Pair.{Few, few-rows, tabled, lies-grown}
 use Rattle.read_content.specs.declared.Content.{Content}
 use Rattle.read_content.specs.Contents.{ownedBy, stoppedAs, plainAs, valueStrings}
@@ -78,10 +78,13 @@ none-join text stored owner {w} v =
       is = refl;
     }
 
-joins-grown : {text text′ : List ℕ} {stored stored′ : ℕ} {x : Joining} {y : Placed}
-    → Grown text text′ stored stored′ → Joins (upTo text stored) x y → Joins (upTo text′ stored′) x y
-joins-grown g j =
-    record { place = j .place; size = j .size; hash = j .hash; lies = lies-grown g (j .lies) }
+module _ {text text′ : List ℕ} {stored stored′ : ℕ} (g : Grown text text′ stored stored′) where
+  lain-grown : {x : Joining} {y : Placed} → Lain (upTo text stored) x y → Lain (upTo text′ stored′) x y
+  lain-grown j = record { place = j .place; size = j .size; lies = lies-grown g (j .lies) }
+
+  joins-grown : {x : Joining} {y : Placed} → Joins (upTo text stored) x y
+      → Joins (upTo text′ stored′) x y
+  joins-grown j = record { lain = lain-grown (j .lain); hash = j .hash }
 
 -- The store grows.
 pub join-grown : {text text′ : List ℕ} {stored stored′ : ℕ} {s : Strings} {w v : Rows}
@@ -92,7 +95,7 @@ join-grown g j =
       uri = j .uri;
       name = j .name;
       value = j .value;
-      uri-joins = λ b. joins-grown g (j .uri-joins b);
+      uri-joins = λ b. lain-grown g (j .uri-joins b);
       name-joins = λ b. joins-grown g (j .name-joins b);
       value-joins = λ b. joins-grown g (j .value-joins b);
       uri-valid = j .uri-valid;
@@ -112,18 +115,18 @@ without-value false k w y e = refl
 
 pub join-value : {text text′ : List ℕ} {stored : ℕ} {s : Strings} {w v : Rows} {x : StringRead}
     {y : Placed × Tables} → s .value .joins ≡ false → StringsJoin (inStore text stored) s w v
-    → Grown text text′ stored (x .stored) → StringIs (addValue (s .owner)) v text′ x y
+    → Grown text text′ stored (x .stored) → StringIs (addValue (s .owner)) v text′ x y → Hashed text′ x
     → StringsJoin (inStore text′ (x .stored)) (contents.withValue s x) w
     (valueAdded (x .joins) (s .owner) v (y .0))
-join-value {s = s} {x = x} {y = y} f j g i =
+join-value {s = s} {x = x} {y = y} f j g i h =
     let base = j .is ∙ without-value (s .value .joins) (s .owner) _ (j .value) f in
     record {
       uri = j .uri;
       name = j .name;
       value = y .0;
-      uri-joins = λ b. joins-grown g (j .uri-joins b);
+      uri-joins = λ b. lain-grown g (j .uri-joins b);
       name-joins = λ b. joins-grown g (j .name-joins b);
-      value-joins = i .joins;
+      value-joins = string-joins i h;
       uri-valid = j .uri-valid;
       name-valid = j .name-valid;
       valid = i .valid;

@@ -195,7 +195,7 @@ module _ {stream : List ℕ} {at : ℕ} {text work : List ℕ} {c : Core} {p : P
 
   module _ {a : Alignment} {text₁ : List ℕ} {x : StringRead}
       (post : ValuePost a asValue stream at text (c .stored) work (c .values) (c .top) text₁ x)
-      (joins : JoinsWithin (c .values) x) (i : kindAt (p .kind) ≡ CH) (j : p .kind ≡ kindNumber CH)
+      (joins : JoinsWithin (c .values) text₁ x) (i : kindAt (p .kind) ≡ CH) (j : p .kind ≡ kindNumber CH)
     where
       abbrev charactersAs : Content
       charactersAs =
@@ -246,7 +246,7 @@ module _ {stream : List ℕ} {at : ℕ} {text work : List ℕ} {c : Core} {p : P
           record {
             rows = valueAdded (x .joins) (c .top) w (y .0);
             joins = join-value refl (none-join text (c .stored) (c .top) v)
-                (text-grown room (value-text room stored-few post)) k;
+                (text-grown room (value-text room stored-few post)) k (joins .hashed);
             tables = k .tables;
             event = ap characters (span-is k);
             kind-is = sym i;
@@ -373,7 +373,7 @@ module _ {stream : List ℕ} {at : ℕ} {text work : List ℕ} {c : Core} {p : P
       module _ {text₂ : List ℕ} {x : StringRead}
           (post₂ : ValuePost a asValue stream (n .next) text₁ (n .stored) work (c .values)
           (n .strings .owner) text₂ x)
-          (joins : JoinsWithin (c .values) x) where
+          (joins : JoinsWithin (c .values) text₂ x) where
         abbrev attributeAs : Content
         attributeAs =
             record {
@@ -401,7 +401,7 @@ module _ {stream : List ℕ} {at : ℕ} {text work : List ℕ} {c : Core} {p : P
             let g = text-grown room-still (value-text room-still few-still post₂) in
             record {
               rows = valueAdded b o (m .rows) (y .0);
-              joins = join-value no-value (m .joins) g k;
+              joins = join-value no-value (m .joins) g k (joins .hashed);
               tables = k .tables;
               event = λ t. attribute (record { uri = m .uri-is t; local = m .local-is t })
                   (span-is k t);

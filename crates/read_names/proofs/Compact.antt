@@ -228,5 +228,4 @@ module _ {a : Alignment} {Premise : Rows → Type 0} {join : Rows → Placed →
             whole = refl;
             place = λ z. absurd (true≢false (sym z));
             size = λ z. absurd (true≢false (sym z));
-            hash = λ z. absurd (true≢false (sym z));
           }

@@ -170,6 +170,7 @@ module _ (a : Alignment) {stream : List ℕ} {at : ℕ} {text : List ℕ} {store
             low = λ _. omega (arith, n .within, fit .few);
             left = λ j. absurd (true≢false (sym j));
             new = λ j. absurd (true≢false (sym j));
+            hashed = record { is = λ j. absurd (true≢false (sym j)) };
             old = λ _ _ ns p.
                 let l = nth-inside p n row-of in
                 record {

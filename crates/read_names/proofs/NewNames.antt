@@ -176,7 +176,6 @@ module _ {stream : List ℕ} {at : ℕ} {text : List ℕ} {stored : ℕ} {work :
             (literalAs (l .next) stored n names true (q .hash))
         new-joins h =
             literal-passed (nameRole attr uri) r z (fit .literal .room) names true (q .hash)
-            (λ x e f _. s .hash ∙ ap hashOf (laid-found (text-laid (fit .literal) r z x e f)))
             (λ w store t p x e f.
             let d = text-laid (fit .literal) r z x e f in
             new-passes t p d attr s absent (sym (allowed-is t p d attr) ∙ sym tested ∙ ok) h)

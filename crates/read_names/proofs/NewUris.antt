@@ -16,7 +16,6 @@ use Rattle.spec_exi.specs.Tables.{tablesAfter, nameAllowed}
 use Rattle.spec_exi.specs.Lists.{withinTables}
 use Rattle.mem_chain.specs.Chain.{firstThat}
 use Rattle.mem_layout.specs.Layout.{openingUris}
-use Rattle.mem_entries.specs.Texts.{hashOf}
 use Rattle.mem_entries.proofs.Texts.{one-store}
 use Rattle.mem_names.specs.Uris.{hasUri, rowOf, uriStore, FoundUri}
 use Rattle.mem_names.proofs.Uris.{uris-grown}
@@ -30,8 +29,7 @@ use Rattle.read_literal.specs.Literal.{laidAt, LiteralRead}
 use Rattle.read_partition.specs.Strings.{refusedAs, literalAs, Tabled}
 use Rattle.read_partition.proofs.Steps.{judge-loose, judge-limit}
 use Rattle.read_partition.proofs.Posts.{literal-refused, literal-judged, Passes, literal-passed}
-use Rattle.read_names.specs.declared.Sought.{Sought}
-use Rattle.read_names.specs.Uris.{UriPre, UriRows, asNewUri, UriPost, SoughtUri}
+use Rattle.read_names.specs.Uris.{UriPre, UriRows, asNewUri, UriPost}
 use Rattle.read_names.proofs.Laid.{TextLaid, laid-found, store-grown, store-fits, text-laid}
 use Rattle.read_names.proofs.Uris.{count-is, form-of}
 
@@ -49,23 +47,23 @@ present-form j (suc g) ne = refl
 module _ {text : List ℕ} {stored : ℕ} {w : Rows} {store : Text} (t : Tabled text stored w store)
     {work : List ℕ} {uris : ℕ} (p : UriRows work text stored uris w)
     {n : ℕ} {text′ : List ℕ} {x : Text} (d : TextLaid text stored n text′ x)
-    {q : Sought} (s : SoughtUri work text′
+    {q : ℕ} (s : FoundUri work (uriStore text′ text′)
     (part text′ (record { place = stored; size = n })) uris q) where
   -- The answer of the search.
-  row-is : q .row ≡ firstThat (hasUri (w .uris) x) uris
+  row-is : q ≡ firstThat (hasUri (w .uris) x) uris
   row-is =
-      let f : FoundUri work (uriStore text′ text′) x uris (q .row) =
-      subst (λ y. FoundUri work (uriStore text′ text′) y uris (q .row)) (laid-found d) (s .found) in
+      let f : FoundUri work (uriStore text′ text′) x uris q =
+      subst (λ y. FoundUri work (uriStore text′ text′) y uris q) (laid-found d) s in
       f .means _ (w .uris) (uris-grown (store-grown d) (p .hold)) (one-store openingUris text′)
 
-  absent-strict : q .row ≡ 0
+  absent-strict : q ≡ 0
       → eqForm literal (formOf (partitionsOf (tablesOf w store) uri) x) ≡ true
-  absent-strict z = ap (eqForm literal) (form-of t p x (q .row) row-is) ∙ absent-form 0 (q .row) z
+  absent-strict z = ap (eqForm literal) (form-of t p x q row-is) ∙ absent-form 0 q z
 
-  present-loose : (q .row ≡ 0 → ⊥)
+  present-loose : (q ≡ 0 → ⊥)
       → eqForm literal (formOf (partitionsOf (tablesOf w store) uri) x) ≡ false
   present-loose ne =
-      ap (eqForm literal) (form-of t p x (q .row) row-is) ∙ present-form 0 (q .row) ne
+      ap (eqForm literal) (form-of t p x q row-is) ∙ present-form 0 q ne
 
   within-is : withinTables sizes (added (tablesOf w store) uri x) ≡ ltb uris maxUris
   unfolding tablesOf
@@ -73,7 +71,7 @@ module _ {text : List ℕ} {stored : ℕ} {w : Rows} {store : Text} (t : Tabled 
       within-uri (tablesOf w store) x (t .within) (store-fits d t)
       ∙ ap (λ m. ltb m maxUris) (count-is t p)
 
-  new-passes : q .row ≡ 0 → uris < maxUris → Passes (λ w y. withUri w y) uri w store x true
+  new-passes : q ≡ 0 → uris < maxUris → Passes (λ w y. withUri w y) uri w store x true
   unfolding nameAllowed laid tablesOf
   new-passes z h =
       record {
@@ -84,7 +82,7 @@ module _ {text : List ℕ} {stored : ℕ} {w : Rows} {store : Text} (t : Tabled 
         joined = λ _. uri-joins w (t .valid .refers) store x;
         valid = λ _.
             uri-grows (t .valid) _
-            (uri-fresh w x (q .row) (row-is ∙ ap (firstThat (hasUri (w .uris) x)) (sym (count-is t p))) z);
+            (uri-fresh w x q (row-is ∙ ap (firstThat (hasUri (w .uris) x)) (sym (count-is t p))) z);
       }
 
 -- ---- by what `read_literal` and `seek_uri` answer
@@ -97,9 +95,9 @@ module _ {stream : List ℕ} {at : ℕ} {text : List ℕ} {stored : ℕ} {work :
       (refusedAs (l .number) (l .next) (l .left) stored)
   new-refused ne = literal-refused (λ w. uri) r (omega arith)
 
-  module _ (z : l .number ≡ 0) {q : Sought} (s : SoughtUri work text′
+  module _ (z : l .number ≡ 0) {q : ℕ} (s : FoundUri work (uriStore text′ text′)
       (part text′ (record { place = stored; size = n })) uris q) where
-    pub new-loose : (q .row ≡ 0 → ⊥) → {text″ : List ℕ}
+    pub new-loose : (q ≡ 0 → ⊥) → {text″ : List ℕ}
         → text″ ≡ laidAt text′ stored (replicate n 0) → {a : Alignment}
         → UriPost a (asNewUri n) stream at text stored work uris text″
         (refusedAs (numberOf loose) (l .next) 0 stored)
@@ -109,7 +107,7 @@ module _ {stream : List ℕ} {at : ℕ} {text : List ℕ} {stored : ℕ} {work :
         (λ w store t p x e f.
         judge-loose _ _ _ (present-loose t p (text-laid (fit .literal) r z x e f) s ne))
 
-    module _ (absent : q .row ≡ 0) where
+    module _ (absent : q ≡ 0) where
       pub new-full : maxUris ≤ uris → {text″ : List ℕ}
           → text″ ≡ laidAt text′ stored (replicate n 0) → {a : Alignment}
           → UriPost a (asNewUri n) stream at text stored work uris text″
@@ -124,8 +122,7 @@ module _ {stream : List ℕ} {at : ℕ} {text : List ℕ} {stored : ℕ} {work :
 
       pub new-joins : uris < maxUris → {a : Alignment}
           → UriPost a (asNewUri n) stream at text stored work uris text′
-          (literalAs (l .next) stored n uris true (q .hash))
+          (literalAs (l .next) stored n uris true 0)
       new-joins h =
-          literal-passed (λ w. uri) r z (fit .literal .room) uris true (q .hash)
-          (λ x e f _. s .hash ∙ ap hashOf (laid-found (text-laid (fit .literal) r z x e f)))
+          literal-passed (λ w. uri) r z (fit .literal .room) uris true 0
           (λ w store t p x e f. new-passes t p (text-laid (fit .literal) r z x e f) s absent h)

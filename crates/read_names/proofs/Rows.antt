@@ -6,9 +6,10 @@ use mathlib.Core.Path.{_≡_, refl, sym, _∙_}
 use mathlib.Core.Bool.{true, false, true≢false}
 use mathlib.Core.List.{List}
 use lib.ListN.{length}
-use Rattle.text.specs.Text.{Text}
+use Rattle.text.specs.Text.{Text, part}
 use Rattle.spec_exi.specs.Sizes.{maxUris, maxNames}
 use Rattle.spec_exi.specs.Tables.{Placed, Tables}
+use Rattle.mem_entries.specs.Texts.{hashOf}
 use Rattle.mem_entries.specs.Entries.{entryAt, keyAt}
 use Rattle.mem_names.specs.Uris.{uriAt}
 use Rattle.mem_rows.specs.Rows.{Rows}
@@ -34,17 +35,19 @@ module _ {text : List ℕ} {stored : ℕ} {work : List ℕ} {uris : ℕ} {text�
         low = λ z. absurd (omega arith);
         left = λ j. absurd (true≢false (sym j));
         new = λ j. absurd (true≢false (sym j));
+        unhashed = refl;
         old = λ z. absurd (omega arith);
       }
 
-  pub uri-new-row : (next n hash : ℕ) → uris < maxUris
-      → UriRowed text stored work uris text′ (literalAs next stored n uris true hash)
+  pub uri-new-row : (next n : ℕ) → uris < maxUris
+      → UriRowed text stored work uris text′ (literalAs next stored n uris true 0)
   unfolding maxUris
-  uri-new-row next n hash h =
+  uri-new-row next n h =
       record {
         low = λ _. omega arith;
         left = λ _. h;
         new = λ _. refl;
+        unhashed = refl;
         old = λ _ j. absurd (true≢false j);
       }
 
@@ -67,17 +70,20 @@ module _ {text : List ℕ} {stored : ℕ} {work : List ℕ} {names uri : ℕ} {t
         low = λ z. absurd (omega arith);
         left = λ j. absurd (true≢false (sym j));
         new = λ j. absurd (true≢false (sym j));
+        hashed = record { is = λ j. absurd (true≢false (sym j)) };
         old = λ z. absurd (omega arith);
       }
 
   pub name-new-row : (next n hash : ℕ) → names < maxNames
+      → hash ≡ hashOf (part text′ (record { place = stored; size = n }))
       → NameRowed text stored work names uri text′ (literalAs next stored n names true hash)
   unfolding maxNames
-  name-new-row next n hash h =
+  name-new-row next n hash h e =
       record {
         low = λ _. omega arith;
         left = λ _. h;
         new = λ _. refl;
+        hashed = record { is = λ _. e };
         old = λ _ j. absurd (true≢false j);
       }
 

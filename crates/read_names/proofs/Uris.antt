@@ -196,6 +196,7 @@ module _ (a : Alignment) {stream : List ℕ} {at : ℕ} {text : List ℕ} {store
             low = λ _. omega (arith, fit .few);
             left = λ j. absurd (true≢false (sym j));
             new = λ j. absurd (true≢false (sym j));
+            unhashed = refl;
             old = λ _ _ us p. record {
               inside = omega (arith, p .count);
               spans = record {

@@ -17,7 +17,7 @@ use Rattle.mem_names.specs.Names.{NamesHold, nameStore, FoundName}
 use Rattle.mem_rows.specs.Rows.{Rows, tablesOf, withName}
 use Rattle.read_literal.specs.Literal.{LiteralFit}
 use Rattle.read_partition.specs.declared.StringRead.{StringRead}
-use Rattle.read_partition.specs.Strings.{Reading, asString, asHit, asLiteral, StringPost}
+use Rattle.read_partition.specs.Strings.{Hashed, Reading, asString, asHit, asLiteral, StringPost}
 use Rattle.read_names.specs.declared.Sought.{Sought}
 use Rattle.read_names.specs.Uris.{Spans}
 
@@ -78,6 +78,7 @@ pub record NameRowed (text : List ℕ) (stored : ℕ) (work : List ℕ) (names u
   pub low : r .number ≡ 0 → r .row < nameRows
   pub left : r .joins ≡ true → names < maxNames
   pub new : r .joins ≡ true → r .row ≡ names
+  pub hashed : Hashed text′ r
   pub old : r .number ≡ 0 → r .joins ≡ false → (ns : Entries)
       → NamesHold work (throughout text stored) names ns → InNames ns uri text′ r
 

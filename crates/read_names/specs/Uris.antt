@@ -11,13 +11,12 @@ use Rattle.spec_exi.specs.Sizes.{sizes, maxStore, maxUris}
 use Rattle.spec_exi.specs.Tables.{Placed, uri}
 use Rattle.spec_exi.specs.Reader.{readByLiterals}
 use Rattle.mem_layout.specs.Layout.{uriRows, workCells}
-use Rattle.mem_entries.specs.Texts.{hashOf, throughout}
-use Rattle.mem_names.specs.Uris.{uriAt, UrisHold, uriStore, FoundUri}
+use Rattle.mem_entries.specs.Texts.{throughout}
+use Rattle.mem_names.specs.Uris.{uriAt, UrisHold}
 use Rattle.mem_rows.specs.Rows.{Rows, withUri}
 use Rattle.read_literal.specs.Literal.{LiteralFit}
 use Rattle.read_partition.specs.declared.StringRead.{StringRead}
 use Rattle.read_partition.specs.Strings.{judge, Reading, asString, asLiteral, StringPost}
-use Rattle.read_names.specs.declared.Sought.{Sought}
 
 -- ---- bounds
 
@@ -72,10 +71,6 @@ pub record UriRowed (text : List ℕ) (stored : ℕ) (work : List ℕ) (uris : �
   pub low : r .number ≡ 0 → r .row < uriRows
   pub left : r .joins ≡ true → uris < maxUris
   pub new : r .joins ≡ true → r .row ≡ uris
+  pub unhashed : r .hash ≡ 0
   pub old : r .number ≡ 0 → r .joins ≡ false → (us : List Placed)
       → UrisHold work (throughout text stored) uris us → InUris us text′ r
-
--- The hash of a text, and where it is found among the URIs.
-pub record SoughtUri (work text x : List ℕ) (uris : ℕ) (r : Sought) : Type 0 where
-  pub hash : r .hash ≡ hashOf x
-  pub found : FoundUri work (uriStore text text) x uris (r .row)

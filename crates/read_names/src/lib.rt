@@ -9,10 +9,11 @@ ghost use Rattle.spec_fields.specs.Field.{Alignment};
 ghost use Rattle.text.specs.Text.{part};
 ghost use Rattle.spec_exi.specs.Sizes.{maxStore};
 ghost use Rattle.spec_exi.specs.Tables.{local, nameAllowed};
+ghost use Rattle.mem_names.specs.Uris.{uriStore, FoundUri};
 ghost use Rattle.names.specs.Names.{isReserved};
 ghost use Rattle.read_field.specs.View.{alignmentOf};
 ghost use Rattle.read_names.specs.Uris.{UriPre, UriSought, asUri, asMissed, asNewUri};
-ghost use Rattle.read_names.specs.Uris.{UriPost, UriRowed, SoughtUri};
+ghost use Rattle.read_names.specs.Uris.{UriPost, UriRowed};
 ghost use Rattle.read_names.specs.Names.{NamePre, NameSought, asName, asOwn, asNewName};
 ghost use Rattle.read_names.specs.Names.{NamePost, NameRowed, SoughtName};
 use read_field::Field;
@@ -24,25 +25,17 @@ use refusal::REFERENCE;
 use sizes::MAX_NAMES;
 use sizes::MAX_URIS;
 
-// The row of a string and 1, or 0 for none; and the hash of its text.
-struct Sought {
-    row: u32,
-    hash: u32,
-}
-
 // ---- URIs
 
-// Seeks the text of n code points after the store among the URIs.
-fn seek_uri(text: &[u32], stored: usize, n: u32, work: &[u32], uris: u32) -> Sought
+// The row and 1 of the URI whose text is the n code points after the store, or 0 for none.
+fn seek_uri(text: &[u32], stored: usize, n: u32, work: &[u32], uris: u32) -> u32
     requires { ⌜ UriSought stored (now work) uris ⌝ }
     ensures { λ r. ⌜
-        SoughtUri (now (work .entry)) (now (text .entry))
+        FoundUri (now (work .entry)) (uriStore (now (text .entry)) (now (text .entry)))
         (part (now (text .entry)) (record { place = stored; size = n })) uris r ⌝ }
 {
     let x = text::look_up(text, stored as u32, n);
-    let row = mem_names::find_uri(work, text, text, x, uris);
-    let hash = mem_entries::hash(x);
-    Sought { row, hash }
+    mem_names::find_uri(work, text, text, x, uris)
 }
 
 // A URI as a literal of n code points.
@@ -66,14 +59,14 @@ fn new_uri(
     if read.number != 0 {
         return read_partition::refused(read.number, read.next, read.left, stored);
     }
-    let sought = seek_uri(text, stored, n, work, uris);
-    if sought.row != 0 {
+    let row = seek_uri(text, stored, n, work, uris);
+    if row != 0 {
         return read_partition::dropped(LOOSE, read.next, n, stored, text);
     }
     if MAX_URIS <= uris as usize {
         return read_partition::dropped(LIMIT, read.next, n, stored, text);
     }
-    read_partition::laid(read.next, stored, n, uris, true, sought.hash)
+    read_partition::laid(read.next, stored, n, uris, true, 0)
 }
 
 // The String of a URI that is no hit.
@@ -182,6 +175,12 @@ fn own_name(
             read_partition::found(next, x.place, x.size, g - 1, stored)
         }
     }
+}
+
+// The row of a name and 1, or 0 for none; and the hash of its text.
+struct Sought {
+    row: u32,
+    hash: u32,
 }
 
 // Seeks the text of n code points after the store among the names of the URI.

@@ -19,7 +19,6 @@ use Rattle.spec_exi.specs.Tables.{Placed, Slot, Tables, Role, literals, partiti
 use Rattle.spec_exi.specs.Tables.{eqForm, formOf, laid, added, tablesAfter, nameAllowed}
 use Rattle.spec_exi.specs.Lists.{withinTables}
 use Rattle.spec_exi.specs.Reader.{readCharacter, readHit, readLiteral, readString}
-use Rattle.mem_entries.specs.Texts.{hashOf}
 use Rattle.mem_rows.specs.Rows.{Rows, tablesOf}
 use Rattle.mem_rows.specs.Valid.{Valid}
 use Rattle.read_contract.specs.Outcome.{Declined, Gotten, Outcome}
@@ -130,7 +129,6 @@ module _ {a : Alignment} {Premise : Rows → Type 0} {role : Rows → Role} {j :
             whole = refl;
             place = λ z. absurd (true≢false (sym z));
             size = λ z. absurd (true≢false (sym z));
-            hash = λ z. absurd (true≢false (sym z));
           }
 
 -- ---- a literal
@@ -174,9 +172,8 @@ pub record Passes (join : Rows → Placed → Rows) (role : Role) (w : Rows) (st
 module _ {n : ℕ} {stream : List ℕ} {at : ℕ} {text : List ℕ} {stored : ℕ} {text′ : List ℕ} {l : declared.Literal}
     (r : LiteralRead stream at text stored n text′ l) where
   literal-laid : l .number ≡ 0 → (row : ℕ) (joins : Bool) (hash : ℕ)
-      → ((x : Text) → length x ≡ n → text′ ≡ laidAt text stored x → joins ≡ true → hash ≡ hashOf x)
       → Laid text stored text′ (literalAs (l .next) stored n row joins hash)
-  literal-laid z row joins hash h =
+  literal-laid z row joins hash =
       let q = r .behind z in
       record {
         x = q .x;
@@ -186,7 +183,6 @@ module _ {n : ℕ} {stream : List ℕ} {at : ℕ} {text : List ℕ} {stored : �
         whole = refl;
         place = λ _. refl;
         size = λ _. sym (q .size);
-        hash = h (q .x) (q .size) (q .text-is);
       }
 
   -- Two texts of n code points that lie there are the same.
@@ -262,16 +258,15 @@ module _ {a : Alignment} {Premise : Rows → Type 0} (role : Rows → Role) {joi
 
     -- It passes what is judged after it.
     pub literal-passed : (row : ℕ) (joins : Bool) (hash : ℕ)
-        → ((x : Text) → length x ≡ n → text′ ≡ laidAt text stored x → joins ≡ true → hash ≡ hashOf x)
         → ((w : Rows) (store : Text) → Tabled text stored w store → Premise w → (x : Text) → length x ≡ n → text′ ≡ laidAt text stored x
         → Passes join (role w) w store x joins)
         → StringPost a Premise (λ w store. asLiteral (role w) n) join stream at text stored text′ (literalAs (l .next) stored n row joins hash)
     unfolding laid
-    literal-passed row joins hash h f =
+    literal-passed row joins hash f =
         record {
           inside = r .inside;
           refused = λ y. absurd (omega arith);
-          laid = λ _. literal-laid r z row joins hash h;
+          laid = λ _. literal-laid r z row joins hash;
           meant = λ s e w store t p.
               let q = literal-is r z s (tablesOf w store) (store-size t) in
               let v = f w store t p (q .x) (q .size) (q .text-is) in
@@ -297,7 +292,6 @@ module _ {a : Alignment} {Premise : Rows → Type 0} (role : Rows → Role) {joi
                 whole = refl;
                 place = λ _. refl;
                 size = λ _. sym (q .size);
-                hash = h (q .x) (q .size) (q .text-is);
               };
               place = sym (store-size t);
               size = sym (q .size);

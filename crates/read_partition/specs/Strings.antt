@@ -88,7 +88,10 @@ pub record Laid (text : List ℕ) (stored : ℕ) (text′ : List ℕ) (r : Strin
   pub whole : r .left ≡ 0
   pub place : r .joins ≡ true → r .place ≡ stored
   pub size : r .joins ≡ true → r .size ≡ length x
-  pub hash : r .joins ≡ true → r .hash ≡ hashOf x
+
+-- A string that is found by its hash: where it joins, the hash is that of its text.
+pub record Hashed (text : List ℕ) (r : StringRead) : Type 0 where
+  pub is : r .joins ≡ true → r .hash ≡ hashOf (part text (record { place = r .place; size = r .size }))
 
 -- ---- by the definitions
 

@@ -18,11 +18,11 @@ use Rattle.mem_entries.specs.Texts.{hashOf, Grown, Lies, upTo}
 use Rattle.mem_rows.specs.Rows.{Rows, tablesOf}
 use Rattle.mem_rows.specs.Valid.{Valid}
 use Rattle.mem_rows.proofs.Within.{names-count, values-count}
-use Rattle.mem_state.specs.Strung.{Joins}
+use Rattle.mem_state.specs.Strung.{Lain, Joins}
 use Rattle.read_literal.specs.Literal.{laidAt}
 use Rattle.read_literal.proofs.Store.{laid-take}
 use Rattle.read_partition.specs.declared.StringRead.{StringRead}
-use Rattle.read_partition.specs.Strings.{Laid, Means, asString, StringPost}
+use Rattle.read_partition.specs.Strings.{Hashed, Laid, Means, asString, StringPost}
 use Rattle.read_qname.specs.Texts.{TextRead}
 use Rattle.read_qname.specs.Qnames.{joiningOf, tablesAt}
 use Rattle.read_qname.proofs.Texts.{text-size, text-refused, text-laid}
@@ -66,7 +66,13 @@ pub record StringIs (added : Bool → Rows → Placed → Rows) (w : Rows) (text
   pub size : r .size ≡ length (v .0 .text)
   pub found : part text′ (record { place = r .place; size = r .size }) ≡ v .0 .text
   pub valid : Valid (added (r .joins) w (v .0))
-  pub joins : r .joins ≡ true → Joins (upTo text′ (r .stored)) (joiningOf r) (v .0)
+  pub lain : r .joins ≡ true → Lain (upTo text′ (r .stored)) (joiningOf r) (v .0)
+
+-- A string that is found by its hash joins with it.
+pub string-joins : {added : Bool → Rows → Placed → Rows} {w : Rows} {text′ : List ℕ} {r : StringRead}
+    {v : Placed × Tables} → StringIs added w text′ r v → Hashed text′ r → r .joins ≡ true
+    → Joins (upTo text′ (r .stored)) (joiningOf r) (v .0)
+string-joins i h j = record { lain = i .lain j; hash = h .is j ∙ ap hashOf (i .found) }
 
 module _ {a : Alignment} {Premise : Rows → Type 0} (role : Rows → Role)
     {join : Rows → Placed → Rows} {added : Bool → Rows → Placed → Rows} (adds : Adds join added)
@@ -109,16 +115,14 @@ module _ {a : Alignment} {Premise : Rows → Type 0} (role : Rows → Role)
       valid-is true e o v m = subst Valid (sym (adds .yes w (v .0))) (m .valid e)
       valid-is false e o v m = subst Valid (sym (adds .no w (v .0))) o
 
-      joins-is : r .joins ≡ true → (v : Placed × Tables)
+      lain-is : r .joins ≡ true → (v : Placed × Tables)
           → Means join w (take stored text) text stored text′ r v
-          → Joins (upTo text′ (r .stored)) (joiningOf r) (v .0)
-      joins-is j v m =
-          let x = m .laid .x in
-          let same : v .0 .text ≡ x = m .new j .0 in
+          → Lain (upTo text′ (r .stored)) (joiningOf r) (v .0)
+      lain-is j v m =
+          let same : v .0 .text ≡ m .laid .x = m .new j .0 in
           record {
             place = m .place;
             size = m .size;
-            hash = m .laid .hash j ∙ ap hashOf (sym same);
             lies = record {
               ends = omega (
                 arith,
@@ -143,5 +147,5 @@ module _ {a : Alignment} {Premise : Rows → Type 0} (role : Rows → Role)
             size = m .size;
             found = m .found;
             valid = valid-is (r .joins) refl o v m;
-            joins = λ j. joins-is j v m;
+            lain = λ j. lain-is j v m;
           }

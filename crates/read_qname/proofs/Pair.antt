@@ -29,7 +29,7 @@ use Rattle.mem_rows.specs.Valid.{Refers, Valid}
 use Rattle.mem_rows.proofs.Joins.{uri-new, name-new}
 use Rattle.mem_state.specs.declared.Core.{Core}
 use Rattle.mem_state.specs.Holds.{Holds, Counts, Bounded}
-use Rattle.mem_state.specs.Strung.{uriAdded, nameAdded, valueAdded, Joins, StringsJoin}
+use Rattle.mem_state.specs.Strung.{uriAdded, nameAdded, valueAdded, Lain, StringsJoin}
 use Rattle.mem_state.proofs.Joins.{holds-grown}
 use Rattle.mem_state.proofs.Strung.{uri-names, uri-values, name-uris, name-values}
 use Rattle.read_partition.specs.declared.StringRead.{StringRead}
@@ -42,7 +42,8 @@ use Rattle.read_qname.specs.Qnames.{joiningOf, noJoining, pairAs, Prepar
 use Rattle.read_qname.specs.Qnames.{NameMeans}
 use Rattle.read_qname.proofs.Texts.{text-size, text-grown}
 use Rattle.read_qname.specs.declared.Named.{Named}
-use Rattle.read_qname.proofs.Got.{rows-within, Adds, StringIs, string-text, string-is}
+use Rattle.read_qname.proofs.Got.{rows-within, Adds, StringIs, string-joins, string-text}
+use Rattle.read_qname.proofs.Got.{string-is}
 
 pub adds-uri : Adds (λ w x. withUri w x) uriAdded
 unfolding uriAdded
@@ -164,7 +165,7 @@ module _ {a : Alignment} {stream : List ℕ} {at : ℕ} {text work : List ℕ} {
       unfolding withUri
       uri-new-row j =
           let n : u .row ≡ length (w .uris) = rowed .new j ∙ p .counts .uris in
-          let l = i .joins j .lies in
+          let l = i .lain j .lies in
           record {
             inside = omega (arith, n, length-append (w .uris) (v .0 ∷ []));
             at-row = ap (uriAt (w .uris ++ (v .0 ∷ []))) n ∙ uri-new w (v .0);
@@ -278,13 +279,12 @@ module _ {a : Alignment} {stream : List ℕ} {at : ℕ} {text work : List ℕ} {
           name-at-row false j = name-old j
 
           -- The URI's text is still there.
-          uri-still : u .joins ≡ true → Joins (upTo text₂ (l .stored)) (joiningOf u) (v .0)
+          uri-still : u .joins ≡ true → Lain (upTo text₂ (l .stored)) (joiningOf u) (v .0)
           uri-still j =
-              let q = i .joins j in
+              let q = i .lain j in
               record {
                 place = q .place;
                 size = q .size;
-                hash = q .hash;
                 lies = lies-grown (text-grown room₁ name-text) (q .lies);
               }
 
@@ -300,7 +300,7 @@ module _ {a : Alignment} {stream : List ℕ} {at : ℕ} {text work : List ℕ} {
                   name = x .0;
                   value = x .0;
                   uri-joins = uri-still;
-                  name-joins = k .joins;
+                  name-joins = string-joins k (rowed₂ .hashed);
                   value-joins = λ j. absurd (true≢false (sym j));
                   uri-valid = i .valid;
                   name-valid = k .valid;

@@ -24,7 +24,7 @@ use Rattle.spec_exi.specs.Reader.{Reading, step, ending, onward, readEvents}
 use Rattle.spec_exi.specs.Packets.{nothingYet, firstThen, firstEvents}
 use Rattle.mem_rows.specs.Rows.{Rows, nameAt, inTag, isOver, stateOf, ModeFits, contextOf}
 use Rattle.mem_state.specs.declared.Core.{Core}
-use Rattle.mem_state.specs.Holds.{Bounded, Topped, Represents, contextAt}
+use Rattle.mem_state.specs.Holds.{inStore, Bounded, Topped, Represents, contextAt}
 use Rattle.read_contract.specs.Outcome.{Declined}
 use Rattle.read_run.specs.declared.State.{State}
 use Rattle.read_run.specs.declared.Advanced.{Advanced}
@@ -48,7 +48,7 @@ finished-mode (suc (suc (suc zero))) [] f = refl
 finished-mode (suc (suc (suc (suc m)))) [] f = absurd (omega (arith, f .inner (omega arith)))
 
 module _ {work text : List ℕ} {c : Core} {w : Rows} {opened : List ℕ} (b : Bounded c)
-    (h : Represents work text c w opened) where
+    (h : Represents work (inStore text (c .stored)) c w opened) where
   context-mode : isFinished (contextAt text c w opened .state) ≡ eqb (c .mode) isOver
   unfolding contextOf
   context-mode =
@@ -107,7 +107,7 @@ pub record Answers (s : Settings) (c : Context) (bs : Bits) (es : List (Event Pl
 module _ {s : Settings} {stream events text work : List ℕ} {st : State} {first : ℕ}
     {events′ text′ work′ : List ℕ} {r : Advanced}
     (p : AdvancePost s stream events text work st first events′ text′ work′ r) {w : Rows}
-    (a : Represents work text (st .core) w (openedIn st))
+    (a : Represents work (inStore text (st .core .stored)) (st .core) w (openedIn st))
     (b : Topped (st .core) (openedIn st)) where
   abbrev run : Running s stream events text st first w events′ text′ work′ (r .state) (r .index)
   run = p .progress .meant w a b

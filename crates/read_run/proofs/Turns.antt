@@ -20,7 +20,7 @@ use Rattle.event.proofs.Laws.{cells-length}
 use Rattle.mem_layout.specs.Layout.{nameRows}
 use Rattle.mem_rows.specs.Rows.{Rows, isOver, contextOf}
 use Rattle.mem_state.specs.declared.Core.{Core}
-use Rattle.mem_state.specs.Holds.{Bounded, Topped, Represents, contextAt}
+use Rattle.mem_state.specs.Holds.{Stores, inStore, Bounded, Topped, Represents, contextAt}
 use Rattle.mem_state.proofs.Joins.{holds-grown}
 use Rattle.read_contract.specs.Outcome.{Declined, Gotten}
 use Rattle.read_literal.specs.Literal.{laidAt}
@@ -42,7 +42,8 @@ use Rattle.read_run.proofs.Events.{one-more}
 -- The store is the same.
 pub represents-text : {work text text′ : List ℕ} {c : Core} {w : Rows} {opened : List ℕ}
     → take (c .stored) text′ ≡ take (c .stored) text → c .stored ≤ length text′
-    → Represents work text c w opened → Represents work text′ c w opened
+    → Represents work (inStore text (c .stored)) c w opened
+    → Represents work (inStore text′ (c .stored)) c w opened
 represents-text {c = c} e room h =
     record {
       valid = h .valid;
@@ -68,8 +69,8 @@ withTop c top =
       depth = c .depth;
     }
 
-represents-top : {work text : List ℕ} {c : Core} {w : Rows} {opened : List ℕ} (top : ℕ)
-    → Represents work text c w opened → Represents work text (withTop c top) w opened
+represents-top : {work : List ℕ} {from : Stores} {c : Core} {w : Rows} {opened : List ℕ} (top : ℕ)
+    → Represents work from c w opened → Represents work from (withTop c top) w opened
 represents-top top h =
     record {
       valid = h .valid;
@@ -239,7 +240,9 @@ module _ {s : Settings} {stream events text work : List ℕ} {st : State} {first
                     rows = g .rows;
                     after = represents-text store-is
                         (omega (arith, same-left, pre .room, i .bounded .stored))
-                        (subst (λ (m : List ℕ). Represents m text′ (t .core) (g .rows) (openedIn t))
+                        (subst
+                        (λ (m : List ℕ). Represents m (inStore text′ (t .core .stored)) (t .core)
+                        (g .rows) (openedIn t))
                         (sym (refusal .work-is)) (g .after));
                     topped = g .topped;
                     read = subst
@@ -259,7 +262,8 @@ module _ {s : Settings} {stream events text work : List ℕ} {st : State} {first
                   (sym (context-is w))
                   (p .meant w (openedIn t)
                   (represents-text (sym store-is) (omega (arith, store-room, i .bounded .stored))
-                  (subst (λ (m : List ℕ). Represents m text″ (t .core) w (openedIn t))
+                  (subst (λ (m : List ℕ). Represents m (inStore text″ (t .core .stored)) (t .core)
+                  w (openedIn t))
                   (refusal .work-is) a)) b .refused (omega (arith, some)));
             }
 
@@ -317,7 +321,8 @@ module _ {s : Settings} {stream events text work : List ℕ} {st : State} {first
           abbrev later : State
           later = record { core = withTop (r .core) top; opened = rows }
 
-          module _ (w : Rows) (a : Represents work text (st .core) w (openedIn st))
+          module _ (w : Rows)
+              (a : Represents work (inStore text (st .core .stored)) (st .core) w (openedIn st))
               (b : Topped (st .core) (openedIn st)) where
             abbrev before : Running s stream events text st first w events′ text′ work′ t n
             before = i .meant w a b
@@ -334,9 +339,11 @@ module _ {s : Settings} {stream events text work : List ℕ} {st : State} {first
             opened-is : openedIn later ≡ means .opened′
             opened-is = kept .is (means .opened′) (means .turned)
 
-            represents : Represents work″ text″ (r .core) (means .w) (openedIn later)
+            represents : Represents work″ (inStore text″ (r .core .stored)) (r .core) (means .w)
+                (openedIn later)
             represents =
-                subst (Represents work″ text″ (r .core) (means .w)) (sym opened-is) (means .after)
+                subst (Represents work″ (inStore text″ (r .core .stored)) (r .core) (means .w))
+                (sym opened-is) (means .after)
 
             -- The innermost is a row of a name.
             row-low : 0 < r .core .depth → getD rows (r .core .depth - 1) 0 < nameRows

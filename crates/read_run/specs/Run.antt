@@ -14,7 +14,7 @@ use Rattle.spec_exi.specs.Tables.{Placed}
 use Rattle.spec_exi.specs.Reader.{step}
 use Rattle.mem_layout.specs.Layout.{nameRows, workCells}
 use Rattle.mem_rows.specs.Rows.{Rows, isOver}
-use Rattle.mem_state.specs.Holds.{Bounded, Topped, Represents, contextAt}
+use Rattle.mem_state.specs.Holds.{inStore, Bounded, Topped, Represents, contextAt}
 use Rattle.read_contract.specs.Outcome.{Declined}
 use Rattle.read_literal.specs.Literal.{laidAt}
 use Rattle.read_run.specs.declared.State.{State}
@@ -74,7 +74,7 @@ pub record Running (s : Settings) (stream events text : List ℕ) (st : State) (
   pub es : List (Event Placed)
   pub count : first + length es ≡ n
   pub rows : Rows
-  pub after : Represents work′ text′ (t .core) rows (openedIn t)
+  pub after : Represents work′ (inStore text′ (t .core .stored)) (t .core) rows (openedIn t)
   pub topped : Topped (t .core) (openedIn t)
   pub read : Steps s (contextAt text (st .core) w (openedIn st))
       (drop (st .core .at) (unpack stream)) es
@@ -92,14 +92,15 @@ pub record Progress (s : Settings) (stream events text work : List ℕ) (st : St
   pub events-laid : EventsLaid events first events′ n
   pub text-laid : TextLaid text (st .core .stored) text′ (t .core .stored)
   pub work-size : length work′ ≡ length work
-  pub meant : (w : Rows) → Represents work text (st .core) w (openedIn st)
+  pub meant : (w : Rows)
+      → Represents work (inStore text (st .core .stored)) (st .core) w (openedIn st)
       → Topped (st .core) (openedIn st)
       → Running s stream events text st first w events′ text′ work′ t n
 
 -- The next event is refused: whatever rows memory holds, by the definitions.
 pub record Refuses (s : Settings) (stream text work : List ℕ) (t : State) (number : ℕ)
     : Type 0 where
-  pub next : (w : Rows) → Represents work text (t .core) w (openedIn t)
+  pub next : (w : Rows) → Represents work (inStore text (t .core .stored)) (t .core) w (openedIn t)
       → Topped (t .core) (openedIn t)
       → Declined (step sizes s (contextAt text (t .core) w (openedIn t))) stream (t .core .at)
       number

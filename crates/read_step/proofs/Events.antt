@@ -38,7 +38,7 @@ use Rattle.mem_rows.proofs.Events.{Joined, EventRows, event-context, Fresh, lea
 use Rattle.mem_state.specs.declared.Core.{Core}
 use Rattle.mem_state.specs.declared.Strings.{Strings}
 use Rattle.mem_state.specs.declared.Growth.{Growth}
-use Rattle.mem_state.specs.Holds.{taughtOf, taughtIn, Ahead, Bounded, Topped, Represents}
+use Rattle.mem_state.specs.Holds.{taughtOf, taughtIn, inStore, Ahead, Bounded, Topped, Represents}
 use Rattle.mem_state.specs.Holds.{contextAt}
 use Rattle.mem_state.specs.Strung.{StringsJoin}
 use Rattle.mem_state.specs.Grows.{learntOf, entersIn, Grows}
@@ -133,7 +133,8 @@ carries-start CM h = absurd (omega arith)
 carries-start PI h = absurd (omega arith)
 
 module _ {work text : List ℕ} {c : Core} {w : Rows} {opened : List ℕ}
-    (rep : Represents work text c w opened) (b : Bounded c) (top : Topped c opened) (s : Settings)
+    (rep : Represents work (inStore text (c .stored)) c w opened) (b : Bounded c) (top : Topped c opened)
+    (s : Settings)
     {p : ProductionRead} (bounds : ProductionBounds (c .mode) p) {x : Code}
     (code : IsCode s w (take (c .stored) text) (c .mode) opened p x) where
   abbrev here : CodeRows work (c .learned) (c .mode) (c .top) w opened

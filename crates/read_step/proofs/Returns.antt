@@ -25,7 +25,7 @@ use Rattle.mem_rows.specs.Rows.{Rows, placedAt, nameAt, kindAt, carries, carrie
 use Rattle.mem_rows.specs.Rows.{contextOf, tablesOf}
 use Rattle.mem_state.specs.declared.Core.{Core}
 use Rattle.mem_state.specs.declared.Growth.{Growth}
-use Rattle.mem_state.specs.Holds.{Bounded, Topped, Represents, contextAt}
+use Rattle.mem_state.specs.Holds.{inStore, Bounded, Topped, Represents, contextAt}
 use Rattle.read_contract.specs.Outcome.{Declined, Gotten, Outcome}
 use Rattle.read_contract.proofs.Outcome.{refused-outcome, declined-then, gotten-then}
 use Rattle.read_contract.proofs.Outcome.{gotten-declined, outcome-then, return-outcome}
@@ -162,7 +162,7 @@ module _ {s : Settings} {stream text work : List ℕ} {c : Core}
       -- A refusal after the content: what was laid is cleared.
       module _ {text₂ : List ℕ} (k : ℕ) (h : 0 < k)
           (cl : text₂ ≡ laidAt text₁ (c .stored) (replicate (y .stored - c .stored) 0)) where
-        dropped : ((w : Rows) (opened : List ℕ) → Represents work text c w opened
+        dropped : ((w : Rows) (opened : List ℕ) → Represents work (inStore text (c .stored)) c w opened
             → Topped c opened
             → Declined (step sizes s (contextAt text c w opened)) stream (c .at) k)
             → EventPost s stream text work c text₂ (refusedAs k c)
@@ -181,7 +181,7 @@ module _ {s : Settings} {stream text work : List ℕ} {c : Core}
 
       -- ---- the content over rows
 
-      module _ {w : Rows} {opened : List ℕ} (rep : Represents work text c w opened)
+      module _ {w : Rows} {opened : List ℕ} (rep : Represents work (inStore text (c .stored)) c w opened)
           (top : Topped c opened) where
         abbrev C : Context
         C = contextAt text c w opened
@@ -246,7 +246,7 @@ module _ {s : Settings} {stream text work : List ℕ} {c : Core}
           abbrev g : Growth
           g = growthOf work c p (y .strings)
 
-          module _ {w : Rows} {opened : List ℕ} (rep : Represents work text c w opened)
+          module _ {w : Rows} {opened : List ℕ} (rep : Represents work (inStore text (c .stored)) c w opened)
               (top : Topped c opened) where
             abbrev content-got : Gotten (readContent sizes s (tablesAt text (c .stored) w)
                 (state rep top) (kindAt (p .kind)) (carriedBy p w)) stream (p .next) (y .next)

@@ -26,14 +26,14 @@ use Rattle.spec_exi.proofs.Codes.{eqName-refl}
 use Rattle.mem_learned.specs.Learned.{LearnedHold}
 use Rattle.mem_rows.specs.Rows.{Rows, placedAt, nameAt, kindAt, carries, stateOf, inTag, ModeFits}
 use Rattle.mem_state.specs.declared.Core.{Core}
-use Rattle.mem_state.specs.Holds.{taughtIn, Bounded, Topped, Represents}
+use Rattle.mem_state.specs.Holds.{taughtIn, inStore, Bounded, Topped, Represents}
 use Rattle.read_production.specs.Production.{CodeRows}
 use Rattle.read_qname.specs.Qnames.{Prepared}
 
 -- ---- memory
 
 module _ {work text : List ℕ} {c : Core} {w : Rows} {opened : List ℕ}
-    (r : Represents work text c w opened) where
+    (r : Represents work (inStore text (c .stored)) c w opened) where
   pub prepared : Prepared work text c w
   prepared = record { valid = r .valid; holds = r .holds; counts = r .counts }
 

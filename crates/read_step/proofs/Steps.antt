@@ -112,7 +112,7 @@ module _ {stream events text work : List ℕ} {c : Core} {cell : ℕ}
 
       -- ---- over rows
 
-      module _ {w : Rows} {opened : List ℕ} (rep : Represents work text c w opened)
+      module _ {w : Rows} {opened : List ℕ} (rep : Represents work (inStore text (c .stored)) c w opened)
           (top : Topped c opened) {v : Event Placed × Context}
           (m : EventMeans text′ c w opened r v) where
         abbrev left : Rows
@@ -146,8 +146,8 @@ module _ {stream events text work : List ℕ} {c : Core} {cell : ℕ}
             }
 
         left-represents : Represents
-            (grown c (r .growth) (joinedStrings c (r .strings) work)) text′ (coreAfter c r) left
-            (openedAfter (r .growth .kind) (r .growth .name) opened)
+            (grown c (r .growth) (joinedStrings c (r .strings) work)) (inStore text′ (r .stored))
+            (coreAfter c r) left (openedAfter (r .growth .kind) (r .growth .name) opened)
         unfolding turned counted
         left-represents =
             let g = r .growth in

@@ -136,7 +136,8 @@ pub record EventPost (s : Settings) (stream text work : List ℕ) (c : Core) (te
   pub refused : 0 < r .number → (r ≡ refusedAs (r .number) c) × Cleared text (c .stored) text′
   pub laid : r .number ≡ 0 → TextRead text (c .stored) text′ 0 (r .stored)
   pub bounds : r .number ≡ 0 → EventBounds c r
-  pub meant : (w : Rows) (opened : List ℕ) → Represents work text c w opened → Topped c opened
+  pub meant : (w : Rows) (opened : List ℕ)
+      → Represents work (inStore text (c .stored)) c w opened → Topped c opened
       → Outcome (step sizes s (contextAt text c w opened)) stream (c .at) (r .number) (r .next)
       (EventMeans text′ c w opened r)
 

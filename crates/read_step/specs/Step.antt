@@ -17,7 +17,7 @@ use Rattle.mem_state.specs.declared.Core.{Core}
 use Rattle.mem_state.specs.declared.Strings.{Strings}
 use Rattle.mem_state.specs.declared.Growth.{Growth}
 use Rattle.mem_state.specs.Commit.{joinedStrings, grown, counted, turned}
-use Rattle.mem_state.specs.Holds.{Bounded, Topped, Represents, contextAt}
+use Rattle.mem_state.specs.Holds.{inStore, Bounded, Topped, Represents, contextAt}
 use Rattle.read_contract.specs.Outcome.{Outcome}
 use Rattle.read_literal.specs.Literal.{laidAt, Cleared}
 use Rattle.read_step.specs.declared.Stepped.{Stepped}
@@ -74,7 +74,7 @@ pub record StepMeans (events : List ℕ) (c : Core) (cell : ℕ) (opened events�
     (d : Core) (v : Event Placed × Context) : Type 0 where
   pub w : Rows
   pub opened′ : List ℕ
-  pub after : Represents work′ text′ d w opened′
+  pub after : Represents work′ (inStore text′ (d .stored)) d w opened′
   pub turned : Turned c d opened opened′
   pub context : v .1 ≡ contextAt text′ d w opened′
   pub cells : events′
@@ -86,6 +86,7 @@ pub record StepPost (s : Settings) (stream events text work : List ℕ) (c : Cor
   pub inside : r .core .at ≤ 8 * length stream
   pub refused : 0 < r .number → StepRefused events text work c events′ text′ work′ r
   pub laid : r .number ≡ 0 → StepLaid events text work c cell events′ text′ work′ r
-  pub meant : (w : Rows) (opened : List ℕ) → Represents work text c w opened → Topped c opened
+  pub meant : (w : Rows) (opened : List ℕ)
+      → Represents work (inStore text (c .stored)) c w opened → Topped c opened
       → Outcome (step sizes s (contextAt text c w opened)) stream (c .at) (r .number)
       (r .core .at) (StepMeans events c cell opened events′ text′ work′ (r .core))

@@ -83,5 +83,10 @@ module _ {stream : List ℕ} {at : ℕ} {text : List ℕ} {stored : ℕ} {work :
       }
 
 -- A string that does not join.
-pub joins-not : {values : ℕ} {r : StringRead} → r .joins ≡ false → JoinsWithin values r
-joins-not e = record { left = λ j. absurd (true≢false (sym j ∙ e)) }
+pub joins-not : {values : ℕ} {text : List ℕ} {r : StringRead} → r .joins ≡ false
+    → JoinsWithin values text r
+joins-not e =
+    record {
+      left = λ j. absurd (true≢false (sym j ∙ e));
+      hashed = record { is = λ j. absurd (true≢false (sym j ∙ e)) };
+    }

@@ -197,7 +197,6 @@ module _ {stream : List ℕ} {at : ℕ} {text : List ℕ} {stored : ℕ} {work :
           (literalAs (l .next) stored n 0 false 0)
       new-empty e {owner = owner} =
           literal-passed (valueRole owner) r z (fit .literal .room) 0 false 0
-          (λ x _ _ j. absurd (true≢false (sym j)))
           (λ w store t p x b f. empty-passes t p (text-laid x b f) s absent e)
 
       module _ (some : n ≡ 0 → ⊥) where
@@ -220,5 +219,4 @@ module _ {stream : List ℕ} {at : ℕ} {text : List ℕ} {stored : ℕ} {work :
             (literalAs (l .next) stored n values true (q .hash))
         new-joins h {owner = owner} =
             literal-passed (valueRole owner) r z (fit .literal .room) values true (q .hash)
-            (λ x e f _. s .hash ∙ ap hashOf (laid-found (text-laid x e f)))
             (λ w store t p x e f. new-passes t p (text-laid x e f) s some absent h)

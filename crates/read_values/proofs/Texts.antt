@@ -79,7 +79,7 @@ module _ {stream : List ℕ} {at : ℕ} {text : List ℕ} {stored n : ℕ} {text
       → TextPost (asLiteral role n) stream at text stored text′
       (literalAs (l .next) stored n 0 false 0)
   text-laid z k a =
-      literal-passed (λ w. role) r z (fit .room) 0 false 0 (λ x _ _ j. absurd (true≢false (sym j)))
+      literal-passed (λ w. role) r z (fit .room) 0 false 0
       (λ w store t p x e f. text-passes k w store t x e (r .ends z))
 
 -- ---- its number

@@ -16,7 +16,7 @@ use Rattle.mem_values.specs.Forms.{ValuesStand}
 use Rattle.mem_rows.specs.Rows.{Rows, nameAt, tablesOf, withValue}
 use Rattle.read_literal.specs.Literal.{LiteralFit}
 use Rattle.read_partition.specs.declared.StringRead.{StringRead}
-use Rattle.read_partition.specs.Strings.{Reading, asString, asHit, asLiteral, StringPost}
+use Rattle.read_partition.specs.Strings.{Hashed, Reading, asString, asHit, asLiteral, StringPost}
 use Rattle.read_values.specs.declared.Sought.{Sought}
 
 -- ---- bounds
@@ -77,8 +77,9 @@ ValuePost a read stream at text stored work values owner text′ r =
     (λ w x. withValue w owner x) stream at text stored text′ r
 
 -- On every memory: the table has room for a value that is to join.
-pub record JoinsWithin (values : ℕ) (r : StringRead) : Type 0 where
+pub record JoinsWithin (values : ℕ) (text : List ℕ) (r : StringRead) : Type 0 where
   pub left : r .joins ≡ true → values < maxValues
+  pub hashed : Hashed text r
 
 -- The hash of a text, and where it is found among all values.
 pub record SoughtPost (work text x : List ℕ) (values : ℕ) (r : Sought) : Type 0 where

@@ -39,7 +39,7 @@ fn own_value(
     ensures { λ r. ⌜
         ((text : List ℕ) → ValuePost (alignmentOf aligned) asOwn (now (stream .entry)) at text
         stored (now (work .entry)) values owner text r) ⌝ }
-    ensures { λ r. ⌜ JoinsWithin values r ⌝ }
+    ensures { λ r. ⌜ ((text : List ℕ) → JoinsWithin values text r) ⌝ }
 {
     let among = mem_values::count_local(work, owner);
     match read_field::choice(aligned, stream, at, among) {
@@ -69,7 +69,7 @@ fn any_value(
     ensures { λ r. ⌜
         ((text : List ℕ) → ValuePost (alignmentOf aligned) asAny (now (stream .entry)) at text
         stored (now (work .entry)) values owner text r) ⌝ }
-    ensures { λ r. ⌜ JoinsWithin values r ⌝ }
+    ensures { λ r. ⌜ ((text : List ℕ) → JoinsWithin values text r) ⌝ }
 {
     match read_field::choice(aligned, stream, at, values) {
         Field::Refused(k) => read_partition::refused(k as u32, at, 0, stored),
@@ -120,7 +120,7 @@ fn new_value(
     ensures { λ r. ⌜
         ((a : Alignment) (owner : ℕ) → ValuePost a (asNew n) (now (stream .entry)) at
         (now (text .entry)) stored (now (work .entry)) values owner (now (text .exit)) r) ⌝ }
-    ensures { λ r. ⌜ JoinsWithin values r ⌝ }
+    ensures { λ r. ⌜ JoinsWithin values (now (text .exit)) r ⌝ }
 {
     let read = read_literal::read_literal(stream, at, text, stored, n);
     if read.number != 0 {
@@ -154,7 +154,7 @@ pub fn read_value(
     ensures { λ r. ⌜
         ValuePost (alignmentOf aligned) asValue (now (stream .entry)) at (now (text .entry)) stored
         (now (work .entry)) values owner (now (text .exit)) r ⌝ }
-    ensures { λ r. ⌜ JoinsWithin values r ⌝ }
+    ensures { λ r. ⌜ JoinsWithin values (now (text .exit)) r ⌝ }
 {
     match read_field::unsigned(stream, at) {
         Field::Refused(k) => read_partition::refused(k as u32, at, 0, stored),

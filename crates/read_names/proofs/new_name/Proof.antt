@@ -165,7 +165,7 @@ returns-5 c =
     rw (c .laid .ensures) (
       (λ a. new-joins pre (read-literal .ensures) _ (if1 .left) (seek-name .ensures) (if2 .left)
           (allowed .ensures) (not-false _ (if3 .left)) (if4 .left)),
-      name-new-row _ _ _ (if4 .left),
+      name-new-row _ _ _ (if4 .left) (seek-name .ensures .hash),
     )
 
 pub new-name-spec : {M : Type 1} → statement M

@@ -37,11 +37,11 @@ seek-uri-requires c κs =
 
 dropped-requires : tie.Need-dropped-requires
 dropped-requires c κs =
-    let pre = c .before .before .before .before .before .before .before .before .before .before
+    let pre = c .before .before .before .before .before .before .before .before .before
     .before .before .before .before .pre in
-    let read-literal = c .before .before .before .before .before .before .before .before .before
+    let read-literal = c .before .before .before .before .before .before .before .before
     .read-literal in
-    let if1 = c .before .before .before .before .before .if1 in
+    let if1 = c .before .before .before .before .if1 in
     laid-room (pre .literal) (read-literal .ensures) (if1 .left)
 
 same-length-2 : tie.Need-same-length-2
@@ -50,12 +50,12 @@ same-length-2 c = search needs
 returns-2 : tie.Need-returns-2
 unfolding numberOf
 returns-2 c =
-    let pre = c .before .before .before .before .before .before .before .before .before .before
+    let pre = c .before .before .before .before .before .before .before .before .before
     .before .before .before .before .before .before .before .pre in
-    let read-literal = c .before .before .before .before .before .before .before .before .before
+    let read-literal = c .before .before .before .before .before .before .before .before
     .before .before .before .read-literal in
-    let if1 = c .before .before .before .before .before .before .before .before .if1 in
-    let seek-uri = c .before .before .before .before .before .before .seek-uri in
+    let if1 = c .before .before .before .before .before .before .before .if1 in
+    let seek-uri = c .before .before .before .before .before .seek-uri in
     let if2 = c .before .before .before .before .if2 in
     let dropped = c .before .before .dropped in
     rw (dropped .ensures .is) (
@@ -66,11 +66,11 @@ returns-2 c =
 
 dropped-requires-2 : tie.Need-dropped-requires-2
 dropped-requires-2 c κs =
-    let pre = c .before .before .before .before .before .before .before .before .before .before
+    let pre = c .before .before .before .before .before .before .before .before .before
     .before .before .before .before .before .pre in
-    let read-literal = c .before .before .before .before .before .before .before .before .before
+    let read-literal = c .before .before .before .before .before .before .before .before
     .before .read-literal in
-    let if1 = c .before .before .before .before .before .before .if1 in
+    let if1 = c .before .before .before .before .before .if1 in
     laid-room (pre .literal) (read-literal .ensures) (if1 .left)
 
 same-length-3 : tie.Need-same-length-3
@@ -79,12 +79,12 @@ same-length-3 c = search needs
 returns-3 : tie.Need-returns-3
 unfolding numberOf maxUris
 returns-3 c =
-    let pre = c .before .before .before .before .before .before .before .before .before .before
+    let pre = c .before .before .before .before .before .before .before .before .before
     .before .before .before .before .before .before .before .before .pre in
-    let read-literal = c .before .before .before .before .before .before .before .before .before
+    let read-literal = c .before .before .before .before .before .before .before .before
     .before .before .before .before .read-literal in
-    let if1 = c .before .before .before .before .before .before .before .before .before .if1 in
-    let seek-uri = c .before .before .before .before .before .before .before .seek-uri in
+    let if1 = c .before .before .before .before .before .before .before .before .if1 in
+    let seek-uri = c .before .before .before .before .before .before .seek-uri in
     let if2 = c .before .before .before .before .before .if2 in
     let if3 = c .before .before .before .before .if3 in
     let dropped2 = c .before .before .dropped2 in
@@ -96,9 +96,9 @@ returns-3 c =
 
 laid-requires : tie.Need-laid-requires
 laid-requires c κs =
-    let read-literal = c .before .before .before .before .before .before .before .before .before
+    let read-literal = c .before .before .before .before .before .before .before .before
     .read-literal in
-    let if1 = c .before .before .before .before .before .if1 in
+    let if1 = c .before .before .before .before .if1 in
     (read-literal .ensures) .ends (if1 .left)
 
 same-length-4 : tie.Need-same-length-4
@@ -107,18 +107,18 @@ same-length-4 c = search needs
 returns-4 : tie.Need-returns-4
 unfolding maxUris
 returns-4 c =
-    let pre = c .before .before .before .before .before .before .before .before .before .before
+    let pre = c .before .before .before .before .before .before .before .before .before
     .before .before .before .before .before .pre in
-    let read-literal = c .before .before .before .before .before .before .before .before .before
+    let read-literal = c .before .before .before .before .before .before .before .before
     .before .read-literal in
-    let if1 = c .before .before .before .before .before .before .if1 in
-    let seek-uri = c .before .before .before .before .seek-uri in
+    let if1 = c .before .before .before .before .before .if1 in
+    let seek-uri = c .before .before .before .seek-uri in
     let if2 = c .before .before .if2 in
     let if3 = c .before .if3 in
     rw (c .laid .ensures) (
       (λ a. new-joins pre (read-literal .ensures) (if1 .left) (seek-uri .ensures) (if2 .left)
           (if3 .left)),
-      uri-new-row _ _ _ (if3 .left),
+      uri-new-row _ _ (if3 .left),
     )
 
 pub new-uri-spec : {M : Type 1} → statement M

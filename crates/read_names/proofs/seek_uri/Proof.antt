@@ -15,15 +15,8 @@ look-up-requires c κs = search needs
 find-uri-requires : tie.Need-find-uri-requires
 find-uri-requires c κs = uri-find-asks (c .before .before .before .pre)
 
-hash-requires : tie.Need-hash-requires
-hash-requires c κs = search needs
-
 returns : tie.Need-returns
-returns c =
-    let look-up = c .before .before .look-up in
-    let find-uri = c .before .find-uri in
-    rw (← (look-up .ensures .0)) (record { hash = c .hash .ensures; found = find-uri .ensures })
+returns c = rw (← (c .before .look-up .ensures .0)) (c .find-uri .ensures)
 
 pub seek-uri-spec : {M : Type 1} → statement M
-seek-uri-spec =
-    tie.close (tie.spec cast-look-up look-up-requires find-uri-requires hash-requires returns)
+seek-uri-spec = tie.close (tie.spec cast-look-up look-up-requires find-uri-requires returns)

@@ -30,7 +30,7 @@ returns c = rw (c .refused2 .ensures) (
   (λ text. any-absent (c .before .before .before .before .before .before .before .before .pre)
       (c .before .before .before .before .before .choice .ensures) text
       (c .before .before .before .value .given .1) (c .before .if1 .taken)),
-  joins-not refl,
+  (λ text. joins-not refl),
 )
 
 value-at-requires : tie.Need-value-at-requires
@@ -48,7 +48,7 @@ returns-2 c = rw (c .refused3 .ensures) (
       (c .before .before .before .before .before .value .given .1)
       (c .before .before .before .if1 .left) (c .before .before .value-at .ensures)
       (c .before .if2 .taken)),
-  joins-not refl,
+  (λ text. joins-not refl),
 )
 
 found-requires : tie.Need-found-requires
@@ -58,7 +58,7 @@ returns-3 : tie.Need-returns-3
 returns-3 c = rw (c .refused .ensures) (
   (λ text. any-refused (c .before .before .before .before .before .before .before .pre)
       (c .before .before .before .before .choice .ensures) text (c .before .before .k .given .1)),
-  joins-not refl,
+  (λ text. joins-not refl),
 )
 
 returns-4 : tie.Need-returns-4
@@ -69,7 +69,7 @@ returns-4 c = rw (c .found .ensures) (
       (c .before .before .before .before .before .value .given .1)
       (c .before .before .before .if1 .left) (c .before .before .value-at .ensures)
       (c .before .if2 .left)),
-  joins-not refl,
+  (λ text. joins-not refl),
 )
 
 pub any-value-spec : {M : Type 1} → statement M

@@ -117,7 +117,10 @@ returns-5 c = rw (c .laid2 .ensures) (
       .read-literal .ensures) (c .before .before .before .before .before .before .before .if1 .left)
       (c .before .before .before .before .before .seek .ensures)
       (c .before .before .before .if2 .left) (c .before .before .if3 .left) (c .before .if4 .left)),
-  record { left = λ j. c .before .if4 .left },
+  record {
+    left = λ j. c .before .if4 .left;
+    hashed = record { is = λ j. c .before .before .before .before .before .seek .ensures .hash };
+  },
 )
 
 pub new-value-spec : {M : Type 1} → statement M

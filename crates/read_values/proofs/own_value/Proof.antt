@@ -40,7 +40,7 @@ returns c = rw (c .refused2 .ensures) (
       (c .before .before .before .before .before .before .choice .ensures) text
       (c .before .before .before .before .value .given .1) (c .before .before .nth-local .ensures)
       (c .before .if1 .taken)),
-  joins-not refl,
+  (λ text. joins-not refl),
 )
 
 sub-value-at : tie.Need-sub-value-at
@@ -61,7 +61,7 @@ returns-2 c = rw (c .refused .ensures) (
   (λ text. own-refused (c .before .before .before .before .before .before .before .before .pre)
       (c .before .before .before .before .before .count-local .ensures)
       (c .before .before .before .before .choice .ensures) text (c .before .before .k .given .1)),
-  joins-not refl,
+  (λ text. joins-not refl),
 )
 
 returns-3 : tie.Need-returns-3
@@ -72,7 +72,7 @@ returns-3 c = rw (c .found .ensures) (
       .ensures) text (c .before .before .before .before .before .value .given .1)
       (c .before .before .before .nth-local .ensures) (c .before .before .if1 .left)
       (c .before .value-at .ensures)),
-  joins-not refl,
+  (λ text. joins-not refl),
 )
 
 pub own-value-spec : {M : Type 1} → statement M

@@ -31,7 +31,7 @@ returns c = (
       .pre) (c .before .before .before .before .before .unsigned .ensures)
       (c .before .before .before .value .given .1) (c .before .if1 .taken)
       (c .own-value .ensures .0 _),
-  c .own-value .ensures .1,
+  c .own-value .ensures .1 _,
 )
 
 any-value-requires : tie.Need-any-value-requires
@@ -47,7 +47,7 @@ returns-2 c = (
       (c .before .before .before .before .before .before .unsigned .ensures)
       (c .before .before .before .before .value .given .1) (c .before .if2 .taken)
       (c .any-value .ensures .0 _),
-  c .any-value .ensures .1,
+  c .any-value .ensures .1 _,
 )
 
 sub-new-value : tie.Need-sub-new-value
