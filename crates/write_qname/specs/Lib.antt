@@ -1,0 +1,2 @@
+pub mod Premise
+pub mod Qnames
