@@ -1,11 +1,11 @@
 -- `innermost` meets its contract.
 use mathlib.Core.Path.{_∙_}
-use Rattle.read_run.proofs.Opened.{innermost-none, innermost-some}
+use Rattle.open_elements.proofs.Opened.{innermost-none, innermost-some}
 use Rattle.spec_exi.specs.Sizes.{maxOpen}
 use native.Mathlib.Omega.{arith}
 use borrow.Author.Needs.{needs}
-use Rattle.read_run.proofs.innermost.Statement.{statement}
-use Rattle.read_run.proofs.innermost.Tie as tie
+use Rattle.open_elements.proofs.innermost.Statement.{statement}
+use Rattle.open_elements.proofs.innermost.Tie as tie
 
 returns : tie.Need-returns
 returns c = innermost-none _ (c .before .args .depth) (c .if1 .taken)

@@ -8,7 +8,7 @@ use mathlib.Core.List.{List, _∷_}
 use lib.ListN.{length, set, getD}
 use lib.Seq.{getD-set-same, getD-set-other}
 use Rattle.mem_layout.specs.Layout.{nameRows}
-use Rattle.read_run.specs.Run.{lastFirst, innermostIn}
+use Rattle.open_elements.specs.Opened.{lastFirst, innermostIn}
 
 -- A row written behind the first n leaves them.
 last-set : (n at v : ℕ) (l : List ℕ) → n ≤ at → lastFirst n (set l at v) ≡ lastFirst n l
