@@ -22,7 +22,6 @@ use Rattle.mem_index.proofs.Tally.{tally-less}
 use Rattle.mem_entries.specs.Texts.{hashOf}
 use Rattle.mem_entries.specs.Entries.{Entries, keyAt, textAt, hasTextAt}
 use Rattle.mem_values.specs.declared.Form.{Form}
-use Rattle.mem_values.specs.declared.Form.the-variants.{Local, Global, Absent}
 use Rattle.mem_values.specs.Window.{earlier, globalNumber, valueForm, Tabled}
 use Rattle.mem_values.specs.Forms.{formIn, ValuesStand, Formed}
 use Rattle.mem_values.proofs.Answers.{FoundAt, found-at, found-none}
@@ -32,7 +31,7 @@ use Rattle.mem_values.proofs.Stands.{strict-form}
 use Rattle.mem_rows.specs.Rows.{Rows, nameAt}
 use Rattle.mem_rows.specs.Valid.{Valid}
 use Rattle.mem_rows.proofs.Owners.{isName, is-name, name-keys, value-keys, values-alike}
-use Rattle.write_partition.specs.Writable.{Written, Writable, tablesIn}
+use Rattle.write_partition.specs.Writable.{Written, Writable, Few, tablesIn}
 use Rattle.write_partition.specs.Bits.{hitBits}
 use Rattle.write_values.specs.Values.{own, all, neither, valueBits}
 
@@ -83,21 +82,28 @@ absent-number es owner (suc g) h =
 
 -- ---- by the rows
 
-module _ {w : Rows} (valid : Valid w) {work text : List ℕ} {values owner : ℕ}
-    (s : ValuesStand work text (length text) values 0 values (w .values) none)
-    (row : owner < length (w .names)) (stored : ℕ) where
+-- The rows w mean something, and memory holds their values.
+pub record Standing (work text : List ℕ) (owner values : ℕ) (w : Rows) : Type 0 where
+  pub valid : Valid w
+  pub writable : Writable w
+  pub few : Few w
+  pub stand : ValuesStand work text (length text) values 0 values (w .values) none
+  pub row : owner < length (w .names)
+
+module _ {work text : List ℕ} {owner values : ℕ} {w : Rows} (s : Standing work text owner values w)
+    (stored : ℕ) where
   tabled : Tabled (nameAt w) (isName w) (tablesIn w stored) (w .values)
   tabled =
-      record { alike = values-alike w _; keys = name-keys valid; keyed = value-keys valid }
+      record { alike = values-alike w _; keys = name-keys (s .valid); keyed = value-keys (s .valid) }
 
   own-count : owner < nameRows
       → length (valuesOf (tablesIn w stored) (nameAt w owner)) ≡ countIn work valueCounts owner
   own-count low =
-      local-count tabled owner (is-name w owner row) ∙ sym (given-is (s .holds) owner)
-      ∙ sym (count-is (s .holds .byOwner) owner low)
+      local-count tabled owner (is-name w owner (s .row)) ∙ sym (given-is (s .stand .holds) owner)
+      ∙ sym (count-is (s .stand .holds .byOwner) owner low)
 
   all-count : length (allValues (tablesIn w stored)) ≡ values
-  all-count = global-count tabled ∙ s .holds .count
+  all-count = global-count tabled ∙ s .stand .holds .count
 
   -- A literal is the String, its length raised by 2.
   pub literal-bits : (x : Text) (a : Alignment)
@@ -106,93 +112,63 @@ module _ {w : Rows} (valid : Valid w) {work text : List ℕ} {values owner : ℕ
   unfolding formBits partitionsOf valueBits
   literal-bits x a = refl
 
-  module _ {x : Text} {h : ℕ} (b : h ≡ hashOf x) where
-    form-is : {r : Form} → Formed work text x h values 0 values owner r
-        → formOf (partitionsOf (tablesIn w stored) (value (nameAt w owner))) x ≡ formIn r
-    form-is f = sym (strict-form f s b tabled (is-name w owner row))
+  module _ {x : Text} {h : ℕ} (b : h ≡ hashOf x) {r : Form}
+      (f : Formed work text x h values 0 values owner r) where
+    pub form-is : formOf (partitionsOf (tablesIn w stored) (value (nameAt w owner))) x ≡ formIn r
+    form-is = sym (strict-form f (s .stand) b tabled (is-name w owner (s .row)))
 
-    searched : {r : Form} → Formed work text x h values 0 values owner r
-        → valueForm none (w .values) owner (sought (w .values) x) ≡ formIn r
-    searched f =
+    searched : valueForm none (w .values) owner (sought (w .values) x) ≡ formIn r
+    searched =
         ap (λ n. valueForm none (w .values) owner (since 0 (lastThat (hasTextAt (w .values) x) n)))
-        (s .holds .count)
-        ∙ sym (f .means (length text) (w .values) none s b)
+        (s .stand .holds .count)
+        ∙ sym (f .means (length text) (w .values) none (s .stand) b)
 
     -- ---- a hit
 
-    module _ {j i : ℕ} (f : valueForm none (w .values) owner (sought (w .values) x) ≡ hit j i) where
-      here : HitAt (w .values) owner x j i
-      here = hit-at (w .values) owner x j i _ refl f
+    here : {j i : ℕ} → formIn r ≡ hit j i → HitAt (w .values) owner x j i
+    here {j} {i} e = hit-at (w .values) owner x j i _ refl (searched ∙ e)
 
-      hit-written : Writable w → Written x
-      hit-written v = subst Written (here .found .text) (v .values (here .g) (here .found .inside))
+    pub hit-written : {j i : ℕ} → formIn r ≡ hit j i → Written x
+    hit-written e =
+        subst Written (here e .found .text) (s .writable .values (here e .g) (here e .found .inside))
 
-    module _ {i : ℕ} (f : Formed work text x h values 0 values owner (Local i)) where
-      pub own-form : formOf (partitionsOf (tablesIn w stored) (value (nameAt w owner))) x ≡ hit 0 i
-      unfolding formIn
-      own-form = form-is f
+    pub own-bits : {i : ℕ} → formIn r ≡ hit 0 i → owner < nameRows → (a : Alignment)
+        → formBits a (partitionsOf (tablesIn w stored) (value (nameAt w owner))) (hit 0 i) x
+        ≡ valueBits work own i owner values x a
+    unfolding formBits partitionsOf valueBits hitBits
+    own-bits {i} e low a =
+        let at : HitAt (w .values) owner x 0 i = here e in
+        let (k, n) = own-number (w .values) owner (at .g) i (at .form) in
+        let less : i < countIn work valueCounts owner =
+        omega (
+          arith,
+          n,
+          tally-less (hasKey (keyAt (w .values)) owner) (length (w .values)) (at .g)
+              (at .found .inside) k,
+          ap (tally (hasKey (keyAt (w .values)) owner)) (s .stand .holds .count),
+          count-is (s .stand .holds .byOwner) owner low,
+        ) in
+        rw (own-count low, below-in (countIn work valueCounts owner) i less)
 
-      own-found : valueForm none (w .values) owner (sought (w .values) x) ≡ hit 0 i
-      unfolding formIn
-      own-found = searched f
-
-      pub own-written : Writable w → Written x
-      own-written = hit-written own-found
-
-      pub own-bits : owner < nameRows → (a : Alignment)
-          → formBits a (partitionsOf (tablesIn w stored) (value (nameAt w owner))) (hit 0 i) x
-          ≡ valueBits work own i owner values x a
-      unfolding formBits partitionsOf valueBits hitBits
-      own-bits low a =
-          let at : HitAt (w .values) owner x 0 i = here own-found in
-          let (k, n) = own-number (w .values) owner (at .g) i (at .form) in
-          let less : i < countIn work valueCounts owner =
-          omega (
-            arith,
-            n,
-            tally-less (hasKey (keyAt (w .values)) owner) (length (w .values)) (at .g)
-                (at .found .inside) k,
-            ap (tally (hasKey (keyAt (w .values)) owner)) (s .holds .count),
-            count-is (s .holds .byOwner) owner low,
-          ) in
-          rw (own-count low, below-in (countIn work valueCounts owner) i less)
-
-    module _ {i : ℕ} (f : Formed work text x h values 0 values owner (Global i)) where
-      pub all-form : formOf (partitionsOf (tablesIn w stored) (value (nameAt w owner))) x ≡ hit 1 i
-      unfolding formIn
-      all-form = form-is f
-
-      all-found : valueForm none (w .values) owner (sought (w .values) x) ≡ hit 1 i
-      unfolding formIn
-      all-found = searched f
-
-      pub all-written : Writable w → Written x
-      all-written = hit-written all-found
-
-      pub all-bits : (a : Alignment)
-          → formBits a (partitionsOf (tablesIn w stored) (value (nameAt w owner))) (hit 1 i) x
-          ≡ valueBits work all i owner values x a
-      unfolding formBits partitionsOf valueBits hitBits
-      all-bits a =
-          let at : HitAt (w .values) owner x 1 i = here all-found in
-          let less : i < values =
-          omega (
-            arith,
-            all-number (w .values) owner (at .g) i (at .form),
-            at .found .inside,
-            s .holds .count,
-          ) in
-          rw (all-count, below-in values i less)
+    pub all-bits : {i : ℕ} → formIn r ≡ hit 1 i → (a : Alignment)
+        → formBits a (partitionsOf (tablesIn w stored) (value (nameAt w owner))) (hit 1 i) x
+        ≡ valueBits work all i owner values x a
+    unfolding formBits partitionsOf valueBits hitBits
+    all-bits {i} e a =
+        let at : HitAt (w .values) owner x 1 i = here e in
+        let less : i < values =
+        omega (
+          arith,
+          all-number (w .values) owner (at .g) i (at .form),
+          at .found .inside,
+          s .stand .holds .count,
+        ) in
+        rw (all-count, below-in values i less)
 
     -- ---- a literal
 
-    module _ (f : Formed work text x h values 0 values owner Absent) where
-      pub absent-form : formOf (partitionsOf (tablesIn w stored) (value (nameAt w owner))) x ≡ literal
-      unfolding formIn
-      absent-form = form-is f
-
-      pub absent-fresh : (i : ℕ) → i < length (w .values) → textAt (w .values) i ≡ x → ⊥
-      unfolding formIn
-      absent-fresh i l =
-          found-none (w .values) 0 x
-          (absent-number (w .values) owner (sought (w .values) x) (searched f)) i (omega arith) l
+    pub absent-fresh : formIn r ≡ literal → (i : ℕ) → i < length (w .values)
+        → textAt (w .values) i ≡ x → ⊥
+    absent-fresh e i l =
+        found-none (w .values) 0 x
+        (absent-number (w .values) owner (sought (w .values) x) (searched ∙ e)) i (omega arith) l

@@ -4,7 +4,6 @@ use native.Mathlib.Omega.{arith}
 use mathlib.Core.Path.{_≡_, refl, sym, ap, subst, _∙_}
 use mathlib.Core.Bool.{true, false, true≢false}
 use mathlib.Core.List.{List, [], _∷_, _++_}
-use mathlib.Core.Option.{none}
 use lib.ListN.{length, replicate}
 use lib.Dec.{eqb, ltb}
 use borrow.Author.Tests.{eqb-true, eqb-false, eq-eqb, ne-eqb, ltb-true, le-ltb, lt-ltb, le-leb}
@@ -14,8 +13,8 @@ use Rattle.spec_fields.specs.Refusal.{numberOf, name, limit}
 use Rattle.spec_fields.proofs.Tests.{split}
 use Rattle.text.specs.Text.{Text, isEmpty, allChars}
 use Rattle.spec_exi.specs.Sizes.{sizes, maxString, maxStore, maxValues}
-use Rattle.spec_exi.specs.Tables.{Placed, value, literal, partitionsOf, formOf, newUri, newName}
-use Rattle.spec_exi.specs.Tables.{newEntry, newValue, laid, nameAllowed}
+use Rattle.spec_exi.specs.Tables.{Placed, value, hit, literal, partitionsOf, formOf, formBits}
+use Rattle.spec_exi.specs.Tables.{newUri, newName, newEntry, newValue, laid, nameAllowed}
 use Rattle.spec_exi.specs.Context.{item}
 use Rattle.spec_exi.specs.Lists.{withinTables}
 use Rattle.spec_exi.specs.Writer.{firstFailed, stringTests}
@@ -23,16 +22,15 @@ use Rattle.spec_exi.proofs.Alike.{alike-same}
 use Rattle.mem_entries.specs.Texts.{hashOf}
 use Rattle.mem_values.specs.declared.Form.{Form}
 use Rattle.mem_values.specs.declared.Form.the-variants.{Local, Global, Absent}
-use Rattle.mem_values.specs.Forms.{ValuesStand, Formable, Formed}
+use Rattle.mem_values.specs.Forms.{formIn, Formable, Formed}
 use Rattle.mem_rows.specs.Rows.{Rows, nameAt, withValue}
-use Rattle.mem_rows.specs.Valid.{Valid}
 use Rattle.mem_rows.proofs.Joins.{nothing-joins}
 use Rattle.mem_rows.proofs.Alike.{value-joins-alike}
 use Rattle.mem_rows.proofs.Grown.{value-grows}
 use Rattle.mem_rows.proofs.Within.{values-count, within-value, within-none}
 use Rattle.mem_state.specs.Strung.{valueAdded}
 use Rattle.names.proofs.Laws.{is-empty}
-use Rattle.write_partition.specs.Writable.{Written, Writable, Few, tablesIn}
+use Rattle.write_partition.specs.Writable.{Written, tablesIn}
 use Rattle.write_partition.specs.Judged.{faultNumber, literalTests, StringMeans}
 use Rattle.write_partition.proofs.Tests.{number-then, number-first, passed-test, first-passes, Passed}
 use Rattle.write_partition.proofs.Tests.{literal-passes}
@@ -43,8 +41,8 @@ use Rattle.write_values.specs.declared.ValueJudged.{ValueJudged}
 use Rattle.write_values.specs.Values.{own, all, neither, refusedAs, foundAs, literalAs}
 use Rattle.write_values.specs.Values.{NewValuePost, ValuePre, valueBits}
 use Rattle.write_values.specs.Values.{ValuePost}
-use Rattle.write_values.proofs.Forms.{literal-bits, own-form, own-written, own-bits, all-form}
-use Rattle.write_values.proofs.Forms.{all-written, all-bits, absent-form, absent-fresh}
+use Rattle.write_values.proofs.Forms.{Standing, literal-bits, form-is, hit-written, own-bits}
+use Rattle.write_values.proofs.Forms.{all-bits, absent-fresh}
 
 -- ---- a literal that joins, by its number
 
@@ -95,14 +93,6 @@ form-asks ask =
       new = omega arith;
     }
 
--- The rows w mean something, and memory holds their values.
-record Standing (work text : List ℕ) (owner values : ℕ) (w : Rows) : Type 0 where
-  valid : Valid w
-  writable : Writable w
-  few : Few w
-  stand : ValuesStand work text (length text) values 0 values (w .values) none
-  row : owner < length (w .names)
-
 empty-chars : (x : Text) → length x ≡ 0 → allChars x ≡ true
 unfolding allChars
 empty-chars [] e = refl
@@ -118,8 +108,9 @@ module _ {text : List ℕ} {x : Text} {owner values stored : ℕ} {work : List �
       record {
         refused = λ _. refl;
         bounds = λ z. absurd (omega arith);
-        meant = λ w a b c d e place.
-            means w (record { valid = a; writable = b; few = c; stand = d; row = e }) _ _;
+        meant = λ w valid writable few stand row place.
+            means w
+            (record { valid = valid; writable = writable; few = few; stand = stand; row = row }) _ _;
       }
 
   pub value-long : maxString < length x → ValuePost text x owner values stored work (refusedAs 12 stored)
@@ -128,60 +119,54 @@ module _ {text : List ℕ} {x : Text} {owner values stored : ℕ} {work : List �
 
   -- ---- a hit
 
-  value-hit : (partition id : ℕ) → partition < neither
-      → ((w : Rows) → Standing work text owner values w
-      → StringMeans (value (nameAt w owner)) w w stored x 0 stored
-      (valueBits work partition id owner values x))
-      → ValuePost text x owner values stored work (foundAs partition id stored)
-  unfolding valueAdded
-  value-hit partition id l means =
-      record {
-        refused = λ h. absurd (omega arith);
-        bounds = λ _.
-            record {
-              which = omega arith;
-              literal = λ e. absurd (omega arith);
-              new = λ j. absurd (true≢false (sym j));
-              stored-is = rw (ne-eqb partition neither (λ e. omega arith)) (omega arith);
-              store = ask .store;
-            };
-        meant = λ w a b c d e place.
-            means w (record { valid = a; writable = b; few = c; stand = d; row = e });
-      }
-
   module _ {h : ℕ} (b : h ≡ hashOf x) {r : Form}
-      (g : Formed work text x h values 0 values owner r) where
+      (f : Formed work text x h values 0 values owner r) where
+    value-found : {j i : ℕ} → formIn r ≡ hit j i → j < neither
+        → ((w : Rows) → Standing work text owner values w → (a : Alignment)
+        → formBits a (partitionsOf (tablesIn w stored) (value (nameAt w owner))) (hit j i) x
+        ≡ valueBits work j i owner values x a)
+        → ValuePost text x owner values stored work (foundAs j i stored)
+    unfolding nameAllowed valueAdded
+    value-found {j} {i} e l bits =
+        record {
+          refused = λ m. absurd (omega arith);
+          bounds = λ _.
+              record {
+                which = omega arith;
+                literal = λ z. absurd (omega arith);
+                new = λ z. absurd (true≢false (sym z));
+                stored-is = rw (ne-eqb j neither (λ z. omega arith)) (omega arith);
+                store = ask .store;
+              };
+          meant = λ w valid writable few stand row place.
+              let s : Standing work text owner values w =
+              record { valid = valid; writable = writable; few = few; stand = stand; row = row } in
+              hit-means (value (nameAt w owner)) w stored x (form-is s stored b f ∙ e) few (ask .store)
+              (hit-written s stored b f e) refl valid writable (bits w s);
+        }
+
     pub value-own : {i : ℕ} → r ≡ Local i
         → ValuePost text x owner values stored work (foundAs own i stored)
-    unfolding nameAllowed
-    value-own {i} e =
-        let f : Formed work text x h values 0 values owner (Local i) = rw e at g in
-        value-hit own i (omega arith) (λ w s.
-        hit-means (value (nameAt w owner)) w stored x
-        (own-form (s .valid) (s .stand) (s .row) stored b f) (s .few) (ask .store)
-        (own-written (s .valid) (s .stand) (s .row) stored b f (s .writable)) refl
-        (s .valid) (s .writable) (own-bits (s .valid) (s .stand) (s .row) stored b f (ask .low)))
+    unfolding formIn
+    value-own e =
+        value-found (ap formIn e) (omega arith) (λ w s. own-bits s stored b f (ap formIn e) (ask .low))
 
     pub value-all : {i : ℕ} → r ≡ Global i
         → ValuePost text x owner values stored work (foundAs all i stored)
-    unfolding nameAllowed
-    value-all {i} e =
-        let f : Formed work text x h values 0 values owner (Global i) = rw e at g in
-        value-hit all i (omega arith) (λ w s.
-        hit-means (value (nameAt w owner)) w stored x
-        (all-form (s .valid) (s .stand) (s .row) stored b f) (s .few) (ask .store)
-        (all-written (s .valid) (s .stand) (s .row) stored b f (s .writable)) refl
-        (s .valid) (s .writable) (all-bits (s .valid) (s .stand) (s .row) stored b f))
+    unfolding formIn
+    value-all e =
+        value-found (ap formIn e) (omega arith) (λ w s. all-bits s stored b f (ap formIn e))
 
     -- ---- a literal
 
     module _ (e : r ≡ Absent) where
-      f : Formed work text x h values 0 values owner Absent
-      f = rw e at g
+      absent : formIn r ≡ literal
+      unfolding formIn
+      absent = ap formIn e
 
       module _ {w : Rows} (s : Standing work text owner values w) where
         form : formOf (partitionsOf (tablesIn w stored) (value (nameAt w owner))) x ≡ literal
-        form = absent-form (s .valid) (s .stand) (s .row) stored b f
+        form = form-is s stored b f ∙ absent
 
         within : withinTables sizes (tablesIn w stored) ≡ true
         within = few-within (s .few) (ask .store)
@@ -201,7 +186,7 @@ module _ {text : List ℕ} {x : Text} {owner values stored : ℕ} {work : List �
             (literal-fault (value (nameAt w owner)) w stored x form (omega (arith, z)) true
             (λ l. within-none (tablesIn w stored) x within (store-fits l) (value (nameAt w owner)) refl refl (rw i))
             (rw (le-leb (stored + length x) maxStore fits, empty-chars x z)))
-            (literal-bits (s .valid) (s .stand) (s .row) stored x)
+            (literal-bits s stored x)
             (rw (nothing-joins w (replicate stored 0) x (value (nameAt w owner)) refl refl (rw i))
             (alike-same _))
             (s .valid) (s .writable)
@@ -234,10 +219,9 @@ module _ {text : List ℕ} {x : Text} {owner values stored : ℕ} {work : List �
           new-means place judged e =
               let y : Placed = record { place = place; text = x } in
               literal-means (value (nameAt w owner)) w stored x form e
-              (literal-bits (s .valid) (s .stand) (s .row) stored x)
+              (literal-bits s stored x)
               (value-joins-alike w (s .valid .refers) (replicate stored 0) y owner full)
-              (value-grows (s .valid) owner y (s .row)
-              (absent-fresh (s .valid) (s .stand) (s .row) stored b f))
+              (value-grows (s .valid) owner y (s .row) (absent-fresh s stored b f absent))
               (value-writable (s .writable) y judged owner)
 
       pub value-empty : length x ≡ 0 → ValuePost text x owner values stored work (literalAs stored 0 false 0)
