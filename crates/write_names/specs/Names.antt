@@ -54,7 +54,8 @@ pub record NamePre (work : List ℕ) (names uri stored : ℕ) : Type 0 where
 -- The bits by what the judgement answers, and by cells.
 unfoldable pub nameBits : List ℕ → ℕ → ℕ → Bool → Text → Alignment → Bits
 nameBits work uri row joins x a =
-    cond joins (stringBits 1 x) (hitBits a 0 (countIn work nameCounts uri) (nameIn work row .number))
+    cond joins (stringBits 1 x)
+    (hitBits a 0 (countIn work nameCounts uri) (nameIn work row .number))
 
 -- On every memory.
 pub record NameBounds (x : Text) (names stored : ℕ) (r : StringJudged) : Type 0 where
@@ -82,8 +83,8 @@ pub record NamePost (opening text : List ℕ) (attr : Bool) (uri : ℕ) (u x : T
   pub meant : (w : Rows) → Valid w → Writable w → Few w
       → NamesHold work (nameSource opening text) names (w .names) → uri < length (w .uris)
       → uriText (w .uris) uri ≡ u → (place : ℕ)
-      → NameMeans attr w (nameAdded (r .joins) uri w (record { place = place; text = x })) uri stored
-      u x work r
+      → NameMeans attr w (nameAdded (r .joins) uri w (record { place = place; text = x })) uri
+      stored u x work r
 
 -- ---- the writing
 

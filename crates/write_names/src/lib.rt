@@ -1,6 +1,6 @@
-// The URI and the local name of a qualified name (EXI 7.1.7), judged and written. Work memory is not
-// written: what joins a table is added once the whole event is accepted. What the functions ask and
-// leave is in specs/Uris.antt and specs/Names.antt.
+// The URI and the local name of a qualified name (EXI 7.1.7), judged and written. Work memory is
+// read alone: what joins a table is added once the whole event is accepted. What the functions ask
+// and leave is in specs/Uris.antt and specs/Names.antt.
 ghost use Rattle.read_field.specs.View.{alignmentOf};
 ghost use Rattle.write_field.specs.Written.{Put};
 ghost use Rattle.write_names.specs.Uris.{NewUriPre, NewUriPost, UriPre, UriPost, uriBits};
@@ -137,7 +137,8 @@ pub fn judge_local(
     write_partition::found(row - 1, stored)
 }
 
-// Writes a local name (EXI 7.3.3): a hit among its URI's own, or the String, its length raised by 1.
+// Writes a local name (EXI 7.3.3): a hit among its URI's own, or the String, its length raised
+// by 1.
 pub fn put_local(
     aligned: bool,
     stream: &mut [u8],

@@ -4,11 +4,14 @@ use mathlib.Core.Path.{_≡_, sym, ap, subst}
 use mathlib.Core.Bool.{true}
 use mathlib.Core.List.{List, [], _∷_, _++_}
 use lib.ListN.{length, replicate, length-replicate}
+use lib.Dec.{ltb}
 use borrow.Author.Tests.{le-leb}
+use Rattle.spec_fields.proofs.Tests.{split}
 use Rattle.text.specs.Text.{Text}
 use Rattle.spec_exi.specs.Sizes.{sizes, maxUris, maxNames, maxValues, maxStore}
 use Rattle.spec_exi.specs.Tables.{Placed, Entry}
 use Rattle.spec_exi.specs.Lists.{withinTables}
+use Rattle.mem_entries.specs.Texts.{storeOf}
 use Rattle.mem_entries.specs.Entries.{textAt}
 use Rattle.mem_entries.proofs.Entries.{entry-old, entry-new}
 use Rattle.mem_names.specs.Uris.{uriText}
@@ -16,7 +19,14 @@ use Rattle.mem_rows.specs.Rows.{Rows, tablesOf, withUri, withName, withValue}
 use Rattle.mem_rows.proofs.Entries.{last-or}
 use Rattle.mem_rows.proofs.Joins.{uri-old, uri-new}
 use Rattle.mem_rows.proofs.Within.{names-count, values-count}
-use Rattle.write_partition.specs.Writable.{Written, Writable, Few, tablesIn}
+use Rattle.write_partition.specs.Writable.{Written, Writable, Few, tablesIn, sourceOf}
+
+-- ---- where texts lie
+
+pub source-store : (first : ℕ) (opening text : List ℕ) (i : ℕ)
+    → sourceOf first opening text i .store ≡ storeOf first opening text i
+unfolding sourceOf storeOf
+source-store first opening text i = split (ltb i first) (λ e. rw e) (λ e. rw e)
 
 -- ---- the sizes
 

@@ -110,3 +110,8 @@ literal-passes x stored ys e z =
     let (s, more) = first-passes (leb (stored + length x) maxStore) limit _ (fault-none _ (sym e ∙ z)) in
     let (c, others) = first-passes (allChars x) character ys more in
     record { store = leb-true (stored + length x) maxStore s; chars = c; others = others }
+
+pub text-passes : (x : Text) (stored : ℕ) {n : ℕ} → n ≡ faultNumber (firstFailed (literalTests x stored))
+    → n ≡ 0 → Passed x stored []
+unfolding literalTests
+text-passes x stored e z = literal-passes x stored [] e z

@@ -26,8 +26,8 @@ unfoldable pub faultNumber : Option Refusal → ℕ
 faultNumber none = 0
 faultNumber (some k) = numberOf k
 
--- After its length the text of a literal is tested for the store's size and for its characters (scope,
--- "Refusal numbers").
+-- After its length the text of a literal is tested for the store's size and for its characters
+-- (scope, "Refusal numbers").
 unfoldable pub literalTests : Text → ℕ → List Test
 literalTests x stored = (leb (stored + length x) maxStore, limit) ∷ (allChars x, character) ∷ []
 
@@ -46,8 +46,9 @@ literalAs row stored n joins hash =
 
 -- ---- what they mean
 
--- The string x in its role, judged where the tables are those of the rows w and the store has so many
--- code points: the first test that fails; its bits; and the rows v after it, with the store's count.
+-- The string x in its role, judged where the tables are those of the rows w and the store has so
+-- many code points: the first test that fails; its bits; and the rows v after it, with the store's
+-- count.
 pub record StringMeans (role : Role) (w v : Rows) (stored : ℕ) (x : Text) (number stored′ : ℕ)
     (bits : Alignment → Bits) : Type 0 where
   pub fault : number

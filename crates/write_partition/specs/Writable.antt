@@ -36,8 +36,8 @@ pub record Few (w : Rows) : Type 0 where
 abbrev pub tablesIn : Rows → ℕ → Tables
 tablesIn w stored = tablesOf w (replicate stored 0)
 
--- Where the texts of rows lie: the initial entries' in the opening text, all others in the list's own
--- store.
+-- Where the texts of rows lie: the initial entries' in the opening text, all others in the list's
+-- own store.
 unfoldable pub sourceOf : ℕ → List ℕ → List ℕ → ℕ → Source
 sourceOf first opening text i =
     cond (ltb i first) (upTo opening (length opening)) (upTo text (length text))

@@ -14,13 +14,20 @@ less-requires : tie.Need-less-requires
 less-requires c κs = search needs
 
 put-number-requires : tie.Need-put-number-requires
-put-number-requires c κs = id-asks (c .before .before .before .before .before .before .before .before .pre) _ (c .before .before .before .before .before .put-unsigned .ensures) (c .before .before .width .ensures) (c .less .ensures)
+put-number-requires c κs =
+    id-asks (c .before .before .before .before .before .before .before .before .pre) _
+    (c .before .before .before .before .before .put-unsigned .ensures) (c .before .before .width .ensures)
+    (c .less .ensures)
 
 same-length : tie.Need-same-length
 same-length c = search needs
 
 returns : tie.Need-returns
-returns c = hit-put (c .before .before .before .before .before .before .before .before .before .before .before .pre) _ (c .before .before .before .before .before .before .before .before .put-unsigned .ensures) (c .before .before .before .before .before .width .ensures) (c .before .before .before .less .ensures) _ (c .before .before .put-number .ensures)
+returns c =
+    hit-put (c .before .before .before .before .before .before .before .before .before .before .before .pre) _
+    (c .before .before .before .before .before .before .before .before .put-unsigned .ensures)
+    (c .before .before .before .before .before .width .ensures) (c .before .before .before .less .ensures) _
+    (c .before .before .put-number .ensures)
 
 pub put-hit-spec : {M : Type 1} → statement M
 put-hit-spec =

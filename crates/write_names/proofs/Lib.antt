@@ -1,0 +1,3 @@
+pub mod Uris
+pub mod Names
+pub mod Put
