@@ -10,3 +10,4 @@ pub mod Events
 pub mod Alike
 pub mod Within
 pub mod Forms
+pub mod Owners

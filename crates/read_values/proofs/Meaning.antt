@@ -3,12 +3,11 @@
 use Prim.Native.Nat.{ℕ, suc, _-_, _<_}
 use native.Mathlib.Omega.{arith}
 use mathlib.Core.Path.{_≡_, refl, sym, ap, _∙_}
-use mathlib.Core.Bool.{Bool, true}
+use mathlib.Core.Bool.{true}
 use mathlib.Core.List.{List, map}
 use mathlib.Core.Option.{none, some}
 use lib.ListN.{length, getElem?}
-use lib.Dec.{ltb}
-use borrow.Author.Tests.{ltb-true, lt-ltb, eq-eqb, ne-eqb}
+use borrow.Author.Tests.{eq-eqb, ne-eqb}
 use Rattle.text.specs.Text.{Text, part}
 use Rattle.spec_exi.specs.Tables.{Placed, Slot, spanOf, valuesOf, allValues, value}
 use Rattle.spec_exi.specs.Tables.{partitionsOf, hit}
@@ -19,9 +18,7 @@ use Rattle.mem_index.specs.Index.{isNumbered}
 use Rattle.mem_index.proofs.Codes.{numbered-is}
 use Rattle.mem_entries.specs.Texts.{Names}
 use Rattle.mem_entries.specs.Entries.{Entries, entryAt, keyAt, textAt, hasTextAt, given, named}
-use Rattle.mem_entries.specs.Entries.{Keys, Keyed}
 use Rattle.mem_entries.proofs.Texts.{is-text}
-use Rattle.mem_entries.proofs.Alike.{named-alike}
 use Rattle.text.proofs.Equal.{eqText-no}
 use Rattle.mem_values.specs.declared.Value.{Value}
 use Rattle.mem_values.specs.Window as window
@@ -31,35 +28,15 @@ use Rattle.mem_values.proofs.Tables.{form-is, local-count, global-count}
 use Rattle.mem_values.proofs.Entry.{local-entry-is, local-entry-none, global-entry-is}
 use Rattle.mem_rows.specs.Rows.{Rows, nameAt, tablesOf}
 use Rattle.mem_rows.specs.Valid.{Valid}
+use Rattle.mem_rows.proofs.Owners.{isName, is-name, name-keys, value-keys, values-alike}
 use Rattle.read_partition.specs.Strings.{Tabled}
 use Rattle.read_partition.proofs.Hits.{Chosen, Loose}
 use Rattle.read_values.specs.Values.{ValueRows, valueRole}
 
--- ---- rows of names as keys
-
-abbrev isName : Rows → ℕ → Bool
-isName w i = ltb i (length (w .names))
-
-module _ {w : Rows} (v : Valid w) where
-  name-keys : Keys (nameAt w) (isName w)
-  name-keys =
-      record {
-        once = λ i j a b e. v .distinct .names i j (ltb-true i (length (w .names)) a)
-            (ltb-true j (length (w .names)) b) e;
-      }
-
-  value-keys : Keyed (isName w) (w .values)
-  value-keys =
-      record {
-        each = λ i h. lt-ltb (keyAt (w .values) i) (length (w .names))
-            (v .refers .values .below i h);
-      }
-
-  values-tabled : (store : Text)
-      → window.Tabled (nameAt w) (isName w) (tablesOf w store) (w .values)
-  unfolding tablesOf
-  values-tabled store =
-      record { alike = named-alike (nameAt w) (w .values); keys = name-keys; keyed = value-keys }
+values-tabled : {w : Rows} → Valid w → (store : Text)
+    → window.Tabled (nameAt w) (isName w) (tablesOf w store) (w .values)
+values-tabled {w} v store =
+    record { alike = values-alike w store; keys = name-keys v; keyed = value-keys v }
 
 values-are : (w : Rows) (store : Text)
     → tablesOf w store .values ≡ map (named (nameAt w)) (w .values)
@@ -85,7 +62,7 @@ module _ {text : List ℕ} {stored : ℕ} {w : Rows} {store : Text} (t : Tabled 
   count-is = p .stand .holds .count
 
   owner-key : isName w owner ≡ true
-  owner-key = lt-ltb owner (length (w .names)) (p .row)
+  owner-key = is-name w owner (p .row)
 
   pub own-count : length (valuesOf (tablesOf w store) (nameAt w owner)) ≡ length
       (given (w .values) owner)

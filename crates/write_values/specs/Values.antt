@@ -11,7 +11,7 @@ use Rattle.spec_fields.specs.Field.{Alignment}
 use Rattle.spec_fields.specs.Refusal.{limit}
 use Rattle.text.specs.Text.{Text}
 use Rattle.spec_exi.specs.Sizes.{maxString, maxStore, maxValues}
-use Rattle.spec_exi.specs.Tables.{Placed, value, stringBits}
+use Rattle.spec_exi.specs.Tables.{value, stringBits}
 use Rattle.spec_exi.specs.Writer.{firstFailed}
 use Rattle.mem_layout.specs.Layout.{valueCounts, nameRows, workCells}
 use Rattle.mem_index.specs.Index.{countIn}
@@ -39,7 +39,14 @@ neither = 2
 
 abbrev pub refusedAs : ℕ → ℕ → ValueJudged
 refusedAs number stored =
-    record { number = number; partition = neither; id = 0; stored = stored; joins = false; hash = 0 }
+    record {
+      number = number;
+      partition = neither;
+      id = 0;
+      stored = stored;
+      joins = false;
+      hash = 0;
+    }
 
 abbrev pub foundAs : ℕ → ℕ → ℕ → ValueJudged
 foundAs partition id stored =

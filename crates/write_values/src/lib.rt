@@ -1,6 +1,6 @@
-// Values (EXI 7.3.3) and strings by no table (EXI 7.1.10), judged; and values, written. Work memory is
-// not written: a value that joins is added once the whole event is accepted. What the functions ask
-// and leave is in specs/Values.antt and specs/Texts.antt.
+// Values (EXI 7.3.3) and strings by no table (EXI 7.1.10), judged; and values, written. Work memory
+// is not written: a value that joins is added once the whole event is accepted. What the functions
+// ask and leave is in specs/Values.antt and specs/Texts.antt.
 ghost use mathlib.Core.Path.{_≡_};
 ghost use Prim.Native.Nat.{_+_, _≤_};
 ghost use Rattle.spec_exi.specs.Sizes.{maxStore};
@@ -126,7 +126,8 @@ fn judge_new_value(x: &[u32], values: u32, stored: usize, h: u32) -> ValueJudged
     literal(stored, x.len(), true, h)
 }
 
-// Judges a value of the name in a row: one search by text answers whether it is the name's own.
+// Judges a value of the name in a row: one search by text answers whether it is the name's own. An
+// empty one joins no table.
 pub fn judge_value(
     text: &[u32],
     x: &[u32],
@@ -142,14 +143,16 @@ pub fn judge_value(
     if MAX_STRING < x.len() {
         return refused(LIMIT, stored);
     }
-    if x.len() == 0 {
-        return literal(stored, 0, false, 0);
-    }
     let h = mem_entries::hash(x);
     match mem_values::form_of(work, text, x, h, values, 0, values, owner) {
         Form::Local(i) => found(OWN, i, stored),
         Form::Global(i) => found(ALL, i, stored),
-        Form::Absent => judge_new_value(x, values, stored, h),
+        Form::Absent => {
+            if x.len() == 0 {
+                return literal(stored, 0, false, 0);
+            }
+            judge_new_value(x, values, stored, h)
+        }
     }
 }
 

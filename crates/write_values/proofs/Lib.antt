@@ -1,0 +1,4 @@
+pub mod Texts
+pub mod Forms
+pub mod Values
+pub mod Puts

@@ -1,0 +1,104 @@
+-- `judge_value` meets its contract: each return is one law.
+use borrow.Author.Needs.{needs}
+use Rattle.spec_exi.specs.Sizes.{maxString}
+use Rattle.write_values.proofs.Values.{form-asks, value-long, value-own, value-all, value-empty, value-new}
+use Rattle.write_values.proofs.judge_value.Statement.{statement}
+use Rattle.write_values.proofs.judge_value.Tie as tie
+
+refused-requires : tie.Need-refused-requires
+refused-requires c κs = search needs
+
+returns : tie.Need-returns
+unfolding maxString
+returns c =
+    let pre = c .before .before .before .before .before .pre in
+    let if1 = c .before .if1 in
+    rw (c .refused .ensures) (value-long pre (if1 .taken))
+
+hash-requires : tie.Need-hash-requires
+hash-requires c κs = search needs
+
+form-of-requires : tie.Need-form-of-requires
+form-of-requires c κs = form-asks (c .before .before .before .before .before .pre)
+
+enum-known-i : tie.Need-enum-known-i
+enum-known-i c = search needs
+
+found-requires : tie.Need-found-requires
+found-requires c κs = search needs
+
+enum-known-i-2 : tie.Need-enum-known-i-2
+enum-known-i-2 c = search needs
+
+found-requires-2 : tie.Need-found-requires-2
+found-requires-2 c κs = search needs
+
+enum-told : tie.Need-enum-told
+enum-told c = search needs
+
+literal-requires : tie.Need-literal-requires
+literal-requires c κs = search needs
+
+returns-2 : tie.Need-returns-2
+returns-2 c =
+    let pre = c .before .before .before .before .before .before .before .before .before .before .pre in
+    let hash = c .before .before .before .before .before .hash in
+    let form-of = c .before .before .before .before .form-of in
+    let enum-told = c .before .before .enum-told in
+    let if2 = c .before .if2 in
+    rw (c .literal .ensures) (value-empty pre (hash .ensures) (form-of .ensures) (enum-told .given .1) (if2 .taken))
+
+judge-new-value-requires : tie.Need-judge-new-value-requires
+unfolding maxString
+judge-new-value-requires c κs =
+    let pre = c .before .before .before .before .before .before .before .before .before .pre in
+    let if1 = c .before .before .before .before .before .if1 in
+    record { store = pre .store; short = if1 .left }
+
+returns-3 : tie.Need-returns-3
+returns-3 c =
+    let pre = c .before .before .before .before .before .before .before .before .before .before .pre in
+    let hash = c .before .before .before .before .before .hash in
+    let form-of = c .before .before .before .before .form-of in
+    let i = c .before .before .i in
+    rw (c .found .ensures) (value-own pre (hash .ensures) (form-of .ensures) (i .given .1))
+
+returns-4 : tie.Need-returns-4
+returns-4 c =
+    let pre = c .before .before .before .before .before .before .before .before .before .before .pre in
+    let hash = c .before .before .before .before .before .hash in
+    let form-of = c .before .before .before .before .form-of in
+    let i2 = c .before .before .i2 in
+    rw (c .found2 .ensures) (value-all pre (hash .ensures) (form-of .ensures) (i2 .given .1))
+
+returns-5 : tie.Need-returns-5
+unfolding maxString
+returns-5 c =
+    let pre = c .before .before .before .before .before .before .before .before .before .before .pre in
+    let if1 = c .before .before .before .before .before .before .if1 in
+    let hash = c .before .before .before .before .before .hash in
+    let form-of = c .before .before .before .before .form-of in
+    let enum-told = c .before .before .enum-told in
+    let if2 = c .before .if2 in
+    value-new pre (hash .ensures) (form-of .ensures) (enum-told .given .1) (if2 .left) (if1 .left)
+    (c .judge-new-value .ensures)
+
+pub judge-value-spec : {M : Type 1} → statement M
+judge-value-spec =
+    tie.close
+    (tie.spec
+    refused-requires
+    returns
+    hash-requires
+    form-of-requires
+    enum-known-i
+    found-requires
+    enum-known-i-2
+    found-requires-2
+    enum-told
+    literal-requires
+    returns-2
+    judge-new-value-requires
+    returns-3
+    returns-4
+    returns-5)
