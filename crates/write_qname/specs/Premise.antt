@@ -1,5 +1,5 @@
 -- What holds of memory where the writer's functions say what their answers mean.
-use Prim.Native.Nat.{ℕ}
+use Prim.Native.Nat.{ℕ, _≤_}
 use mathlib.Core.Path.{_≡_}
 use mathlib.Core.Bool.{true}
 use mathlib.Core.List.{List}
@@ -8,6 +8,7 @@ use Rattle.text.specs.Text.{Text, Span, inside, part}
 use Rattle.spec_exi.specs.Context.{Context}
 use Rattle.event.specs.declared.Part.{Part}
 use Rattle.event.specs.Cells.{asSpan}
+use Rattle.mem_layout.specs.Layout.{openingUris, openingNames}
 use Rattle.mem_entries.specs.Texts.{upTo}
 use Rattle.mem_rows.specs.Rows.{Rows, contextOf}
 use Rattle.mem_rows.specs.Valid.{Valid}
@@ -25,8 +26,14 @@ listStores opening text =
       values = upTo text (length text);
     }
 
+-- The initial entries are there: what joins later lies in the list's store.
+pub record Begun (w : Rows) : Type 0 where
+  pub uris : openingUris ≤ length (w .uris)
+  pub names : openingNames ≤ length (w .names)
+
 -- Memory is that of these rows, and each of their texts was judged.
 pub record Prepared (opening text work : List ℕ) (c : Core) (w : Rows) : Type 0 where
+  pub begun : Begun w
   pub valid : Valid w
   pub writable : Writable w
   pub holds : Holds work (listStores opening text) w
