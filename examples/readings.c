@@ -27,7 +27,8 @@ static uint32_t work[PLUMETHRIFT_READER_WORK_CELLS];
 
 /*
  * Prints the stamp of reading `i` from the list that the call has left: start document, start
- * element `readings`, then for each reading start element `r`, attributes `t` and `um`, end element.
+ * element `readings`, then for each reading start element `r`, attributes `t` and `um`, end
+ * element.
  */
 static void print_stamp(uint32_t i) {
   const uint32_t *t = events + (size_t)PLUMETHRIFT_CELLS_PER_EVENT * (2 + 4 * i + 1);

@@ -215,9 +215,9 @@ pub fn list_of_readings(
 /// Reads a stream, and takes the readings out of its list.
 ///
 /// Lent are [`MAX_READINGS`] of `stamps` and `movements`, at least, and `events`, `text` and `work`
-/// as to [`read`]; the list is left in `events` and `text` as that leaves it. ROOM of any part comes
-/// first, then what the reader refuses, its index counting events, then what is refused of the
-/// readings.
+/// as to [`read`]; the list is left in `events` and `text` as that leaves it. ROOM of any part
+/// comes first, then what the reader refuses, its index counting events, then what is refused of
+/// the readings.
 pub fn read_readings(
     s: SettingNumbers,
     stream: &[u8],

@@ -51,8 +51,8 @@
 //!
 //! # Readings
 //!
-//! [`Readings`] are stamps in whole milliseconds and movements in micrometres, as trackers of bridge
-//! movements send them: out of a stream by [`Reader::read_readings`], into one by
+//! [`Readings`] are stamps in whole milliseconds and movements in micrometres, as trackers of
+//! bridge movements send them: out of a stream by [`Reader::read_readings`], into one by
 //! [`Writer::write_readings`], and from and to lists of events.
 //!
 //! ```

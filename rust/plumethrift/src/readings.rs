@@ -41,8 +41,8 @@ pub struct Reading {
 ///
 /// Readings take any numbers, in any order; they are judged when they are made into a list or a
 /// stream. The text store has room for at most 678 of them, and for fewer where movements differ:
-/// 111 code points, 24 for each stamp, and each distinct movement once make at most 16,384. A stream
-/// has room for 606 bit-packed, and for 545 byte-aligned, of movement 0.
+/// 111 code points, 24 for each stamp, and each distinct movement once make at most 16,384. A
+/// stream has room for 606 bit-packed, and for 545 byte-aligned, of movement 0.
 #[derive(Clone, Debug, Default, PartialEq, Eq, Hash)]
 pub struct Readings {
     /// As many as there are movements.
@@ -67,7 +67,8 @@ impl Readings {
     /// let mut list = EventList::new();
     /// list.start_document().start_element("", "readings");
     /// for t in ["2026-03-01T00:00:00.000Z", "2026-02-29T00:00:00.000Z"] {
-    ///     list.start_element("", "r").attribute("", "t", t).attribute("", "um", "7").end_element();
+    ///     list.start_element("", "r").attribute("", "t", t).attribute("", "um", "7");
+    ///     list.end_element();
     /// }
     /// list.end_element().end_document();
     ///

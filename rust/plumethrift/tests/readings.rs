@@ -1,5 +1,5 @@
-//! Readings from lists and streams, and back: every argument in its place, and what is left in every
-//! cell.
+//! Readings from lists and streams, and back: every argument in its place, and what is left in
+//! every cell.
 
 use plumethrift::lent::{
     self, ListReply, ReadingsReply, SettingNumbers, WriteReply, CELLS_PER_EVENT, EVENT_CELLS,

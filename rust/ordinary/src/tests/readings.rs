@@ -6,8 +6,8 @@ use crate::{list_of_readings, read, readings_of_list, write, ReadReply, Readings
 
 type Readings = Vec<(u64, i32)>;
 
-/// Takes readings out of a list with more memory than asked for, none of it zero, and checks what is
-/// left in it.
+/// Takes readings out of a list with more memory than asked for, none of it zero, and checks what
+/// is left in it.
 fn take(cells: &[u32], store: &[u32]) -> Result<Readings, (u32, u32)> {
     let (mut stamps, mut movements) = ([7; MAX_READINGS + 3], [-7; MAX_READINGS + 5]);
     let reply = readings_of_list(cells, store, &mut stamps, &mut movements);
@@ -107,8 +107,8 @@ fn the_list_of_one_reading() {
     assert_eq!(said, format!("readingsrt{LEAP}um-5"));
 }
 
-/// The list is laid as the reader lays it: writing it and reading that gives the same cells. And the
-/// readings come back.
+/// The list is laid as the reader lays it: writing it and reading that gives the same cells. And
+/// the readings come back.
 #[test]
 fn lists_are_laid_as_the_reader_lays_them() {
     let step = |k: usize, movement: fn(i32) -> i32| (86_399_999 * k as u64, movement(k as i32));
