@@ -201,7 +201,7 @@ fn no_reading_and_one() {
 fn many_readings() {
     for step in [1, 1_000, 60_000, 4_654_513_273] {
         for most in [1, 20_000] {
-            let moved = |k: u64| if k % 2 == 0 { most } else { -most };
+            let moved = |k: u64| if k % 2 == 1 { -most } else { most };
             let all: Vec<Reading> = (0..678).map(|k| reading(k * step, moved(k))).collect();
             let svg = picture("a.exi", &all);
             assert_eq!(svg.matches("<circle ").count(), 678);
