@@ -54,7 +54,8 @@ extern "C" {
 #define PLUMETHRIFT_READER_WORK_CELLS 18432 /* reader: work memory */
 #define PLUMETHRIFT_WRITER_WORK_CELLS 34816 /* writer: work memory */
 
-#define PLUMETHRIFT_MAX_READINGS 678        /* readings: stamps, and as many movements */
+/* The most readings that there are in one list: stamps to lend, at least, and as many movements. */
+#define PLUMETHRIFT_MAX_READINGS 678
 
 /* Cells of one event. */
 #define PLUMETHRIFT_CELLS_PER_EVENT 9
