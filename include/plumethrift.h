@@ -5,28 +5,29 @@
  * The reader turns the octets of a stream into a list of events, the writer a list of events into
  * octets. The reader accepts exactly the strict forms of well-formed lists inside the sizes below:
  * each accepted stream has one list, each such list one stream. Anything else is refused with a
- * number and the index of the event concerned. Both are proved against the format's definitions for
+ * number and the index of the event concerned. Above them stand readings, stamps with movements,
+ * taken from such a list or stream and made into one. All are proved against the definitions for
  * every input; this header is written by hand, and nothing checks it against the proved source but
  * the tests in rust/.
  *
  * Memory
  *
- *   Both calls work in memory that the caller lends: parts, each a pointer and a length in octets
- *   or in cells of 32 bits. What the caller owes is this, and no more:
+ *   The calls work in memory that the caller lends: parts, each a pointer and a length in octets
+ *   or in cells. A cell has 32 bits, a stamp's 64. What the caller owes is this, and no more:
  *
  *   - Each pointer is good for its length, to write where it is not const, and aligned for its
  *     type. It is null only where the length is 0.
  *   - A part lent for writing overlaps no other part of the call.
  *
- *   All else is safe: any octets as a stream, any cells as a list, any numbers as settings, any
- *   lengths. A part that is too short is refused (ROOM). What memory lent for writing holds before
- *   a call does not matter.
+ *   All else is safe: any octets as a stream, any cells as a list or as readings, any numbers as
+ *   settings, any lengths. A part that is too short is refused (ROOM). What memory lent for writing
+ *   holds before a call does not matter.
  *
  * What a call leaves
  *
  *   - Success (number 0): index is 0 and the counts say what was written. Every lent cell or octet
  *     past the last one used is zero, and all work memory is zero.
- *   - Refusal (number 1 to 15): the counts are 0, and all memory lent for writing is zero.
+ *   - Refusal (number 1 to 19): the counts are 0, and all memory lent for writing is zero.
  *
  *   Both hold for all that is lent, however long; more than asked for only costs time.
  *
@@ -53,8 +54,15 @@ extern "C" {
 #define PLUMETHRIFT_READER_WORK_CELLS 18432 /* reader: work memory */
 #define PLUMETHRIFT_WRITER_WORK_CELLS 34816 /* writer: work memory */
 
+/* The most readings that there are in one list: stamps to lend, at least, and as many movements. */
+#define PLUMETHRIFT_MAX_READINGS 678
+
 /* Cells of one event. */
 #define PLUMETHRIFT_CELLS_PER_EVENT 9
+
+/* Of a reading: the stamp of 2099-12-31T23:59:59.999Z, and the largest movement, either way. */
+#define PLUMETHRIFT_LAST_STAMP 3155759999999
+#define PLUMETHRIFT_MAX_MOVEMENT 20000
 
 /*
  * Settings of a stream. They travel outside it: reader and writer have to be given the same. A
@@ -118,7 +126,8 @@ enum plumethrift_string_of_an_event {
 
 /*
  * Refusals, the `number` of a reply. `index` is the number of events before the one concerned; it
- * is 0 for ROOM, SETTINGS, LONG and HEADER, and counts all events for TAIL.
+ * is 0 for ROOM, SETTINGS, LONG and HEADER, and counts all events for TAIL. From 16 on it is the
+ * number of readings before; so it is for LIMIT where readings are given, or taken from a list.
  *
  * LIMIT speaks of these sizes: 4,096 events; 100 elements open at once; 16 URIs and 128 local names
  * over all URIs, with those that every stream begins with (3 and 6); 2,048 distinct values that are
@@ -141,7 +150,13 @@ enum plumethrift_refusal {
   PLUMETHRIFT_LIMIT = 12,    /* one of the sizes above would be passed */
   PLUMETHRIFT_TAIL = 13,     /* a pad bit is 1, or octets follow the end */
   PLUMETHRIFT_SHAPE = 14,    /* writer: kinds or order of events break a well-formed list */
-  PLUMETHRIFT_PLACE = 15     /* writer: a string's place plus length passes the store's length */
+  PLUMETHRIFT_PLACE = 15,    /* writer: a string's place plus length passes the store's length */
+
+  /* readings alone */
+  PLUMETHRIFT_STRUCTURE = 16,    /* the list is not one of readings */
+  PLUMETHRIFT_BAD_STAMP = 17,    /* no stamp of the years 2000 to 2099, or no such day or time */
+  PLUMETHRIFT_BAD_MOVEMENT = 18, /* no number of -20000 to 20000; a plus, a leading zero, or -0 */
+  PLUMETHRIFT_NOT_LATER = 19     /* a stamp is not later than the one before */
 };
 
 typedef struct plumethrift_read_reply {
@@ -153,7 +168,7 @@ typedef struct plumethrift_read_reply {
 
 typedef struct plumethrift_write_reply {
   uint32_t number; /* 0, or the refusal's number */
-  uint32_t index;  /* the event concerned by a refusal; 0 on success */
+  uint32_t index;  /* the event, or the reading, concerned by a refusal; 0 on success */
   uint32_t octets; /* octets written: the stream is the first so many of the octets */
 } plumethrift_write_reply;
 
@@ -193,7 +208,93 @@ plumethrift_write_reply plumethrift_write(plumethrift_settings settings,
                                           const uint32_t *text, size_t text_cells,
                                           uint32_t *work, size_t work_cells);
 
-/* The name of a refusal, "ROOM" to "PLACE" for 1 to 15; "" for any other number. */
+/*
+ * Readings
+ *
+ *   A reading is a stamp and a movement. The stamp is whole milliseconds since
+ *   2000-01-01T00:00:00.000Z, up to PLUMETHRIFT_LAST_STAMP; the movement is micrometres, from
+ *   -PLUMETHRIFT_MAX_MOVEMENT to PLUMETHRIFT_MAX_MOVEMENT. Each stamp is later than the one before.
+ *
+ *   A list of readings is a document whose root `readings` has children `r`, one for each, with the
+ *   attribute `t`, the stamp as YYYY-MM-DDThh:mm:ss.mmmZ, then `um`, the movement as a decimal
+ *   number; no other event, and all names in no namespace. Lists and readings stand for each other
+ *   one to one: stamps that differ never become the same.
+ *
+ *   Readings lie in two parts, stamps and movements, reading i in cell i of both. Of the sizes that
+ *   LIMIT speaks of, their list can pass the text store's alone: 111 code points, 24 a stamp, and
+ *   each distinct movement once. So there are at most PLUMETHRIFT_MAX_READINGS, and fewer where
+ *   movements differ.
+ *
+ *   Refused is the first reading that is wrong; of what is wrong with it the first of STRUCTURE,
+ *   BAD_STAMP, BAD_MOVEMENT, NOT_LATER, LIMIT. ROOM comes before all.
+ */
+typedef struct plumethrift_readings_reply {
+  uint32_t number;   /* 0, or the refusal's number */
+  uint32_t index;    /* the reading, or the stream's event, concerned by a refusal; 0 on success */
+  uint32_t readings; /* readings written: the first so many stamps and movements */
+} plumethrift_readings_reply;
+
+typedef struct plumethrift_list_reply {
+  uint32_t number;      /* 0, or the refusal's number */
+  uint32_t index;       /* the reading concerned by a refusal; 0 on success */
+  uint32_t events;      /* events written: the list is the first 9 * events of the event cells */
+  uint32_t code_points; /* code points written: the store is the first so many of the text cells */
+} plumethrift_list_reply;
+
+/*
+ * Takes the readings out of the list that is all of `events`, with its strings in `text`: both are
+ * only read, and may have any length. `stamps` and `movements` are lent for writing, at least
+ * PLUMETHRIFT_MAX_READINGS cells each. Refusals 1, 12 and 16 to 19. A string that lies outside the
+ * store is STRUCTURE.
+ */
+plumethrift_readings_reply plumethrift_readings_of_list(const uint32_t *events, size_t event_cells,
+                                                        const uint32_t *text, size_t text_cells,
+                                                        uint64_t *stamps, size_t stamp_cells,
+                                                        int32_t *movements, size_t movement_cells);
+
+/*
+ * Makes the list of readings, as many as both `stamps` and `movements` have: both are only read,
+ * and may have any length. `events` and `text` are lent for writing, at least
+ * PLUMETHRIFT_EVENT_CELLS and PLUMETHRIFT_TEXT_CELLS cells. The list lies in them as the reader
+ * leaves it for the stream that is written of it. Refusals 1, 12 and 17 to 19.
+ */
+plumethrift_list_reply plumethrift_list_of_readings(const uint64_t *stamps, size_t stamp_cells,
+                                                    const int32_t *movements, size_t movement_cells,
+                                                    uint32_t *events, size_t event_cells,
+                                                    uint32_t *text, size_t text_cells);
+
+/*
+ * Reads a stream, and takes the readings out of its list, which is left in `events` and `text`.
+ * Lent for writing are `events`, `text` and `work` as to plumethrift_read, and `stamps` and
+ * `movements` as to plumethrift_readings_of_list. ROOM of any part comes first, then refusals 2 to
+ * 13 of the reader, with the index of an event, then 16 to 19, with that of a reading.
+ */
+plumethrift_readings_reply plumethrift_read_readings(plumethrift_settings settings,
+                                                     const uint8_t *stream, size_t stream_octets,
+                                                     uint64_t *stamps, size_t stamp_cells,
+                                                     int32_t *movements, size_t movement_cells,
+                                                     uint32_t *events, size_t event_cells,
+                                                     uint32_t *text, size_t text_cells,
+                                                     uint32_t *work, size_t work_cells);
+
+/*
+ * Makes the list of readings, which is left in `events` and `text`, and writes it. Lent for writing
+ * are `events` and `text` as to plumethrift_list_of_readings, and `stream` and `work` as to
+ * plumethrift_write. ROOM of any part comes first, then refusals 12 and 17 to 19, with the index of
+ * a reading, then 2 and 3.
+ */
+plumethrift_write_reply plumethrift_write_readings(plumethrift_settings settings,
+                                                   uint8_t *stream, size_t stream_octets,
+                                                   const uint64_t *stamps, size_t stamp_cells,
+                                                   const int32_t *movements, size_t movement_cells,
+                                                   uint32_t *events, size_t event_cells,
+                                                   uint32_t *text, size_t text_cells,
+                                                   uint32_t *work, size_t work_cells);
+
+/*
+ * The name of a refusal, "ROOM" to "PLACE" for 1 to 15; "" for any other number, those of readings
+ * alone among them.
+ */
 plumethrift_name plumethrift_refusal_name(uint32_t number);
 
 /* The sizes to lend, at least: what the macros of the same names say. */

@@ -9,12 +9,18 @@
 //! numbers: how many code points, the code points, then the events. An event is its kind and a
 //! place and a length for each of its strings; a kind without meaning is followed by nothing;
 //! [`RAW`] is followed by how many cells, at most nine, and the cells.
+//!
+//! With both 64 and 1 set the request is about readings: with 128 set for the list of readings, else
+//! for the readings of a list, which follows as to write. Of the other bits only 32 counts. Readings
+//! are numbers up to the end: by how much a stamp is above the one before, and the movement, twice
+//! its size, and one more below 0.
 
 #![forbid(unsafe_code)]
 
 use compare::event::{stored_strings, strings_of, Stored, CELLS};
 use compare::lent::{ReaderPart, Settings, WriterPart};
-use compare::protocol::Request;
+use compare::protocol::{ReadingsPart, Request};
+use compare::readings::{ListPart, Reading};
 
 const OTHER_SETTINGS: u8 = 16;
 const SHORT: u8 = 32;
@@ -23,6 +29,10 @@ const WRITE: u8 = 128;
 
 const READER_PARTS: [ReaderPart; 3] = [ReaderPart::Events, ReaderPart::Text, ReaderPart::Work];
 const WRITER_PARTS: [WriterPart; 2] = [WriterPart::Octets, WriterPart::Work];
+const LIST_PARTS: [ListPart; 2] = [ListPart::Events, ListPart::Text];
+
+/// In the first octet: about readings.
+const READINGS: u8 = NO_ALIGNMENT | 1;
 
 /// In place of a kind: cells as they are.
 pub const RAW: u32 = 127;
@@ -30,6 +40,9 @@ pub const RAW: u32 = 127;
 pub fn request(input: &[u8]) -> Option<Request> {
     let (&first, rest) = input.split_first()?;
     let mut numbers = Numbers { octets: rest };
+    if first & READINGS == READINGS {
+        return Some(request_of_readings(first, &mut numbers));
+    }
     let settings = settings(first, &mut numbers);
     let short = if first & SHORT == 0 {
         None
@@ -49,6 +62,20 @@ pub fn request(input: &[u8]) -> Option<Request> {
             list: list(&mut numbers),
         }
     })
+}
+
+fn request_of_readings(first: u8, numbers: &mut Numbers) -> Request {
+    let short = (first & SHORT != 0).then(|| usize::from(numbers.octet()));
+    if first & WRITE == 0 {
+        return Request::Readings {
+            short: short.map(|_| ReadingsPart::Readings),
+            list: list(numbers),
+        };
+    }
+    Request::List {
+        short: short.map(|part| LIST_PARTS[part % LIST_PARTS.len()]),
+        readings: readings(numbers),
+    }
 }
 
 fn settings(first: u8, numbers: &mut Numbers) -> Settings {
@@ -73,6 +100,19 @@ fn settings(first: u8, numbers: &mut Numbers) -> Settings {
 /// The input that stands for a request, if there is one.
 pub fn input(request: &Request) -> Option<Vec<u8>> {
     let (settings, short) = match request {
+        Request::Readings { short, list } => {
+            let mut input = vec![READINGS];
+            put_short(&mut input, short.map(|_| 0));
+            put_list(&mut input, list);
+            return Some(input);
+        }
+        Request::List { short, readings } => {
+            let place = |part| LIST_PARTS.iter().position(|known| *known == part);
+            let mut input = vec![READINGS | WRITE];
+            put_short(&mut input, short.and_then(place));
+            put_readings(&mut input, readings);
+            return Some(input);
+        }
         Request::Read {
             settings, short, ..
         } => {
@@ -88,18 +128,23 @@ pub fn input(request: &Request) -> Option<Vec<u8>> {
     };
     let mut input = vec![0];
     put_settings(&mut input, *settings)?;
-    if let Some(part) = short {
-        input[0] |= SHORT;
-        input.push(part as u8);
-    }
+    put_short(&mut input, short);
     match request {
         Request::Read { stream, .. } => input.extend(stream),
         Request::Write { list, .. } => {
             input[0] |= WRITE;
             put_list(&mut input, list);
         }
+        Request::Readings { .. } | Request::List { .. } => {}
     }
     Some(input)
+}
+
+fn put_short(input: &mut Vec<u8>, part: Option<usize>) {
+    if let Some(part) = part {
+        input[0] |= SHORT;
+        input.push(part as u8);
+    }
 }
 
 fn put_settings(input: &mut Vec<u8>, settings: Settings) -> Option<()> {
@@ -174,7 +219,32 @@ fn put_list(input: &mut Vec<u8>, list: &Stored) {
     }
 }
 
+fn readings(numbers: &mut Numbers) -> Vec<Reading> {
+    let mut readings = Vec::new();
+    let mut stamp = 0u64;
+    while let Some(step) = numbers.next_long() {
+        stamp = stamp.wrapping_add(step);
+        let twice = numbers.next().unwrap_or(0);
+        let below = (twice & 1) as i32;
+        readings.push((stamp, (twice >> 1) as i32 ^ -below));
+    }
+    readings
+}
+
+fn put_readings(input: &mut Vec<u8>, readings: &[Reading]) {
+    let mut before = 0u64;
+    for &(stamp, movement) in readings {
+        put_long(input, stamp.wrapping_sub(before));
+        put(input, (movement << 1 ^ movement >> 31) as u32);
+        before = stamp;
+    }
+}
+
 fn put(input: &mut Vec<u8>, number: u32) {
+    put_long(input, u64::from(number));
+}
+
+fn put_long(input: &mut Vec<u8>, number: u64) {
     let mut rest = number;
     while rest >= 128 {
         input.push(rest as u8 | 128);
@@ -197,14 +267,19 @@ impl Numbers<'_> {
         octet
     }
 
+    /// The low 32 bits of the next number.
     fn next(&mut self) -> Option<u32> {
-        let mut number = 0u32;
+        self.next_long().map(|number| number as u32)
+    }
+
+    fn next_long(&mut self) -> Option<u64> {
+        let mut number = 0u64;
         let mut shift = 0;
         loop {
             let (&octet, rest) = self.octets.split_first()?;
             self.octets = rest;
-            if shift < 32 {
-                number |= u32::from(octet & 127) << shift;
+            if shift < 64 {
+                number |= u64::from(octet & 127) << shift;
             }
             if octet < 128 {
                 return Some(number);
@@ -228,6 +303,12 @@ mod tests {
             "r 2 0 0 0 fragment=1 vmax=0 vcap=4294967294 loose=7 prefixes=300 cap=5 short=work 80",
             "r 1 0 0 0 cap=0 short=events -",
             "w 1 1 0 0 vmax=70000 short=octets BAD 61",
+            "m SD,SE:0:0:0:8,EE,ED 72,65,61,64,69,6e,67,73",
+            "m short=readings BAD -",
+            "l -",
+            "l 0:0,5097600000:-5,7:20000,18446744073709551615:-2147483648,0:2147483647",
+            "l short=events 3155759999999:-1",
+            "l short=text -",
         ];
         for line in requests {
             let wanted = Request::parse(line).expect(line);

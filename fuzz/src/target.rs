@@ -8,9 +8,12 @@ use std::cell::RefCell;
 use compare::check::Comparison;
 use compare::lent::{ReaderSizes, WriterSizes};
 use compare::protocol::Request;
+use compare::readings::check::ReadingsComparison;
+use compare::readings::{ListSizes, ReadingsSizes};
 
 thread_local! {
     static BOTH: RefCell<Comparison> = RefCell::new(Comparison::new());
+    static READINGS: RefCell<ReadingsComparison> = RefCell::new(ReadingsComparison::new());
 }
 
 /// # Safety
@@ -26,9 +29,17 @@ pub unsafe extern "C" fn LLVMFuzzerTestOneInput(place: *const u8, length: usize)
     let Some(request) = fuzz::request(input) else {
         return 0;
     };
-    let checked = BOTH.with(|both| {
+    if let Err(error) = check(&request) {
+        eprintln!("{error}");
+        std::process::abort();
+    }
+    0
+}
+
+fn check(request: &Request) -> Result<(), String> {
+    BOTH.with(|both| {
         let mut both = both.borrow_mut();
-        match &request {
+        match request {
             Request::Read {
                 settings,
                 short: Some(part),
@@ -49,11 +60,26 @@ pub unsafe extern "C" fn LLVMFuzzerTestOneInput(place: *const u8, length: usize)
             Request::Write { settings, list, .. } => {
                 both.write_and_back(*settings, list).map(|_| ())
             }
+            Request::Readings { .. } | Request::List { .. } => check_readings(request),
         }
-    });
-    if let Err(error) = checked {
-        eprintln!("{error}");
-        std::process::abort();
-    }
-    0
+    })
+}
+
+fn check_readings(request: &Request) -> Result<(), String> {
+    READINGS.with(|both| {
+        let mut both = both.borrow_mut();
+        match request {
+            Request::Readings {
+                short: Some(_),
+                list,
+            } => both.of_list(list, ReadingsSizes::short()).map(|_| ()),
+            Request::Readings { list, .. } => both.of_list_and_back(list).map(|_| ()),
+            Request::List {
+                short: Some(part),
+                readings,
+            } => both.to_list(readings, ListSizes::short(*part)).map(|_| ()),
+            Request::List { readings, .. } => both.to_list_and_back(readings).map(|_| ()),
+            Request::Read { .. } | Request::Write { .. } => Ok(()),
+        }
+    })
 }

@@ -18,8 +18,8 @@ pub fn sizes() -> &'static Sizes {
 /// Cells lent beyond the stated sizes.
 pub const BEYOND: usize = 3;
 
-const GUARD: usize = 5;
-const FILL: u32 = 0xA5A5_A5A5;
+pub(crate) const GUARD: usize = 5;
+pub(crate) const FILL: u32 = 0xA5A5_A5A5;
 const FILL_OCTET: u8 = 0xA5;
 
 pub const ROOM: u32 = 1;
@@ -211,7 +211,7 @@ impl Codec {
     }
 }
 
-fn library_settings(s: Settings) -> plumethrift::lent::SettingNumbers {
+pub(crate) fn library_settings(s: Settings) -> plumethrift::lent::SettingNumbers {
     plumethrift::lent::SettingNumbers {
         alignment: s.alignment,
         cookie: s.cookie,
@@ -226,7 +226,7 @@ fn library_settings(s: Settings) -> plumethrift::lent::SettingNumbers {
     }
 }
 
-fn ordinary_settings(s: Settings) -> ordinary::Settings {
+pub(crate) fn ordinary_settings(s: Settings) -> ordinary::Settings {
     ordinary::Settings {
         alignment: s.alignment,
         cookie: s.cookie,
@@ -362,11 +362,11 @@ impl ReaderMemory {
     }
 
     /// Fills all, and lends parts of these sizes, at most the usual ones, to `call`.
-    pub fn read_with(
+    pub fn read_with<R>(
         &mut self,
         sizes: ReaderSizes,
-        call: impl FnOnce(&mut [u32], &mut [u32], &mut [u32]) -> ReadReply,
-    ) -> ReadReply {
+        call: impl FnOnce(&mut [u32], &mut [u32], &mut [u32]) -> R,
+    ) -> R {
         self.events.fill(FILL);
         self.text.fill(FILL);
         self.work.fill(FILL);
@@ -458,11 +458,11 @@ impl WriterMemory {
     }
 
     /// Fills all, and lends parts of these sizes, at most the usual ones, to `call`.
-    pub fn write_with(
+    pub fn write_with<R>(
         &mut self,
         sizes: WriterSizes,
-        call: impl FnOnce(&mut [u8], &mut [u32]) -> WriteReply,
-    ) -> WriteReply {
+        call: impl FnOnce(&mut [u8], &mut [u32]) -> R,
+    ) -> R {
         self.octets.fill(FILL_OCTET);
         self.work.fill(FILL);
         self.sizes = sizes;
@@ -505,7 +505,7 @@ impl WriterMemory {
     }
 }
 
-fn zero(cells: &[u32]) -> bool {
+pub(crate) fn zero(cells: &[u32]) -> bool {
     cells.iter().fold(0, |all, cell| all | cell) == 0
 }
 

@@ -7,8 +7,9 @@
 //! The tests are in `tests/`: `streams` (those that the scope lists, and more of the kind), `sizes`
 //! (both sides of each), `fields` (n-bit fields that end with what is lent, or are cut), `primer`
 //! (the EXI Primer's worked examples), `vectors` (requests and answers from files), `differential`
-//! (random and damaged lists and streams), `batch` (the program of that name). Run them in a
-//! release build. The programs are `batch`, which answers request lines, `bench`, which times both
+//! (random and damaged lists and streams), `readings` (readings from lists and streams, and back),
+//! `batch` (the program of that name), `exi` and `plot` (the command line). Run them in a release
+//! build. The programs are `batch`, which answers request lines, `bench`, which times both
 //! implementations, and `fields`, which times n-bit fields by themselves.
 
 #![forbid(unsafe_code)]
@@ -21,6 +22,7 @@ pub mod generate;
 pub mod lent;
 pub mod prng;
 pub mod protocol;
+pub mod readings;
 
 /// The sizes; what is to be lent the library says, see [`lent::sizes`].
 pub use ordinary::sizes;

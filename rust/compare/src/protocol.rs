@@ -11,6 +11,9 @@ use crate::lent::{
     Codec, ReadReply, ReaderMemory, ReaderPart, ReaderSizes, Settings, WriteReply, WriterMemory,
     WriterPart, WriterSizes,
 };
+use crate::readings::{
+    ListMemory, ListPart, ListSizes, Reading, ReadingsMemory, ReadingsReply, ReadingsSizes,
+};
 
 /// What is asked for. `short` names the part that is lent one less than its stated size.
 #[derive(Clone, Debug, PartialEq, Eq)]
@@ -25,6 +28,22 @@ pub enum Request {
         short: Option<WriterPart>,
         list: Stored,
     },
+    /// The readings of a list.
+    Readings {
+        short: Option<ReadingsPart>,
+        list: Stored,
+    },
+    /// The list of readings.
+    List {
+        short: Option<ListPart>,
+        readings: Vec<Reading>,
+    },
+}
+
+/// What is lent where readings are taken out: stamps, and as many movements.
+#[derive(Clone, Copy, Debug, PartialEq, Eq)]
+pub enum ReadingsPart {
+    Readings,
 }
 
 const KINDS: [(&str, u32); 8] = [
@@ -46,6 +65,10 @@ const READER_PARTS: [(&str, ReaderPart); 3] = [
 
 const WRITER_PARTS: [(&str, WriterPart); 2] =
     [("octets", WriterPart::Octets), ("work", WriterPart::Work)];
+
+const READINGS_PARTS: [(&str, ReadingsPart); 1] = [("readings", ReadingsPart::Readings)];
+
+const LIST_PARTS: [(&str, ListPart); 2] = [("events", ListPart::Events), ("text", ListPart::Text)];
 
 /// The words for settings, for the last six of their numbers, in their order; and whether the word
 /// has a bound, which is one more in the number.
@@ -82,34 +105,45 @@ impl Request {
         }
     }
 
+    /// For the readings of a list, with the usual memory.
+    pub fn readings(list: &Stored) -> Request {
+        Request::Readings {
+            short: None,
+            list: list.clone(),
+        }
+    }
+
+    /// For the list of readings, with the usual memory.
+    pub fn list(readings: &[Reading]) -> Request {
+        Request::List {
+            short: None,
+            readings: readings.to_vec(),
+        }
+    }
+
     /// A request line without its line end; or why it can't be understood.
     pub fn parse(line: &str) -> Result<Request, String> {
         let mut words = Words::new(line);
-        let letter = words.next().unwrap_or("");
-        let rest = match letter {
-            "r" => 1,
-            "w" => 2,
-            other => return Err(format!("neither r nor w: {other:?}")),
-        };
-        let settings = words.settings()?;
-        let short = words.named("short");
-        if words.left() != rest {
-            return Err(words.not_so_many(rest));
-        }
-        if letter == "r" {
-            return Ok(Request::Read {
-                settings,
-                short: part(short, &READER_PARTS)?,
+        Ok(match words.next().unwrap_or("") {
+            "r" => Request::Read {
+                settings: words.settings()?,
+                short: part(words.short(1)?, &READER_PARTS)?,
                 stream: parse_octets(words.next().unwrap_or(""))?,
-            });
-        }
-        Ok(Request::Write {
-            settings,
-            short: part(short, &WRITER_PARTS)?,
-            list: Stored {
-                cells: parse_events(words.next().unwrap_or(""))?,
-                store: parse_store(words.next().unwrap_or(""))?,
             },
+            "w" => Request::Write {
+                settings: words.settings()?,
+                short: part(words.short(2)?, &WRITER_PARTS)?,
+                list: words.list()?,
+            },
+            "m" => Request::Readings {
+                short: part(words.short(2)?, &READINGS_PARTS)?,
+                list: words.list()?,
+            },
+            "l" => Request::List {
+                short: part(words.short(1)?, &LIST_PARTS)?,
+                readings: parse_readings(words.next().unwrap_or(""))?,
+            },
+            other => return Err(format!("none of r, w, m and l: {other:?}")),
         })
     }
 }
@@ -158,6 +192,23 @@ impl<'a> Words<'a> {
             }
         }
         Ok(Settings::from_numbers(numbers))
+    }
+
+    /// What stands behind `short=`, if it is there; so many words have to follow.
+    fn short(&mut self, rest: usize) -> Result<Option<&'a str>, String> {
+        let short = self.named("short");
+        if self.left() != rest {
+            return Err(self.not_so_many(rest));
+        }
+        Ok(short)
+    }
+
+    /// Events and their store.
+    fn list(&mut self) -> Result<Stored, String> {
+        Ok(Stored {
+            cells: parse_events(self.next().unwrap_or(""))?,
+            store: parse_store(self.next().unwrap_or(""))?,
+        })
     }
 
     /// Why the line can't be understood, where this many words should be left.
@@ -223,9 +274,17 @@ impl fmt::Display for Request {
                 line.push_str("w ");
                 print_settings(&mut line, *settings);
                 print_short(&mut line, *short, &WRITER_PARTS);
-                print_events(&mut line, &list.cells);
-                line.push(' ');
-                print_store(&mut line, &list.store);
+                print_list(&mut line, list);
+            }
+            Request::Readings { short, list } => {
+                line.push_str("m ");
+                print_short(&mut line, *short, &READINGS_PARTS);
+                print_list(&mut line, list);
+            }
+            Request::List { short, readings } => {
+                line.push_str("l ");
+                print_short(&mut line, *short, &LIST_PARTS);
+                print_readings(&mut line, readings);
             }
         }
         f.write_str(&line)
@@ -237,6 +296,8 @@ pub struct Asker {
     codec: Codec,
     reader: ReaderMemory,
     writer: WriterMemory,
+    readings: ReadingsMemory,
+    list: ListMemory,
 }
 
 impl Asker {
@@ -245,6 +306,8 @@ impl Asker {
             codec,
             reader: ReaderMemory::new(),
             writer: WriterMemory::new(),
+            readings: ReadingsMemory::new(),
+            list: ListMemory::new(),
         }
     }
 
@@ -267,7 +330,8 @@ impl Asker {
                 let reply = self.reader.read_with(sizes, |events, text, work| {
                     self.codec.read(*settings, stream, events, text, work)
                 });
-                print_read(&reply, &self.reader)
+                let (events, text) = (self.reader.events(&reply), self.reader.text(&reply));
+                print_read(&reply, events, text, self.reader.fault(&reply))
             }
             Request::Write {
                 settings,
@@ -281,17 +345,51 @@ impl Asker {
                 });
                 print_write(&reply, &self.writer)
             }
+            Request::Readings { short, list } => {
+                let sizes = short.map_or_else(ReadingsSizes::usual, |_| ReadingsSizes::short());
+                let reply = self.readings.lend(sizes, |stamps, movements| {
+                    self.codec
+                        .readings_of_list(&list.cells, &list.store, stamps, movements)
+                });
+                print_taken(&reply, &self.readings)
+            }
+            Request::List { short, readings } => {
+                let (stamps, movements): (Vec<u64>, Vec<i32>) = readings.iter().copied().unzip();
+                let sizes = short.map_or_else(ListSizes::usual, ListSizes::short);
+                let reply = self.list.lend(sizes, |events, text| {
+                    self.codec
+                        .list_of_readings(&stamps, &movements, events, text)
+                });
+                let (events, text) = (self.list.events(&reply), self.list.text(&reply));
+                print_read(&reply, events, text, self.list.fault(&reply))
+            }
         }
     }
 }
 
-fn print_read(reply: &ReadReply, memory: &ReaderMemory) -> String {
+/// The answer line of a list, with the cells and the store that its reply counts.
+fn print_read(
+    reply: &ReadReply,
+    events: Option<&[u32]>,
+    text: Option<&[u32]>,
+    fault: Option<&str>,
+) -> String {
     let mut line = format!("{} {} ", reply.number, reply.index);
-    let events = memory.events(reply).filter(|_| reply.number == 0);
-    let text = memory.text(reply).filter(|_| reply.number == 0);
+    let events = events.filter(|_| reply.number == 0);
+    let text = text.filter(|_| reply.number == 0);
     print_events(&mut line, events.unwrap_or(&[]));
     line.push(' ');
     print_store(&mut line, text.unwrap_or(&[]));
+    if fault.is_some() {
+        line.push_str(" DIRTY");
+    }
+    line
+}
+
+fn print_taken(reply: &ReadingsReply, memory: &ReadingsMemory) -> String {
+    let mut line = format!("{} {} ", reply.number, reply.index);
+    let readings = memory.readings(reply).filter(|_| reply.number == 0);
+    print_readings(&mut line, &readings.unwrap_or_default());
     if memory.fault(reply).is_some() {
         line.push_str(" DIRTY");
     }
@@ -345,6 +443,31 @@ fn parse_store(word: &str) -> Result<Vec<u32>, String> {
     word.split(',').map(code_point).collect()
 }
 
+/// A number that fits no cell, as a stamp below 0, has another in its place, also out of range.
+fn parse_readings(word: &str) -> Result<Vec<Reading>, String> {
+    if word == "-" {
+        return Ok(Vec::new());
+    }
+    let is_number = |number: &str| {
+        let digits = number.strip_prefix('-').unwrap_or(number);
+        !digits.is_empty() && digits.bytes().all(|b| b.is_ascii_digit())
+    };
+    let reading = |part: &str| {
+        let wrong = || format!("no reading: {part:?}");
+        let (stamp, movement) = part.split_once(':').ok_or_else(wrong)?;
+        if !is_number(stamp) || !is_number(movement) {
+            return Err(wrong());
+        }
+        let is_below_zero = movement.starts_with('-');
+        let far = if is_below_zero { i32::MIN } else { i32::MAX };
+        Ok((
+            stamp.parse().unwrap_or(u64::MAX),
+            movement.parse().unwrap_or(far),
+        ))
+    };
+    word.split(',').map(reading).collect()
+}
+
 fn parse_events(word: &str) -> Result<Vec<u32>, String> {
     let mut cells = Vec::new();
     if word == "-" {
@@ -365,8 +488,12 @@ fn parse_events(word: &str) -> Result<Vec<u32>, String> {
             return Err(format!("no kind: {kind:?}"));
         };
         let strings = strings_of(number).unwrap_or(&[]);
-        if numbers.len() != 2 * strings.len() {
+        if numbers.len() % 2 == 1 || numbers.len() > 2 * strings.len() {
             return Err(format!("not the strings of {kind}: {event:?}"));
+        }
+        if numbers.len() < 2 * strings.len() {
+            cells.extend(BAD); // a string is missing: no event
+            continue;
         }
         let mut event = [0; CELLS];
         event[0] = number;
@@ -396,6 +523,22 @@ fn print_store(line: &mut String, store: &[u32]) {
     for (k, code_point) in store.iter().enumerate() {
         let comma = if k == 0 { "" } else { "," };
         write!(line, "{comma}{code_point:x}").expect("a string takes all");
+    }
+}
+
+fn print_list(line: &mut String, list: &Stored) {
+    print_events(line, &list.cells);
+    line.push(' ');
+    print_store(line, &list.store);
+}
+
+fn print_readings(line: &mut String, readings: &[Reading]) {
+    if readings.is_empty() {
+        line.push('-');
+    }
+    for (k, (stamp, movement)) in readings.iter().enumerate() {
+        let comma = if k == 0 { "" } else { "," };
+        write!(line, "{comma}{stamp}:{movement}").expect("a string takes all");
     }
 }
 

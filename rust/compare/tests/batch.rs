@@ -29,6 +29,8 @@ const INITIAL: &str = "68,74,74,70,3a,2f,2f,77,77,77,2e,77,33,2e,6f,72,67,2f,58,
 70,61,63,65,68,74,74,70,3a,2f,2f,77,77,77,2e,77,33,2e,6f,72,67,2f,32,30,30,31,2f,58,4d,4c,53,63,68,65,6d,61,2d,69,6e,73,74,\
 61,6e,63,65,62,61,73,65,69,64,6c,61,6e,67,73,70,61,63,65,6e,69,6c,74,79,70,65";
 
+const READINGS: &str = "72,65,61,64,69,6e,67,73";
+
 #[test]
 fn answers_in_order() {
     let requests = "r 1 0 0 0 8001026103036200\n\
@@ -48,7 +50,21 @@ fn answers_in_order() {
         r 1 0 0 0 short=events 8001026100\n\
         w 1 0 0 0 short=octets SD,SE:0:0:0:1,EE,ED 61\n\
         w 1 0 0 0 cap=7 short=work BAD -\n\
-        r 1 0 0 0 fragment=0 8001026104";
+        r 1 0 0 0 fragment=0 8001026104\n\
+        w 1 0 0 0 SD,SE:0:0,EE,ED 61\n\
+        m SD,SE:0:0:0:8,EE,ED 72,65,61,64,69,6e,67,73\n\
+        m - -\n\
+        m SD,BAD -\n\
+        m short=readings - -\n\
+        l -\n\
+        l 5097600000:-5\n\
+        l 0:0,0:0\n\
+        l 18446744073709551616:0\n\
+        l -1:0\n\
+        l 0:2147483648\n\
+        l 0:-99999999999\n\
+        l short=text -\n\
+        l short=events 9223372036854775807:20001";
     let expected = vec![
         format!("0 0 SD,SE:0:0:99:1,CH:100:1,EE,ED {INITIAL},61,62"),
         "6 2 - -".to_string(),
@@ -68,6 +84,24 @@ fn answers_in_order() {
         "1 0 -".to_string(),
         "1 0 -".to_string(),
         "6 2 - -".to_string(),
+        "14 1 -".to_string(),
+        "0 0 -".to_string(),
+        "16 0 -".to_string(),
+        "16 0 -".to_string(),
+        "1 0 -".to_string(),
+        format!("0 0 SD,SE:0:0:99:8,EE,ED {INITIAL},{READINGS}"),
+        format!(
+            "0 0 SD,SE:0:0:99:8,SE:0:0:107:1,AT:0:0:108:1:109:24,AT:0:0:133:2:135:2,EE,EE,ED \
+             {INITIAL},{READINGS},72,74,32,30,30,30,2d,30,32,2d,32,39,54,30,30,3a,30,30,3a,30,30,\
+             2e,30,30,30,5a,75,6d,2d,35"
+        ),
+        "19 1 - -".to_string(),
+        "17 0 - -".to_string(),
+        "17 0 - -".to_string(),
+        "18 0 - -".to_string(),
+        "18 0 - -".to_string(),
+        "1 0 - -".to_string(),
+        "1 0 - -".to_string(),
     ];
     for arguments in [&[][..], &["--ordinary"]] {
         let got = answers(arguments, requests.as_bytes());
@@ -191,6 +225,31 @@ fn requests_that_are_not_understood() {
         "w 1 0 0 0 SD,ED 100000000",
         "w 1 0 0 0 SD,ED xyz",
         "R 1 0 0 0 80",
+        "m",
+        "m SD",
+        "m SD ",
+        "m 1 0 0 0 SD 61",
+        "m SD 61 61",
+        "m short=stamps SD 61",
+        "m short=events SD 61",
+        "m fragment=1 SD 61",
+        "l",
+        "l ",
+        "l 0",
+        "l 0:",
+        "l :0",
+        "l 0:0,",
+        "l 0:0:0",
+        "l +1:0",
+        "l --1:0",
+        "l 0:+1",
+        "l 0:--1",
+        "l 0:-",
+        "l 0:1.0",
+        "l 0:0 0:0",
+        "l short=readings 0:0",
+        "l short=work 0:0",
+        "l prefixes=1 0:0",
     ];
     let got = answers(&[], (requests.join("\n") + "\n").as_bytes());
     assert_eq!(got.len(), requests.len());

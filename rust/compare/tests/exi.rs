@@ -3,6 +3,7 @@
 
 #![forbid(unsafe_code)]
 
+use std::fs;
 use std::io::Write;
 use std::path::{Path, PathBuf};
 use std::process::{Command, Stdio};
@@ -11,11 +12,17 @@ fn root() -> PathBuf {
     Path::new(env!("CARGO_MANIFEST_DIR")).join("../..")
 }
 
-/// Status, standard output and standard error of `exi` with these words, separated by spaces.
+/// Status, standard output and standard error of `exi` with these words, separated by spaces, in
+/// the folder of samples.
 fn exi(words: &str, input: &[u8]) -> (Option<i32>, String, String) {
+    let words: Vec<&str> = words.split(' ').filter(|word| !word.is_empty()).collect();
+    exi_in(&root().join("samples"), &words, input)
+}
+
+fn exi_in(folder: &Path, words: &[&str], input: &[u8]) -> (Option<i32>, String, String) {
     let mut child = Command::new(root().join("exi"))
-        .args(words.split(' ').filter(|word| !word.is_empty()))
-        .current_dir(root().join("samples"))
+        .args(words)
+        .current_dir(folder)
         .stdin(Stdio::piped())
         .stdout(Stdio::piped())
         .stderr(Stdio::piped())
@@ -106,4 +113,174 @@ fn settings_without_a_meaning_have_no_words() {
     let (status, _, stderr) = exi("check --bit-packed --byte-aligned -", b"");
     assert!(stderr.contains("exclude each other"), "{stderr}");
     assert_eq!(status, Some(2));
+}
+
+// ---- readings
+
+fn sample(name: &str) -> Vec<u8> {
+    fs::read(root().join("samples").join(name)).expect(name)
+}
+
+/// A folder of its own for what a test writes, empty.
+fn folder(test: &str) -> PathBuf {
+    let folder = Path::new(env!("CARGO_TARGET_TMPDIR")).join(test);
+    let _ = fs::remove_dir_all(&folder);
+    fs::create_dir_all(&folder).expect("a folder");
+    folder
+}
+
+const DAYS: [(&str, &str, &str); 3] = [
+    ("--bit-packed", "day-bit-packed.exi", "day.csv"),
+    ("--byte-aligned", "day-byte-aligned.exi", "day.csv"),
+    ("--bit-packed", "day-with-gap.exi", "day-with-gap.csv"),
+];
+
+#[test]
+fn readings_of_the_sample_days() {
+    for (flag, stream, table) in DAYS {
+        let (status, stdout, stderr) = exi(&format!("readings {flag} {stream}"), b"");
+        assert_eq!((status, stderr.as_str()), (Some(0), ""), "{stream}");
+        assert!(stdout.as_bytes() == sample(table), "{stream}");
+        let (_, from_input, _) = exi(&format!("readings - {flag}"), &sample(stream));
+        assert!(from_input == stdout, "{stream}");
+    }
+}
+
+/// What is made of a table is the sample's stream, octet for octet.
+#[test]
+fn streams_of_the_sample_days() {
+    let folder = folder("streams");
+    for (flag, stream, table) in DAYS {
+        let table = root().join("samples").join(table);
+        let words = ["write-readings", flag, table.to_str().unwrap(), "made.exi"];
+        let (status, _, stderr) = exi_in(&folder, &words, b"");
+        assert_eq!((status, stderr.as_str()), (Some(0), ""), "{stream}");
+        assert!(
+            fs::read(folder.join("made.exi")).unwrap() == sample(stream),
+            "{stream}"
+        );
+    }
+}
+
+/// Every reading of a day of 500 goes round.
+#[test]
+fn a_day_of_500() {
+    let folder = folder("500");
+    let (_, table, _) = exi("readings day-of-500.exi", b"");
+    assert_eq!(table.lines().count(), 501);
+    fs::write(folder.join("500.csv"), table).unwrap();
+    let words = ["write-readings", "500.csv", "500.exi"];
+    assert_eq!(exi_in(&folder, &words, b"").0, Some(0));
+    assert!(fs::read(folder.join("500.exi")).unwrap() == sample("day-of-500.exi"));
+}
+
+#[test]
+fn streams_that_have_no_readings() {
+    refused("readings refused-tail.exi", b"", "13 TAIL, event 196: ");
+    let (status, stdout, stderr) = exi("readings -", b"\x80\x40\x98\x40"); // <a/>
+    assert!(stderr.starts_with("exi: refused: 16 "), "{stderr}");
+    assert_eq!((status, stdout.as_str()), (Some(1), ""));
+}
+
+/// Tables with a bad line: it is told by its number, and nothing is written.
+#[test]
+fn tables_that_are_refused() {
+    let folder = folder("tables");
+    let good = "2026-03-01T00:00:00.000Z,1";
+    for (lines, line, status) in [
+        (vec!["t,um", "2026-02-29T00:00:00.000Z,1"], 2, 1),
+        (vec!["t,um", good, "2026-03-01T00:00:00.000Z,2"], 3, 1),
+        (vec!["t,um", good, "2026-03-01T00:30:00.000Z,20001"], 3, 1),
+        (vec!["t,um", good, "2026-03-01T00:30:00.000Z"], 3, 2),
+    ] {
+        fs::write(folder.join("bad.csv"), lines.join("\n") + "\n").unwrap();
+        let words = ["write-readings", "bad.csv", "bad.exi"];
+        let (got, stdout, stderr) = exi_in(&folder, &words, b"");
+        assert!(
+            stderr.contains(&format!("line {line}")),
+            "{lines:?}: {stderr}"
+        );
+        assert_eq!((got, stdout.as_str()), (Some(status), ""), "{lines:?}");
+        assert!(!folder.join("bad.exi").exists(), "{lines:?}");
+    }
+}
+
+/// The pictures of the documents are those of the samples.
+#[test]
+fn plots() {
+    let document = |name: &str| fs::read(root().join("docs").join(name)).expect(name);
+    for (words, kept) in [
+        ("plot day-bit-packed.exi -", "day.svg"),
+        ("plot day-with-gap.exi --bit-packed -", "day-with-gap.svg"),
+    ] {
+        let (status, stdout, stderr) = exi(words, b"");
+        assert_eq!((status, stderr.as_str()), (Some(0), ""), "{words}");
+        assert!(stdout.as_bytes() == document(kept), "{words}");
+    }
+
+    // Without a name of its own the picture has the stream's, in the current folder.
+    let folder = folder("plots");
+    let day = root().join("samples/day-byte-aligned.exi");
+    let day = day.to_str().unwrap();
+    let (status, stdout, stderr) = exi_in(&folder, &["plot", "--byte-aligned", day], b"");
+    assert_eq!((status, stderr.as_str()), (Some(0), ""));
+    assert_eq!(stdout, "plotted: 48 readings, day-byte-aligned.svg\n");
+    let made = fs::read_to_string(folder.join("day-byte-aligned.svg")).unwrap();
+    assert_eq!(made.matches("<circle ").count(), 48);
+    for said in [
+        "Movement (µm)",
+        "Date and time (UTC)",
+        "day-byte-aligned.exi",
+    ] {
+        assert!(made.contains(&format!("{said}</text>")), "{said}");
+    }
+    let words = ["plot", "-", "a name.svg"];
+    let (status, _, _) = exi_in(&folder, &words, &sample("day-with-gap.exi"));
+    let made = fs::read_to_string(folder.join("a name.svg")).unwrap();
+    assert_eq!((status, made.matches("<circle ").count()), (Some(0), 37));
+    assert!(made.contains("standard input</text>"));
+}
+
+#[test]
+fn plots_that_are_not_made() {
+    let folder = folder("no-plots");
+    let sample = |name: &str| {
+        root()
+            .join("samples")
+            .join(name)
+            .to_str()
+            .unwrap()
+            .to_string()
+    };
+    let (day, tail) = (sample("day-bit-packed.exi"), sample("refused-tail.exi"));
+    for (words, status, says) in [
+        (vec!["plot"], 2, "exi: no FILE is named"),
+        (
+            vec!["plot", &day, "a.exi"],
+            2,
+            "exi: the picture's name has to end in .svg",
+        ),
+        (
+            vec!["plot", &day, "a.svg", "b.svg"],
+            2,
+            "exi: a FILE and an OUT are enough",
+        ),
+        (
+            vec!["plot", &day, "no folder/a.svg"],
+            2,
+            "plot: cannot write ",
+        ),
+        (vec!["plot", "no file"], 2, "exi: cannot read "),
+        (vec!["plot", &day, "--loose"], 2, "exi: word "),
+        (vec!["plot", &tail], 1, "exi: refused: 13 TAIL, event 196: "),
+        (vec!["plot", &day, "--byte-aligned"], 1, "exi: refused: "),
+    ] {
+        let (got, stdout, stderr) = exi_in(&folder, &words, b"");
+        assert!(stderr.starts_with(says), "{words:?}: {stderr}");
+        assert_eq!((got, stdout.as_str()), (Some(status), ""), "{words:?}");
+    }
+    assert_eq!(fs::read_dir(&folder).unwrap().count(), 0);
+    let (status, stdout, _) = exi_in(&folder, &["plot", "--help"], b"");
+    assert!(stdout.contains("exi plot [FLAG..] FILE [OUT.svg]"));
+    assert_eq!(status, Some(0));
 }

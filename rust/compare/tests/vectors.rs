@@ -15,12 +15,14 @@ const CROSS: &str = include_str!("../vectors/cross.txt");
 const P2_BASE: &str = include_str!("../vectors/p2-base.txt");
 const P2_EDGES: &str = include_str!("../vectors/p2-edges.txt");
 const P2_RANDOM: &str = include_str!("../vectors/p2-random.txt");
+const P12_EDGES: &str = include_str!("../vectors/p12-edges.txt");
+const P12_RANDOM: &str = include_str!("../vectors/p12-random.txt");
 
 /// Lines of the base whose answers changed, in the order of landing: the last that has a line holds.
 const CHANGED: [&str; 1] = [P2_BASE];
 
 /// The requests of document 02 that have landed, by their numbers. Each landing adds its own.
-const LANDED: [u32; 1] = [2];
+const LANDED: [u32; 2] = [2, 12];
 
 /// The lines of a file, each as a request and its answer.
 fn lines(file: &str) -> impl Iterator<Item = (&str, &str)> {
@@ -76,6 +78,13 @@ fn longer_strings_and_more_values() {
     run(lines(P2_RANDOM), 472);
 }
 
+/// P12: readings of lists, and lists of readings.
+#[test]
+fn readings() {
+    run(lines(P12_EDGES), 249);
+    run(lines(P12_RANDOM), 600);
+}
+
 /// ROOM and SETTINGS of the base.
 #[test]
 fn too_little_memory_and_settings_without_a_meaning() {
@@ -124,20 +133,26 @@ fn understood() -> impl Iterator<Item = &'static str> {
     requests.filter(|request| Request::parse(request).is_ok())
 }
 
+const MOST: &str = "18446744073709551615";
+
 #[test]
 fn requests_are_printed_as_they_stand() {
-    let files = [EDGES, RANDOM, ROOM, P2_EDGES, P2_RANDOM];
+    let files = [
+        EDGES, RANDOM, ROOM, P2_EDGES, P2_RANDOM, P12_EDGES, P12_RANDOM,
+    ];
     let all = files.into_iter().flat_map(lines);
     let mut printed = 0;
     for request in all.map(|(request, _)| request).chain(understood()) {
-        // A number over 32 bits has another in its place.
-        if !request.contains("18446744073709551615") {
-            let parsed = Request::parse(request).map(|request| request.to_string());
-            assert_eq!(parsed.as_deref(), Ok(request));
+        // What fits no cell has another in its place: a number over 32 bits, a stamp below 0, an
+        // event that lacks a string.
+        let parsed = Request::parse(request).expect(request).to_string();
+        let is_other = |word| parsed.contains(word) && !request.contains(word);
+        if !parsed.contains(MOST) && !request.contains(MOST) && !is_other("BAD") {
+            assert_eq!(parsed, request);
             printed += 1;
         }
     }
-    assert_eq!(printed, 2_973);
+    assert_eq!(printed, 3_807);
 }
 
 /// What a setting asks for that has not landed is SETTINGS before anything else; but ROOM comes

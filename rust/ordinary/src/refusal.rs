@@ -1,4 +1,4 @@
-/// Why a stream or a list is refused, with the numbers of the scope.
+/// Why a stream, a list or readings are refused, with the numbers of the scope.
 #[derive(Clone, Copy, Debug, PartialEq, Eq)]
 #[repr(u32)]
 pub enum Refusal {
@@ -32,6 +32,14 @@ pub enum Refusal {
     Shape = 14,
     /// A string passes the end of the text store.
     Place = 15,
+    /// A list is not one of readings.
+    Structure = 16,
+    /// A stamp is none, or names no day or time.
+    BadStamp = 17,
+    /// A movement is none, or too large.
+    BadMovement = 18,
+    /// A stamp is not later than the one before.
+    NotLater = 19,
 }
 
 impl Refusal {

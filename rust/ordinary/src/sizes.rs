@@ -21,5 +21,8 @@ pub const MAX_STRING: usize = 4_096;
 /// Code points in the text store.
 pub const MAX_STORE: usize = 16_384;
 
+/// Readings in a list: a stamp each, and a movement.
+pub const MAX_READINGS: usize = 678;
+
 /// Cells of one event: its kind, then four pairs, each the place and the length of a string.
 pub const CELLS_PER_EVENT: usize = 9;

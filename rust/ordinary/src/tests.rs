@@ -3,6 +3,8 @@ use crate::sizes::{
 };
 use crate::{read, write, ReadReply, Refusal, Settings, WriteReply};
 
+mod readings;
+
 /// Work memory that is asked for.
 const WORK: usize = 100;
 

@@ -6,7 +6,7 @@
 //! all of it: their pointers are aligned and never null, and while a `&mut` slice is borrowed no
 //! other slice overlaps it. Any contents, lengths and numbers are allowed.
 
-use crate::lent::{ReadReply, SettingNumbers, Sizes, WriteReply};
+use crate::lent::{ListReply, ReadReply, ReadingsReply, SettingNumbers, Sizes, WriteReply};
 
 /// A refusal's name: ASCII, padded with zeros.
 #[repr(C)]
@@ -34,6 +34,60 @@ extern "C" {
         events: *const u32,
         event_cells: usize,
         text: *const u32,
+        text_cells: usize,
+        work: *mut u32,
+        work_cells: usize,
+    ) -> WriteReply;
+
+    fn plumethrift_readings_of_list(
+        events: *const u32,
+        event_cells: usize,
+        text: *const u32,
+        text_cells: usize,
+        stamps: *mut u64,
+        stamp_cells: usize,
+        movements: *mut i32,
+        movement_cells: usize,
+    ) -> ReadingsReply;
+
+    fn plumethrift_list_of_readings(
+        stamps: *const u64,
+        stamp_cells: usize,
+        movements: *const i32,
+        movement_cells: usize,
+        events: *mut u32,
+        event_cells: usize,
+        text: *mut u32,
+        text_cells: usize,
+    ) -> ListReply;
+
+    fn plumethrift_read_readings(
+        settings: SettingNumbers,
+        stream: *const u8,
+        stream_octets: usize,
+        stamps: *mut u64,
+        stamp_cells: usize,
+        movements: *mut i32,
+        movement_cells: usize,
+        events: *mut u32,
+        event_cells: usize,
+        text: *mut u32,
+        text_cells: usize,
+        work: *mut u32,
+        work_cells: usize,
+    ) -> ReadingsReply;
+
+    fn plumethrift_write_readings(
+        settings: SettingNumbers,
+        stream: *mut u8,
+        stream_octets: usize,
+        stamps: *const u64,
+        stamp_cells: usize,
+        movements: *const i32,
+        movement_cells: usize,
+        events: *mut u32,
+        event_cells: usize,
+        text: *mut u32,
         text_cells: usize,
         work: *mut u32,
         work_cells: usize,
@@ -84,6 +138,106 @@ pub(crate) fn write(
             events.as_ptr(),
             events.len(),
             text.as_ptr(),
+            text.len(),
+            work.as_mut_ptr(),
+            work.len(),
+        )
+    }
+}
+
+pub(crate) fn readings_of_list(
+    events: &[u32],
+    text: &[u32],
+    stamps: &mut [u64],
+    movements: &mut [i32],
+) -> ReadingsReply {
+    // SAFETY: as in `write`.
+    unsafe {
+        plumethrift_readings_of_list(
+            events.as_ptr(),
+            events.len(),
+            text.as_ptr(),
+            text.len(),
+            stamps.as_mut_ptr(),
+            stamps.len(),
+            movements.as_mut_ptr(),
+            movements.len(),
+        )
+    }
+}
+
+pub(crate) fn list_of_readings(
+    stamps: &[u64],
+    movements: &[i32],
+    events: &mut [u32],
+    text: &mut [u32],
+) -> ListReply {
+    // SAFETY: as in `read`.
+    unsafe {
+        plumethrift_list_of_readings(
+            stamps.as_ptr(),
+            stamps.len(),
+            movements.as_ptr(),
+            movements.len(),
+            events.as_mut_ptr(),
+            events.len(),
+            text.as_mut_ptr(),
+            text.len(),
+        )
+    }
+}
+
+pub(crate) fn read_readings(
+    settings: SettingNumbers,
+    stream: &[u8],
+    stamps: &mut [u64],
+    movements: &mut [i32],
+    events: &mut [u32],
+    text: &mut [u32],
+    work: &mut [u32],
+) -> ReadingsReply {
+    // SAFETY: as in `read`.
+    unsafe {
+        plumethrift_read_readings(
+            settings,
+            stream.as_ptr(),
+            stream.len(),
+            stamps.as_mut_ptr(),
+            stamps.len(),
+            movements.as_mut_ptr(),
+            movements.len(),
+            events.as_mut_ptr(),
+            events.len(),
+            text.as_mut_ptr(),
+            text.len(),
+            work.as_mut_ptr(),
+            work.len(),
+        )
+    }
+}
+
+pub(crate) fn write_readings(
+    settings: SettingNumbers,
+    octets: &mut [u8],
+    stamps: &[u64],
+    movements: &[i32],
+    events: &mut [u32],
+    text: &mut [u32],
+    work: &mut [u32],
+) -> WriteReply {
+    // SAFETY: as in `read`.
+    unsafe {
+        plumethrift_write_readings(
+            settings,
+            octets.as_mut_ptr(),
+            octets.len(),
+            stamps.as_ptr(),
+            stamps.len(),
+            movements.as_ptr(),
+            movements.len(),
+            events.as_mut_ptr(),
+            events.len(),
+            text.as_mut_ptr(),
             text.len(),
             work.as_mut_ptr(),
             work.len(),

@@ -1,4 +1,4 @@
-//! The two calls over memory that the caller lends.
+//! The calls over memory that the caller lends.
 //!
 //! Settings and answers are the numbers that cross the boundary, and nothing is allocated. Slices
 //! of any length and any contents are safe: a slice that is too short is refused as ROOM, a
@@ -48,6 +48,16 @@ pub const READER_WORK_CELLS: usize = 18_432;
 
 /// Work memory to lend to the writer, at least, in cells.
 pub const WRITER_WORK_CELLS: usize = 34_816;
+
+/// Stamps, and as many movements, to lend where readings are taken out, at least; also the most
+/// readings that there are in one list.
+pub const MAX_READINGS: usize = 678;
+
+/// The last stamp of a reading, that of 2099-12-31T23:59:59.999Z.
+pub const LAST_STAMP: u64 = 3_155_759_999_999;
+
+/// The largest movement of a reading, either way.
+pub const MAX_MOVEMENT: i32 = 20_000;
 
 /// Settings of a stream, as numbers. A number other than those named is refused as SETTINGS.
 ///
@@ -99,10 +109,36 @@ pub struct ReadReply {
 pub struct WriteReply {
     /// 0, or the number of a [`Refusal`](crate::Refusal).
     pub number: u32,
-    /// The event concerned by a refusal; 0 on success.
+    /// The event, or the reading, concerned by a refusal; 0 on success.
     pub index: u32,
     /// Octets written.
     pub octets: u32,
+}
+
+/// The answer where readings are taken out of a list or a stream.
+#[repr(C)]
+#[derive(Clone, Copy, Debug, PartialEq, Eq, Default)]
+pub struct ReadingsReply {
+    /// 0, or the number of a [`Refusal`](crate::Refusal).
+    pub number: u32,
+    /// The reading, or the stream's event, concerned by a refusal; 0 on success.
+    pub index: u32,
+    /// Readings written.
+    pub readings: u32,
+}
+
+/// The answer where readings are made into a list.
+#[repr(C)]
+#[derive(Clone, Copy, Debug, PartialEq, Eq, Default)]
+pub struct ListReply {
+    /// 0, or the number of a [`Refusal`](crate::Refusal).
+    pub number: u32,
+    /// The reading concerned by a refusal; 0 on success.
+    pub index: u32,
+    /// Events written.
+    pub events: u32,
+    /// Code points written to the text store.
+    pub code_points: u32,
 }
 
 /// The sizes to lend, as the library answers them.
@@ -150,6 +186,67 @@ pub fn write(
     boundary::write(s, octets, events, text, work)
 }
 
+/// Takes the readings out of the list that is all of `events`, with its strings in all of `text`.
+///
+/// The readings are the first `reply.readings` of `stamps` and `movements`, of which
+/// [`MAX_READINGS`] each are to be lent, at least.
+pub fn readings_of_list(
+    events: &[u32],
+    text: &[u32],
+    stamps: &mut [u64],
+    movements: &mut [i32],
+) -> ReadingsReply {
+    boundary::readings_of_list(events, text, stamps, movements)
+}
+
+/// Makes the list of readings, as many as both `stamps` and `movements` have.
+///
+/// The list is the first `9 * reply.events` of `events`, its text store the first
+/// `reply.code_points` of `text`, as the reader leaves it for the stream that is written of it.
+pub fn list_of_readings(
+    stamps: &[u64],
+    movements: &[i32],
+    events: &mut [u32],
+    text: &mut [u32],
+) -> ListReply {
+    boundary::list_of_readings(stamps, movements, events, text)
+}
+
+/// Reads a stream, and takes the readings out of its list.
+///
+/// Lent are [`MAX_READINGS`] of `stamps` and `movements`, at least, and `events`, `text` and `work`
+/// as to [`read`]; the list is left in `events` and `text` as that leaves it. ROOM of any part
+/// comes first, then what the reader refuses, its index counting events, then what is refused of
+/// the readings.
+pub fn read_readings(
+    s: SettingNumbers,
+    stream: &[u8],
+    stamps: &mut [u64],
+    movements: &mut [i32],
+    events: &mut [u32],
+    text: &mut [u32],
+    work: &mut [u32],
+) -> ReadingsReply {
+    boundary::read_readings(s, stream, stamps, movements, events, text, work)
+}
+
+/// Makes the list of readings, as many as both `stamps` and `movements` have, and writes it.
+///
+/// Lent are `events` and `text` as to [`list_of_readings`], where the list is left as by that, and
+/// `octets` and `work` as to [`write`]. ROOM of any part comes first, then what is refused of the
+/// readings, the index counting these, then what the writer refuses: SETTINGS or LONG.
+pub fn write_readings(
+    s: SettingNumbers,
+    octets: &mut [u8],
+    stamps: &[u64],
+    movements: &[i32],
+    events: &mut [u32],
+    text: &mut [u32],
+    work: &mut [u32],
+) -> WriteReply {
+    boundary::write_readings(s, octets, stamps, movements, events, text, work)
+}
+
 /// Asks the library for the sizes. They are this module's constants.
 pub fn sizes() -> Sizes {
     boundary::sizes()
@@ -158,7 +255,7 @@ pub fn sizes() -> Sizes {
 /// Asks the library for a refusal's name, in ASCII padded with zeros; all zeros for a number that
 /// is not 1 to 15.
 ///
-/// [`Refusal::name`](crate::Refusal::name) is the same as a string.
+/// [`Refusal::name`](crate::Refusal::name) is the same as a string, and has those of readings too.
 pub fn refusal_name(number: u32) -> [u8; 16] {
     boundary::refusal_name(number)
 }

@@ -49,9 +49,29 @@
 //! # Ok::<(), plumethrift::Refused>(())
 //! ```
 //!
+//! # Readings
+//!
+//! [`Readings`] are stamps in whole milliseconds and movements in micrometres, as trackers of
+//! bridge movements send them: out of a stream by [`Reader::read_readings`], into one by
+//! [`Writer::write_readings`], and from and to lists of events.
+//!
+//! ```
+//! use plumethrift::{Reader, Readings, Settings, Writer};
+//!
+//! let mut readings = Readings::new();
+//! readings.push(825_638_400_000, 3_700); // 2026-03-01T00:00:00.000Z, 3.7 mm
+//!
+//! let (mut reader, mut writer) = (Reader::new(), Writer::new());
+//! let stream = writer.write_readings(&Settings::default(), &readings)?;
+//! for reading in reader.read_readings(&Settings::default(), stream)?.iter() {
+//!     println!("{} ms: {} µm", reading.milliseconds, reading.micrometres);
+//! }
+//! # Ok::<(), plumethrift::Refused>(())
+//! ```
+//!
 //! # Memory of one's own
 //!
-//! Module [`lent`] has the two calls as they cross the boundary: over slices that the caller lends,
+//! Module [`lent`] has the calls as they cross the boundary: over slices that the caller lends,
 //! with settings and answers as numbers. Nothing is allocated there.
 //!
 //! # What is proved, and what is trusted
@@ -64,7 +84,7 @@
 //! in `rust/compare`, exercise them. What one has to trust beside the proofs is those declarations,
 //! the compilers, and that the archive which is linked is the one that was proved.
 //!
-//! Where an answer breaks what is proved of it (a refusal's number above 15, a kind of event that
+//! Where an answer breaks what is proved of it (a refusal's number above 19, a kind of event that
 //! does not exist), this crate panics. The proved library gives no such answer.
 
 #![deny(unsafe_code)]
@@ -77,6 +97,7 @@ mod event;
 pub mod lent;
 mod list;
 mod reader;
+mod readings;
 mod refusal;
 mod settings;
 mod text;
@@ -86,6 +107,7 @@ pub use document::{Document, Events};
 pub use event::Event;
 pub use list::EventList;
 pub use reader::Reader;
+pub use readings::{Reading, Readings};
 pub use refusal::{Refusal, Refused};
 pub use settings::{Alignment, Settings};
 pub use text::Text;

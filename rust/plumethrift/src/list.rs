@@ -39,7 +39,7 @@ const NO_PREFIX: [u32; 2] = [0, 0];
 /// together.
 #[derive(Clone, Default)]
 pub struct EventList {
-    /// Whole events: only `add` and a copy of a document write here.
+    /// Whole events: only `add` writes here, a copy of a document does, and the proved library.
     cells: Vec<u32>,
     store: Vec<u32>,
 }
@@ -51,6 +51,11 @@ impl EventList {
             cells: Vec::new(),
             store: Vec::new(),
         }
+    }
+
+    /// The list that the proved library has laid down in these cells and this store.
+    pub(crate) fn from_parts(cells: Vec<u32>, store: Vec<u32>) -> Self {
+        EventList { cells, store }
     }
 
     /// Adds a start document.

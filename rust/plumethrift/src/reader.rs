@@ -2,10 +2,11 @@ use std::fmt;
 
 use crate::document::Document;
 use crate::lent::{self, CELLS_PER_EVENT, EVENT_CELLS, READER_WORK_CELLS, TEXT_CELLS};
+use crate::readings::Readings;
 use crate::refusal::{judge, Refused};
 use crate::settings::Settings;
 
-/// Reads streams, in memory of its own: 224 KiB, allocated once and used for each stream.
+/// Reads streams, in memory of its own: 280 KiB, allocated once and used for each stream.
 ///
 /// ```
 /// use plumethrift::{Reader, Refusal, Settings};
@@ -51,6 +52,40 @@ impl Reader {
         let cells = &self.events[..CELLS_PER_EVENT * reply.events as usize];
         let store = &self.text[..reply.code_points as usize];
         Ok(Document::new(cells, store))
+    }
+
+    /// Reads a stream, and takes the [readings](Readings) out of its list.
+    ///
+    /// ```
+    /// use plumethrift::{Reader, Readings, Refusal, Settings, Writer};
+    ///
+    /// let mut readings = Readings::new();
+    /// readings.push(825_638_400_000, 3_700).push(825_640_200_000, 4_750);
+    ///
+    /// let (mut reader, mut writer) = (Reader::new(), Writer::new());
+    /// let stream = writer.write_readings(&Settings::default(), &readings)?;
+    /// assert_eq!(reader.read_readings(&Settings::default(), stream)?, readings);
+    ///
+    /// let a = [0x80, 0x40, 0x98, 0x40]; // <a/>
+    /// let refused = reader.read_readings(&Settings::default(), &a).unwrap_err();
+    /// assert_eq!((refused.refusal, refused.index), (Refusal::Structure, 0));
+    /// # Ok::<(), plumethrift::Refused>(())
+    /// ```
+    ///
+    /// # Errors
+    ///
+    /// Refusals 2 to 13, as by [`read`](Reader::read), with the index of an event; then 16 to 19,
+    /// with that of a reading.
+    pub fn read_readings(
+        &mut self,
+        settings: &Settings,
+        stream: &[u8],
+    ) -> Result<Readings, Refused> {
+        let settings = settings.numbers();
+        let (events, text, work) = (&mut self.events, &mut self.text, &mut self.work);
+        Readings::taken(|stamps, movements| {
+            lent::read_readings(settings, stream, stamps, movements, events, text, work)
+        })
     }
 }
 

@@ -1,7 +1,7 @@
 use std::error::Error;
 use std::fmt;
 
-/// Why a stream or a list was refused. Later versions may have more refusals.
+/// Why a stream, a list or readings were refused. Later versions may have more refusals.
 #[derive(Clone, Copy, Debug, PartialEq, Eq, Hash)]
 #[non_exhaustive]
 #[repr(u32)]
@@ -44,6 +44,15 @@ pub enum Refusal {
     /// Writer: a string's place plus length passes the text store's length. An
     /// [`EventList`](crate::EventList) has no such string.
     Place = 15,
+    /// Readings: the list is not [one of readings](crate::Readings).
+    Structure = 16,
+    /// Readings: a stamp is none of the years 2000 to 2099, or there is no such day or time.
+    BadStamp = 17,
+    /// Readings: a movement is no whole number from -20,000 to 20,000, or is written with a plus, a
+    /// leading zero or a minus before 0.
+    BadMovement = 18,
+    /// Readings: a stamp is not later than the one before.
+    NotLater = 19,
 }
 
 impl Refusal {
@@ -64,9 +73,13 @@ impl Refusal {
         Refusal::Tail,
         Refusal::Shape,
         Refusal::Place,
+        Refusal::Structure,
+        Refusal::BadStamp,
+        Refusal::BadMovement,
+        Refusal::NotLater,
     ];
 
-    /// The refusal of a number; none for 0, which is success, and for any above 15.
+    /// The refusal of a number; none for 0, which is success, and for any above 19.
     ///
     /// ```
     /// use plumethrift::Refusal;
@@ -81,12 +94,12 @@ impl Refusal {
             .find(|refusal| refusal.number() == number)
     }
 
-    /// Its number, 1 to 15.
+    /// Its number, 1 to 19.
     pub const fn number(self) -> u32 {
         self as u32
     }
 
-    /// Its name in capitals, as the library has it.
+    /// Its name in capitals, as the C header has it.
     pub const fn name(self) -> &'static str {
         match self {
             Refusal::Room => "ROOM",
@@ -104,6 +117,10 @@ impl Refusal {
             Refusal::Tail => "TAIL",
             Refusal::Shape => "SHAPE",
             Refusal::Place => "PLACE",
+            Refusal::Structure => "STRUCTURE",
+            Refusal::BadStamp => "BAD_STAMP",
+            Refusal::BadMovement => "BAD_MOVEMENT",
+            Refusal::NotLater => "NOT_LATER",
         }
     }
 
@@ -133,6 +150,14 @@ impl Refusal {
                 "the kinds or the order of events break the rules of a well-formed list"
             }
             Refusal::Place => "a string lies outside the text store",
+            Refusal::Structure => "the list is not one of readings",
+            Refusal::BadStamp => {
+                "a stamp is none of the years 2000 to 2099, or there is no such day or time"
+            }
+            Refusal::BadMovement => {
+                "a movement is no whole number from -20000 to 20000, or not in its plain form"
+            }
+            Refusal::NotLater => "a stamp is not later than the one before",
         }
     }
 }
@@ -143,7 +168,7 @@ impl fmt::Display for Refusal {
     }
 }
 
-/// A refusal, and the event that it concerns.
+/// A refusal, and the event or the reading that it concerns.
 ///
 /// ```
 /// use plumethrift::{Reader, Refusal, Refused, Settings};
@@ -160,18 +185,25 @@ pub struct Refused {
     /// Why.
     pub refusal: Refusal,
     /// The number of events before the one concerned. It is 0 for refusals 1 to 4, and counts all
-    /// events for [`Refusal::Tail`].
+    /// events for [`Refusal::Tail`]. From [`Refusal::Structure`] on it is the number of readings
+    /// before; so it is for [`Refusal::Limit`] where readings are written, or taken from a list.
     pub index: u32,
 }
 
 impl fmt::Display for Refused {
     fn fmt(&self, f: &mut fmt::Formatter<'_>) -> fmt::Result {
         let Refused { refusal, index } = self;
+        let counted = match refusal {
+            Refusal::Limit => "index", // events or readings, by the call
+            _ if refusal.number() < Refusal::Structure.number() => "event",
+            _ => "reading",
+        };
         write!(
             f,
-            "refused: {} {} at event {}: {}",
+            "refused: {} {} at {} {}: {}",
             refusal.number(),
             refusal.name(),
+            counted,
             index,
             refusal.sentence()
         )
@@ -185,6 +217,6 @@ pub(crate) fn judge(number: u32, index: u32) -> Result<(), Refused> {
     if number == 0 {
         return Ok(());
     }
-    let refusal = Refusal::from_number(number).expect("the library's refusals are 1 to 15");
+    let refusal = Refusal::from_number(number).expect("the library's refusals are 1 to 19");
     Err(Refused { refusal, index })
 }

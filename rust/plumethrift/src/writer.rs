@@ -1,11 +1,13 @@
 use std::fmt;
 
-use crate::lent::{self, STREAM_OCTETS, WRITER_WORK_CELLS};
+use crate::lent::{self, EVENT_CELLS, STREAM_OCTETS, TEXT_CELLS, WRITER_WORK_CELLS};
 use crate::list::EventList;
+use crate::readings::Readings;
 use crate::refusal::{judge, Refused};
 use crate::settings::Settings;
 
-/// Writes lists, in memory of its own: 96 KiB, allocated once and used for each list.
+/// Writes lists, in memory of its own: 152 KiB, allocated once and used for each list. For
+/// readings it is 208 KiB more, allocated with the first.
 ///
 /// ```
 /// use plumethrift::{EventList, Refusal, Settings, Writer};
@@ -23,6 +25,9 @@ use crate::settings::Settings;
 pub struct Writer {
     octets: Box<[u8]>,
     work: Box<[u32]>,
+    /// For the list of readings; empty before the first.
+    events: Vec<u32>,
+    text: Vec<u32>,
 }
 
 impl Writer {
@@ -31,6 +36,8 @@ impl Writer {
         Writer {
             octets: vec![0; STREAM_OCTETS].into_boxed_slice(),
             work: vec![0; WRITER_WORK_CELLS].into_boxed_slice(),
+            events: Vec::new(),
+            text: Vec::new(),
         }
     }
 
@@ -45,6 +52,40 @@ impl Writer {
             &mut self.octets,
             list.cells(),
             list.store(),
+            &mut self.work,
+        );
+        judge(reply.number, reply.index)?;
+        Ok(&self.octets[..reply.octets as usize])
+    }
+
+    /// Writes the list of readings.
+    ///
+    /// ```
+    /// use plumethrift::{Readings, Refusal, Settings, Writer};
+    ///
+    /// let mut readings = Readings::new();
+    /// readings.push(825_638_400_000, 3_700).push(825_638_400_000, 4_750);
+    /// let refused = Writer::new().write_readings(&Settings::default(), &readings).unwrap_err();
+    /// assert_eq!((refused.refusal, refused.index), (Refusal::NotLater, 1));
+    /// ```
+    ///
+    /// # Errors
+    ///
+    /// Refusals 12 and 17 to 19, with the index of a reading; then 2 and 3.
+    pub fn write_readings(
+        &mut self,
+        settings: &Settings,
+        readings: &Readings,
+    ) -> Result<&[u8], Refused> {
+        self.events.resize(EVENT_CELLS, 0);
+        self.text.resize(TEXT_CELLS, 0);
+        let reply = lent::write_readings(
+            settings.numbers(),
+            &mut self.octets,
+            readings.stamps(),
+            readings.movements(),
+            &mut self.events,
+            &mut self.text,
             &mut self.work,
         );
         judge(reply.number, reply.index)?;

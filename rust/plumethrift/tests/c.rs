@@ -84,6 +84,48 @@ fn the_example_decodes() {
     }
 }
 
+#[test]
+fn the_example_prints_readings() {
+    let readings = program(&root().join("examples/readings.c"));
+    // The readings of samples/day.csv: every 30 minutes of one day.
+    let table = fs::read_to_string(root().join("samples/day.csv")).unwrap();
+    let mut expected = String::from("t,ms,um\n");
+    for (k, row) in table.lines().skip(1).enumerate() {
+        let (t, um) = row.split_once(',').expect("two columns");
+        let ms = 825_638_400_000 + 1_800_000 * k as u64;
+        expected += &format!("{t},{ms},{um}\n");
+    }
+    for (sample, word) in [
+        ("day-bit-packed.exi", None),
+        ("day-byte-aligned.exi", Some("--byte-aligned")),
+    ] {
+        let sample = root().join("samples").join(sample);
+        let output = run(Command::new(&readings).arg(sample).args(word), &[]);
+        assert_eq!(text(&output.stdout), expected);
+        assert_eq!(output.status.code(), Some(0));
+    }
+
+    for (sample, says) in [
+        ("refused-tail.exi", "refused: 13 at event 196\n"),
+        ("refused-header.exi", "refused: 4 at event 0\n"),
+    ] {
+        let output = run(
+            Command::new(&readings).arg(root().join("samples").join(sample)),
+            &[],
+        );
+        assert_eq!(text(&output.stderr), says);
+        assert_eq!(output.status.code(), Some(1));
+    }
+    let other = Path::new(env!("CARGO_TARGET_TMPDIR")).join("other.exi");
+    fs::write(&other, [0x80, 0x40, 0x98, 0x40]).unwrap(); // <a/>
+    let output = run(Command::new(&readings).arg(other), &[]);
+    assert_eq!(text(&output.stderr), "refused: 16 at reading 0\n");
+    for words in [&[][..], &["x", "--bit-packed"], &["no such file"]] {
+        let output = run(Command::new(&readings).args(words), &[]);
+        assert_eq!(output.status.code(), Some(2));
+    }
+}
+
 /// The program of README.md does what it says there.
 #[test]
 fn the_program_of_the_readme() {
@@ -112,6 +154,11 @@ fn bounds_and_settings() {
         "offsetof(plumethrift_settings, grammar_cap) == 9 * sizeof(uint32_t)",
         "PLUMETHRIFT_EVENT_CELLS == 4096 * PLUMETHRIFT_CELLS_PER_EVENT",
         "2 + 2 * PLUMETHRIFT_VALUE == PLUMETHRIFT_CELLS_PER_EVENT - 1",
+        "sizeof(plumethrift_readings_reply) == 3 * sizeof(uint32_t)",
+        "offsetof(plumethrift_readings_reply, readings) == 2 * sizeof(uint32_t)",
+        "sizeof(plumethrift_list_reply) == 4 * sizeof(uint32_t)",
+        "offsetof(plumethrift_list_reply, code_points) == 3 * sizeof(uint32_t)",
+        "PLUMETHRIFT_LAST_STAMP < INT64_MAX",
     ];
     let mut source = String::from("#include \"plumethrift.h\"\n");
     for fact in facts {
