@@ -84,8 +84,9 @@ bounds =
     -- values: K3, and K7, which has one value twice
     ∷ bound 5 0 "80 01 02 61 03 03 62 00" limit 2
     ∷ bound 5 0 "80 01 02 72 02 01 02 70 01 01 02 74 03 31 01 00 01 00 01 00 01 01 00 00 01" limit 3
-    -- element grammars: <a><b/></a> has two, K6 has one
+    -- element grammars: <a><b/></a> and <a><u:a/></a> have two, K6 has one
     ∷ bound 6 1 "80 01 02 61 02 01 02 62 00 00" limit 2
+    ∷ bound 6 1 "80 01 02 61 02 00 01 75 02 61 00 00" limit 2
     ∷ bound 6 0 "80 01 02 61 02 01 00 01 00 00" limit 1
     -- learned productions: K1, the end of its start tag
     ∷ bound 7 0 "80 01 02 61 00" limit 2

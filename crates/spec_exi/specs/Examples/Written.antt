@@ -5,7 +5,7 @@ use Rattle.spec_fields.specs.Refusal.{settings, character, name, limit, shape, 
 use Rattle.spec_fields.specs.Refusal.{refused, accepted}
 use Rattle.text.specs.Text.{Text, text}
 use Rattle.spec_exi.specs.Event.{startDocument, endDocument, endElement, startElement}
-use Rattle.spec_exi.specs.Event.{attribute, characters}
+use Rattle.spec_exi.specs.Event.{attribute, characters, instruction}
 use Rattle.spec_exi.specs.Settings.{SettingNumbers, settingsOf}
 use Rattle.spec_exi.specs.Sizes.{Sizes}
 use Rattle.spec_exi.specs.Writer.{Stored, writeList, write, WriteReply, writeReply}
@@ -63,8 +63,14 @@ writes =
     ∷ listed (some (startElement (inUri 0 1 9 9)) ∷ []) (0 ∷ []) (refused place 1)
     ∷ listed (some (startElement (named 0 1)) ∷ some (attribute (named 0 0) (at 9 9)) ∷ [])
     (text "a") (refused place 2)
-    -- An empty one inside: NAME.
+    -- An empty one inside: NAME. An empty target, too.
     ∷ listed (some (startElement (named 0 0)) ∷ []) [] (refused name 1)
+    ∷ record {
+      numbers = numbers (1 ∷ 0 ∷ 0 ∷ 1 ∷ []);
+      events = some startDocument ∷ some (instruction (at 0 0) (at 0 0)) ∷ [];
+      store = [];
+      answer = refused name 1;
+    }
     -- 4,097 code points that are no Chars: LIMIT. One: CHARACTER.
     ∷ listed (some (startElement (named 0 4097)) ∷ []) (replicate 4097 0) (refused limit 1)
     ∷ listed (some (startElement (named 0 1)) ∷ []) (0 ∷ []) (refused character 1) ∷ []
@@ -73,7 +79,8 @@ writes =
 unfoldable pub writeReplies : List WriteReply
 writeReplies =
     wrote 0 0 5 ∷ wrote 2 0 0 ∷ wrote 14 1 0 ∷ wrote 14 1 0 ∷ wrote 14 1 0 ∷ wrote 15 1 0
-    ∷ wrote 15 1 0 ∷ wrote 15 1 0 ∷ wrote 15 2 0 ∷ wrote 11 1 0 ∷ wrote 12 1 0 ∷ wrote 8 1 0 ∷ []
+    ∷ wrote 15 1 0 ∷ wrote 15 1 0 ∷ wrote 15 2 0 ∷ wrote 11 1 0 ∷ wrote 11 1 0 ∷ wrote 12 1 0
+    ∷ wrote 8 1 0 ∷ []
 
 -- ---- by small sizes: where a size is passed and another test fails, too, the first is answered
 
