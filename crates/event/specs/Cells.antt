@@ -21,12 +21,15 @@ use Rattle.event.specs.declared.Loaded.the-variants.{Whole, Shape}
 
 -- ---- the values of the code and those of the format, each way
 
+-- A string: a place and a length (scope, "What is bought").
 unfoldable pub asSpan : Part → Span
 asSpan p = record { place = p .place; size = p .size }
 
+-- A name of two strings.
 unfoldable pub asName : Part → Part → QName Span
 asName u n = record { uri = asSpan u; local = asSpan n }
 
+-- The event that a value of the code's enum is (scope, "What is bought": eight kinds).
 unfoldable pub meaning : declared.Event → Event Span
 meaning StartDocument = startDocument
 meaning EndDocument = endDocument
@@ -43,7 +46,8 @@ pub record Judged : Type 0 where
   pub number : ℕ
   pub event : Stored
 
--- Of each answer of `load`.
+-- Of each answer of `load`: this paper's number for each case of an enum (scope, "Which form each
+-- place takes").
 unfoldable pub judged : Loaded → Judged
 judged (Whole e) = record { number = 0; event = some (meaning e) }
 judged Shape = record { number = numberOf shape; event = none }
@@ -74,6 +78,7 @@ row k x y p v =
 unfoldable pub zeros : Span
 zeros = record { place = 0; size = 0 }
 
+-- An event's cells: its kind's number, and its strings in their places.
 unfoldable pub cellsOf : Event Span → List ℕ
 cellsOf startDocument = row 1 zeros zeros zeros zeros
 cellsOf endDocument = row 2 zeros zeros zeros zeros
@@ -90,6 +95,7 @@ rowCells r = row (r .0) (asSpan (r .1)) (asSpan (r .2)) (asSpan (r .3)) (asSpan 
 
 -- ---- what cells mean
 
+-- No data: place and length are 0.
 unfoldable pub isZeros : Span → Bool
 isZeros x = eqb (x .place) 0 && eqb (x .size) 0
 
@@ -120,7 +126,8 @@ unfoldable pub loadedFrom : List ℕ → Stored
 loadedFrom xs =
     ofRow (getD xs 0 0) (spanAt xs 1 2) (spanAt xs 3 4) (spanAt xs 5 6) (spanAt xs 7 8)
 
--- Cells as stored events, 9 each; fewer than 9 at the end are one that is SHAPE by itself.
+-- Cells as stored events, 9 each; fewer than 9 at the end are one that is SHAPE by itself (ours:
+-- docs/MEMORY.md).
 unfoldable pub eventsOf : List ℕ → List Stored
 eventsOf [] = []
 eventsOf (a ∷ []) = none ∷ []

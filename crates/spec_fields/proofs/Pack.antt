@@ -90,7 +90,7 @@ unfolding allZero
 zeros zero = tt
 zeros (suc n) = zeros n
 
--- What was packed unpacks to itself and padding.
+-- What was packed unpacks to itself and padding (scope, "Fields": zero pad bits to the octet).
 pub unpack-pack : (bs : Bits) → (z : Bits) × (unpack (pack bs) ≡ bs ++ z) × T (isPadding z)
 unfolding pack isPadding octetsFor
 unpack-pack bs =
