@@ -91,7 +91,7 @@ is-ended k e = rw e
 not-ended : (k : Refusal) → isEnded k ≡ false → k ≡ ended → ⊥
 not-ended k f e = let z : _≡_ {A = ℕ} 1 0 = ap (λ b. cond b 1 0) (sym (is-ended k e) ∙ f) in omega arith
 
--- What stands behind an event is refused, or accepted, where the whole is.
+-- What stands after an event is refused, or accepted, where the whole is.
 follow-refused : (e : Event Placed) (a : Answer Reading) (k : Refusal) (i : ℕ)
     → following e a ≡ refused k i
     → (j : ℕ) × (a ≡ refused k j) × (i ≡ suc j)

@@ -141,7 +141,7 @@ record Among (n : ℕ) (k : Refusal) (i : ℕ) : Type 0 where
 among : {n i j : ℕ} {k l : Refusal} → T (ofEvents k) → i ≤ n → (k ≡ l) × (i ≡ j) → Among n l j
 among t h (e, q) = record { by = subst (λ x. T (ofEvents x)) e t; index = omega arith }
 
--- What stands behind an event is refused where the whole is, one event earlier.
+-- What stands after an event is refused where the whole is, one event earlier.
 behind : (e : Event Placed) (a : Answer Reading) {n : ℕ} {k : Refusal} {i : ℕ}
     → ((j : ℕ) → a ≡ refused k j → Among n k j)
     → following e a ≡ refused k i → Among (suc n) k i

@@ -21,7 +21,7 @@ use Rattle.writer.specs.Write.{WriterLent, writerRoom, WritePost}
 abbrev pub zeros : ℕ → List ℕ
 zeros n = replicate n 0
 
--- n cells: these, and zeros behind them.
+-- n cells: these, and zeros after them.
 abbrev pub upTo : ℕ → List ℕ → List ℕ
 upTo n xs = xs ++ zeros (n - length xs)
 

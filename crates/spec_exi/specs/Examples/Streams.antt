@@ -40,7 +40,7 @@ mistakes =
     ∷ end ∷ begin "a" ∷ begin "b" ∷ end ∷ end ∷ begin "a" ∷ end ∷ begin "a" ∷ attr "k" "1" ∷ end
     ∷ begin "a" ∷ chars "x" ∷ end ∷ begin "a" ∷ begin "b" ∷ end ∷ end ∷ end ∷ []))
     -- <a><b/>x<b/><c/>x<b/></a>. The content of a learns CH, SE(b) and SE(c), and goes by the first
-    -- two; its EE stays of one part, behind them.
+    -- two; its EE stays of one part, after them.
     ∷ example inBits "80 40 98 64 09 88 C0 DE 22 01 64 09 8C 40 04 C0"
     (whole (begin "a" ∷ begin "b" ∷ end ∷ chars "x" ∷ begin "b" ∷ end ∷ begin "c" ∷ end ∷ chars "x"
     ∷ begin "b" ∷ end ∷ end ∷ []))
