@@ -21,12 +21,15 @@ use Rattle.event.specs.declared.Loaded.the-variants.{Whole, Shape}
 
 -- ---- the values of the code and those of the format, each way
 
+-- A string: a place and a length (scope, "What is bought").
 unfoldable pub asSpan : Part → Span
 asSpan p = record { place = p .place; size = p .size }
 
+-- A name of two strings.
 unfoldable pub asName : Part → Part → QName Span
 asName u n = record { uri = asSpan u; local = asSpan n }
 
+-- The event that a value of the code's enum is (scope, "What is bought": eight kinds).
 unfoldable pub meaning : declared.Event → Event Span
 meaning StartDocument = startDocument
 meaning EndDocument = endDocument
@@ -43,7 +46,8 @@ pub record Judged : Type 0 where
   pub number : ℕ
   pub event : Stored
 
--- Of each answer of `load`.
+-- Of each answer of `load`: this paper's number for each case of an enum (scope, "Which form each
+-- place takes").
 unfoldable pub judged : Loaded → Judged
 judged (Whole e) = record { number = 0; event = some (meaning e) }
 judged Shape = record { number = numberOf shape; event = none }
@@ -54,6 +58,32 @@ judgedAs none = record { number = numberOf shape; event = none }
 judgedAs (some e) = record { number = 0; event = some e }
 
 -- ---- an event in cells
+
+-- The kinds, in an event's first cell: src/lib.rt names them in full. None is 0, so that zero cells
+-- are no event.
+abbrev pub cellSD : ℕ
+cellSD = 1
+
+abbrev pub cellED : ℕ
+cellED = 2
+
+abbrev pub cellSE : ℕ
+cellSE = 3
+
+abbrev pub cellAT : ℕ
+cellAT = 4
+
+abbrev pub cellEE : ℕ
+cellEE = 5
+
+abbrev pub cellCH : ℕ
+cellCH = 6
+
+abbrev pub cellCM : ℕ
+cellCM = 7
+
+abbrev pub cellPI : ℕ
+cellPI = 8
 
 -- A row of the table: the kind, and four strings, each its place and its length: URI, local name,
 -- prefix and value, or what stands there for other kinds.
@@ -74,15 +104,16 @@ row k x y p v =
 unfoldable pub zeros : Span
 zeros = record { place = 0; size = 0 }
 
+-- An event's cells: its kind's number, and its strings in their places.
 unfoldable pub cellsOf : Event Span → List ℕ
-cellsOf startDocument = row 1 zeros zeros zeros zeros
-cellsOf endDocument = row 2 zeros zeros zeros zeros
-cellsOf (startElement q) = row 3 (q .uri) (q .local) zeros zeros
-cellsOf (attribute q v) = row 4 (q .uri) (q .local) zeros v
-cellsOf endElement = row 5 zeros zeros zeros zeros
-cellsOf (characters v) = row 6 v zeros zeros zeros
-cellsOf (comment x) = row 7 x zeros zeros zeros
-cellsOf (instruction x y) = row 8 x y zeros zeros
+cellsOf startDocument = row cellSD zeros zeros zeros zeros
+cellsOf endDocument = row cellED zeros zeros zeros zeros
+cellsOf (startElement q) = row cellSE (q .uri) (q .local) zeros zeros
+cellsOf (attribute q v) = row cellAT (q .uri) (q .local) zeros v
+cellsOf endElement = row cellEE zeros zeros zeros zeros
+cellsOf (characters v) = row cellCH v zeros zeros zeros
+cellsOf (comment x) = row cellCM x zeros zeros zeros
+cellsOf (instruction x y) = row cellPI x y zeros zeros
 
 -- The row that the code holds.
 unfoldable pub rowCells : Row → List ℕ
@@ -90,6 +121,7 @@ rowCells r = row (r .0) (asSpan (r .1)) (asSpan (r .2)) (asSpan (r .3)) (asSpan 
 
 -- ---- what cells mean
 
+-- No data: place and length are 0.
 unfoldable pub isZeros : Span → Bool
 isZeros x = eqb (x .place) 0 && eqb (x .size) 0
 
@@ -101,14 +133,14 @@ ifZeros x y p v e = cond (isZeros x && isZeros y && isZeros p && isZeros v) (som
 -- meaning, or data in a place that the kind does not use, is SHAPE).
 unfoldable pub ofRow : ℕ → Span → Span → Span → Span → Stored
 ofRow k x y p v =
-    cond (eqb k 1) (ifZeros x y p v startDocument)
-    (cond (eqb k 2) (ifZeros x y p v endDocument)
-    (cond (eqb k 3) (ifZeros zeros zeros p v (startElement (record { uri = x; local = y })))
-    (cond (eqb k 4) (ifZeros zeros zeros p zeros (attribute (record { uri = x; local = y }) v))
-    (cond (eqb k 5) (ifZeros x y p v endElement)
-    (cond (eqb k 6) (ifZeros zeros y p v (characters x))
-    (cond (eqb k 7) (ifZeros zeros y p v (comment x))
-    (cond (eqb k 8) (ifZeros zeros zeros p v (instruction x y))
+    cond (eqb k cellSD) (ifZeros x y p v startDocument)
+    (cond (eqb k cellED) (ifZeros x y p v endDocument)
+    (cond (eqb k cellSE) (ifZeros zeros zeros p v (startElement (record { uri = x; local = y })))
+    (cond (eqb k cellAT) (ifZeros zeros zeros p zeros (attribute (record { uri = x; local = y }) v))
+    (cond (eqb k cellEE) (ifZeros x y p v endElement)
+    (cond (eqb k cellCH) (ifZeros zeros y p v (characters x))
+    (cond (eqb k cellCM) (ifZeros zeros y p v (comment x))
+    (cond (eqb k cellPI) (ifZeros zeros zeros p v (instruction x y))
     none)))))))
 
 -- The string whose place is in cell i and whose length is in cell j.
@@ -120,7 +152,8 @@ unfoldable pub loadedFrom : List ℕ → Stored
 loadedFrom xs =
     ofRow (getD xs 0 0) (spanAt xs 1 2) (spanAt xs 3 4) (spanAt xs 5 6) (spanAt xs 7 8)
 
--- Cells as stored events, 9 each; fewer than 9 at the end are one that is SHAPE by itself.
+-- Cells as stored events, 9 each; fewer than 9 at the end are one that is SHAPE by itself (ours:
+-- docs/MEMORY.md).
 unfoldable pub eventsOf : List ℕ → List Stored
 eventsOf [] = []
 eventsOf (a ∷ []) = none ∷ []

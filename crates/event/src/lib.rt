@@ -32,6 +32,23 @@ pub enum Loaded {
     Shape,
 }
 
+// The kinds, in an event's first cell (docs/MEMORY.md).
+const START_DOCUMENT: u32 = 1;
+
+const END_DOCUMENT: u32 = 2;
+
+const START_ELEMENT: u32 = 3;
+
+const ATTRIBUTE: u32 = 4;
+
+const END_ELEMENT: u32 = 5;
+
+const CHARACTERS: u32 = 6;
+
+const COMMENT: u32 = 7;
+
+const INSTRUCTION: u32 = 8;
+
 // A row of the table: the kind, and four strings.
 struct Row(u32, Part, Part, Part, Part);
 
@@ -40,14 +57,14 @@ fn row_of(e: Event) -> Row
 {
     let none = Part { place: 0, size: 0 };
     match e {
-        Event::StartDocument => Row(1, none, none, none, none),
-        Event::EndDocument => Row(2, none, none, none, none),
-        Event::StartElement(uri, local) => Row(3, uri, local, none, none),
-        Event::Attribute(uri, local, value) => Row(4, uri, local, none, value),
-        Event::EndElement => Row(5, none, none, none, none),
-        Event::Characters(text) => Row(6, text, none, none, none),
-        Event::Comment(text) => Row(7, text, none, none, none),
-        Event::Instruction(target, text) => Row(8, target, text, none, none),
+        Event::StartDocument => Row(START_DOCUMENT, none, none, none, none),
+        Event::EndDocument => Row(END_DOCUMENT, none, none, none, none),
+        Event::StartElement(uri, local) => Row(START_ELEMENT, uri, local, none, none),
+        Event::Attribute(uri, local, value) => Row(ATTRIBUTE, uri, local, none, value),
+        Event::EndElement => Row(END_ELEMENT, none, none, none, none),
+        Event::Characters(text) => Row(CHARACTERS, text, none, none, none),
+        Event::Comment(text) => Row(COMMENT, text, none, none, none),
+        Event::Instruction(target, text) => Row(INSTRUCTION, target, text, none, none),
     }
 }
 
@@ -131,14 +148,14 @@ fn read_row(row: Row) -> Loaded
     let v = row.4;
     let none = Part { place: 0, size: 0 };
     match kind {
-        1 => given(Event::StartDocument, x, y, p, v),
-        2 => given(Event::EndDocument, x, y, p, v),
-        3 => given(Event::StartElement(x, y), none, none, p, v),
-        4 => given(Event::Attribute(x, y, v), none, none, p, none),
-        5 => given(Event::EndElement, x, y, p, v),
-        6 => given(Event::Characters(x), none, y, p, v),
-        7 => given(Event::Comment(x), none, y, p, v),
-        8 => given(Event::Instruction(x, y), none, none, p, v),
+        START_DOCUMENT => given(Event::StartDocument, x, y, p, v),
+        END_DOCUMENT => given(Event::EndDocument, x, y, p, v),
+        START_ELEMENT => given(Event::StartElement(x, y), none, none, p, v),
+        ATTRIBUTE => given(Event::Attribute(x, y, v), none, none, p, none),
+        END_ELEMENT => given(Event::EndElement, x, y, p, v),
+        CHARACTERS => given(Event::Characters(x), none, y, p, v),
+        COMMENT => given(Event::Comment(x), none, y, p, v),
+        INSTRUCTION => given(Event::Instruction(x, y), none, none, p, v),
         _ => Loaded::Shape,
     }
 }

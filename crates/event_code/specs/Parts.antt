@@ -1,7 +1,5 @@
 -- Event codes as parts, each a value among so many: what src/lib.rt computes, from the state's number, the count of productions that are
 -- learned there, the kinds that are kept and the event's kind.
---
--- States: 0 document, 1 document content, 2 document end, 3 finished, 4 start tag, 5 element content. Kinds: `kindNumber` of the format.
 use Prim.Native.Nat.{ℕ, _+_, _≤_, _<_}
 use mathlib.Core.Bool.{Bool, true, false, cond, _&&_, _||_}
 use mathlib.Core.List.{List, [], _∷_}
@@ -15,6 +13,54 @@ use Rattle.spec_exi.specs.Grammar.{Learned, learn, State, document, docContent,
 use Rattle.event_code.specs.declared.Code.{Code}
 use Rattle.event_code.specs.declared.Code.the-variants.{None, One, Two, Three}
 
+-- ---- states and kinds as numbers: src/lib.rt has the same names
+
+abbrev pub inDocument : ℕ
+inDocument = 0
+
+abbrev pub inDocContent : ℕ
+inDocContent = 1
+
+abbrev pub inDocEnd : ℕ
+inDocEnd = 2
+
+abbrev pub isOver : ℕ
+isOver = 3
+
+abbrev pub inTag : ℕ
+inTag = 4
+
+abbrev pub inElement : ℕ
+inElement = 5
+
+-- The kinds' are the definitions' `kindNumber`, written out.
+abbrev pub numberSD : ℕ
+numberSD = 0
+
+abbrev pub numberED : ℕ
+numberED = 1
+
+abbrev pub numberSE : ℕ
+numberSE = 2
+
+abbrev pub numberAT : ℕ
+numberAT = 3
+
+abbrev pub numberEE : ℕ
+numberEE = 4
+
+abbrev pub numberCH : ℕ
+numberCH = 5
+
+abbrev pub numberCM : ℕ
+numberCM = 6
+
+abbrev pub numberPI : ℕ
+numberPI = 7
+
+-- ---- parts
+
+-- The parts of a code, each a value among so many.
 unfoldable pub partsOf : Code → List (ℕ × ℕ)
 partsOf None = []
 partsOf (One p) = (p .among, p .value) ∷ []
@@ -37,8 +83,8 @@ one b = cond b 1 0
 -- The last level: comments and instructions, as kept.
 unfoldable pub keptParts : Bool → Bool → ℕ → List (ℕ × ℕ)
 keptParts comments instructions kind =
-    cond (comments && eqb kind 6) ((one comments + one instructions, 0) ∷ [])
-    (cond (instructions && eqb kind 7) ((one comments + one instructions, one comments) ∷ [])
+    cond (comments && eqb kind numberCM) ((one comments + one instructions, 0) ∷ [])
+    (cond (instructions && eqb kind numberPI) ((one comments + one instructions, one comments) ∷ [])
     [])
 
 -- Outside the root element, where the first level has one production.
@@ -51,48 +97,51 @@ documentParts first comments instructions kind =
 unfoldable pub tagParts : ℕ → Bool → Bool → ℕ → List (ℕ × ℕ)
 tagParts count comments instructions kind =
     let four = 4 + one (comments || instructions) in
-    cond (eqb kind 4) ((count + 1, count) ∷ (four, 0) ∷ [])
-    (cond (eqb kind 3) ((count + 1, count) ∷ (four, 1) ∷ [])
-    (cond (eqb kind 2) ((count + 1, count) ∷ (four, 2) ∷ [])
-    (cond (eqb kind 5) ((count + 1, count) ∷ (four, 3) ∷ [])
+    cond (eqb kind numberEE) ((count + 1, count) ∷ (four, 0) ∷ [])
+    (cond (eqb kind numberAT) ((count + 1, count) ∷ (four, 1) ∷ [])
+    (cond (eqb kind numberSE) ((count + 1, count) ∷ (four, 2) ∷ [])
+    (cond (eqb kind numberCH) ((count + 1, count) ∷ (four, 3) ∷ [])
     (under (count + 1, count) (under (5, 4) (keptParts comments instructions kind))))))
 
 -- In an element's content: EE behind the learned productions; then SE(*), CH.
 unfoldable pub contentParts : ℕ → Bool → Bool → ℕ → List (ℕ × ℕ)
 contentParts count comments instructions kind =
     let two = 2 + one (comments || instructions) in
-    cond (eqb kind 4) ((count + 2, count) ∷ [])
-    (cond (eqb kind 2) ((count + 2, count + 1) ∷ (two, 0) ∷ [])
-    (cond (eqb kind 5) ((count + 2, count + 1) ∷ (two, 1) ∷ [])
+    cond (eqb kind numberEE) ((count + 2, count) ∷ [])
+    (cond (eqb kind numberSE) ((count + 2, count + 1) ∷ (two, 0) ∷ [])
+    (cond (eqb kind numberCH) ((count + 2, count + 1) ∷ (two, 1) ∷ [])
     (under (count + 2, count + 1) (under (3, 2) (keptParts comments instructions kind)))))
 
 -- The code of a production that is not learned; no part where none fits.
 unfoldable pub fixedParts : ℕ → ℕ → Bool → Bool → ℕ → List (ℕ × ℕ)
 fixedParts mode count comments instructions kind =
-    cond (eqb mode 0) (cond (eqb kind 0) ((1, 0) ∷ []) [])
-    (cond (eqb mode 1) (documentParts 2 comments instructions kind)
-    (cond (eqb mode 2) (documentParts 1 comments instructions kind)
-    (cond (eqb mode 4) (tagParts count comments instructions kind)
-    (cond (eqb mode 5) (contentParts count comments instructions kind)
+    cond (eqb mode inDocument) (cond (eqb kind numberSD) ((1, 0) ∷ []) [])
+    (cond (eqb mode inDocContent) (documentParts numberSE comments instructions kind)
+    (cond (eqb mode inDocEnd) (documentParts numberED comments instructions kind)
+    (cond (eqb mode inTag) (tagParts count comments instructions kind)
+    (cond (eqb mode inElement) (contentParts count comments instructions kind)
     []))))
 
 -- The code of the learned production with number v.
 unfoldable pub learnedPart : ℕ → ℕ → ℕ → ℕ × ℕ
-learnedPart mode count v = (cond (eqb mode 4) (count + 1) (count + 2), v)
+learnedPart mode count v = (cond (eqb mode inTag) (count + 1) (count + 2), v)
 
 -- Whether an event of this kind, with a code that is not learned, puts a production at 0.
 unfoldable pub teachesIn : ℕ → ℕ → Bool
-teachesIn mode kind = (eqb mode 4 && leb 2 kind && leb kind 5) || (eqb mode 5 && (eqb kind 2 || eqb kind 5))
+teachesIn mode kind =
+    (eqb mode inTag && leb numberSE kind && leb kind numberCH)
+    || (eqb mode inElement && (eqb kind numberSE || eqb kind numberCH))
 
 -- ---- against the definitions' states
 
+-- The number of each.
 unfoldable pub modeOf : State → ℕ
-modeOf document = 0
-modeOf docContent = 1
-modeOf docEnd = 2
-modeOf finished = 3
-modeOf (startTag q outer) = 4
-modeOf (elementContent q outer) = 5
+modeOf document = inDocument
+modeOf docContent = inDocContent
+modeOf docEnd = inDocEnd
+modeOf finished = isOver
+modeOf (startTag q outer) = inTag
+modeOf (elementContent q outer) = inElement
 
 -- What is learned after an event of kind k whose name lies at q, where it teaches (t) or not.
 unfoldable pub learnt : State → Bool → Kind → Option (QName Placed) → List Learned → List Learned

@@ -21,6 +21,7 @@ pub enum Code {
     Three(Part, Part, Part),
 }
 
+// The kinds of event.
 pub const SD: u32 = 0;
 
 pub const ED: u32 = 1;
@@ -36,6 +37,19 @@ pub const CH: u32 = 5;
 pub const CM: u32 = 6;
 
 pub const PI: u32 = 7;
+
+// The grammar's states.
+pub const IN_DOCUMENT: u32 = 0;
+
+pub const IN_DOC_CONTENT: u32 = 1;
+
+pub const IN_DOC_END: u32 = 2;
+
+pub const IS_OVER: u32 = 3;
+
+pub const IN_TAG: u32 = 4;
+
+pub const IN_ELEMENT: u32 = 5;
 
 fn number(b: bool) -> u32
     ensures { λ r. ⌜ r ≡ cond b 1 0 ⌝ }
@@ -149,16 +163,16 @@ pub fn fixed_code(mode: u32, count: u32, comments: bool, instructions: bool, kin
     ensures { λ r. ⌜ partsOf r ≡ fixedParts mode count comments instructions kind ⌝ }
 {
     match mode {
-        0 => {
+        IN_DOCUMENT => {
             if kind == SD {
                 return Code::One(Part { among: 1, value: 0 });
             }
             Code::None
         }
-        1 => document_code(SE, kind, comments, instructions),
-        2 => document_code(ED, kind, comments, instructions),
-        4 => tag_code(kind, count, comments, instructions),
-        5 => content_code(kind, count, comments, instructions),
+        IN_DOC_CONTENT => document_code(SE, kind, comments, instructions),
+        IN_DOC_END => document_code(ED, kind, comments, instructions),
+        IN_TAG => tag_code(kind, count, comments, instructions),
+        IN_ELEMENT => content_code(kind, count, comments, instructions),
         _ => Code::None,
     }
 }
@@ -168,7 +182,7 @@ pub fn learned_code(mode: u32, count: u32, v: u32) -> Code
     requires { ⌜ count ≤ maxLearned ⌝ }
     ensures { λ r. ⌜ partsOf r ≡ learnedPart mode count v ∷ [] ⌝ }
 {
-    if mode == 4 {
+    if mode == IN_TAG {
         return Code::One(Part {
             among: count + 1,
             value: v,
@@ -185,8 +199,8 @@ pub fn teaches(mode: u32, kind: u32) -> bool
     ensures { λ r. ⌜ r ≡ teachesIn mode kind ⌝ }
 {
     match mode {
-        4 => (SE <= kind) & (kind <= CH),
-        5 => (kind == SE) | (kind == CH),
+        IN_TAG => (SE <= kind) & (kind <= CH),
+        IN_ELEMENT => (kind == SE) | (kind == CH),
         _ => false,
     }
 }

@@ -1,8 +1,8 @@
 -- The productions of each state that are not learned, level by level of their event codes (EXI
 -- 8.4.1, 8.4.3; scope, "Grammars": the table of codes).
 --
--- States: 0 document, 1 document content, 2 document end, 3 finished, 4 start tag, 5 element
--- content. Levels: 0 the first part of a code, 1 the second, 2 the third.
+-- States and kinds are numbers (crates/event_code/specs/Parts.antt). Levels: 0 the first part of a
+-- code, 1 the second, 2 the third.
 use Prim.Native.Nat.{ℕ, zero, suc, _+_, _≤_, _<_}
 use mathlib.Core.Path.{_≡_}
 use mathlib.Core.Bool.{Bool, true, false, cond}
@@ -14,6 +14,7 @@ use Rattle.spec_fields.specs.Bits.{Bits}
 use Rattle.spec_fields.specs.Field.{Alignment, choiceBits}
 use Rattle.spec_exi.specs.Event.{Kind, SD, ED, SE, AT, EE, CH, CM, PI}
 use Rattle.spec_exi.specs.Grammar.{Production, unnamed, kindNumber, Code, atLevel, below}
+use Rattle.event_code.specs.Parts.{inTag, numberED, numberEE, numberCH}
 use Rattle.grammar_codes.specs.declared.Place.{Place}
 
 -- ---- the table
@@ -136,8 +137,8 @@ pub record CountAt (comments instructions : Bool) (mode level r : ℕ) : Type 0 
 -- The document starts and ends outside of every element, which ends, and has characters, inside.
 pub record Stands (mode kind : ℕ) : Type 0 where
   pub known : kind < 8
-  pub outside : kind ≤ 1 → mode < 4
-  pub inside : 4 ≤ kind → kind ≤ 5 → 4 ≤ mode
+  pub outside : kind ≤ numberED → mode < inTag
+  pub inside : numberEE ≤ kind → kind ≤ numberCH → inTag ≤ mode
 
 pub record KindAt (comments instructions : Bool) (mode level v r : ℕ) : Type 0 where
   pub is : r ≡ kindNumber (getD (levelAt comments instructions mode level) v SD)

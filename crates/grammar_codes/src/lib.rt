@@ -15,6 +15,11 @@ use event_code::CH;
 use event_code::CM;
 use event_code::ED;
 use event_code::EE;
+use event_code::IN_DOC_CONTENT;
+use event_code::IN_DOC_END;
+use event_code::IN_DOCUMENT;
+use event_code::IN_ELEMENT;
+use event_code::IN_TAG;
 use event_code::PI;
 use event_code::SD;
 use event_code::SE;
@@ -74,11 +79,11 @@ pub fn count_at(mode: u32, level: u32, comments: bool, instructions: bool) -> u3
 {
     let kept = kept_count(comments, instructions);
     match mode {
-        0 => nth(level, 1, 0, 0, 0),
-        1 => nth(level, 1, kept, 0, 0),
-        2 => nth(level, 1, kept, 0, 0),
-        4 => nth(level, 0, 4, kept, 0),
-        5 => nth(level, 1, 2, kept, 0),
+        IN_DOCUMENT => nth(level, 1, 0, 0, 0),
+        IN_DOC_CONTENT => nth(level, 1, kept, 0, 0),
+        IN_DOC_END => nth(level, 1, kept, 0, 0),
+        IN_TAG => nth(level, 0, 4, kept, 0),
+        IN_ELEMENT => nth(level, 1, 2, kept, 0),
         _ => 0,
     }
 }
@@ -89,10 +94,10 @@ pub fn kind_at(mode: u32, level: u32, v: u32, comments: bool, instructions: bool
 {
     let kept = kept_at(v, comments, instructions);
     match mode {
-        1 => nth(level, nth(v, SE, 0, 0, 0), kept, 0, 0),
-        2 => nth(level, nth(v, ED, 0, 0, 0), kept, 0, 0),
-        4 => nth(level, 0, nth(v, EE, AT, SE, CH), kept, 0),
-        5 => nth(level, nth(v, EE, 0, 0, 0), nth(v, SE, CH, 0, 0), kept, 0),
+        IN_DOC_CONTENT => nth(level, nth(v, SE, 0, 0, 0), kept, 0, 0),
+        IN_DOC_END => nth(level, nth(v, ED, 0, 0, 0), kept, 0, 0),
+        IN_TAG => nth(level, 0, nth(v, EE, AT, SE, CH), kept, 0),
+        IN_ELEMENT => nth(level, nth(v, EE, 0, 0, 0), nth(v, SE, CH, 0, 0), kept, 0),
         _ => SD,
     }
 }
@@ -104,10 +109,10 @@ pub fn values_at(mode: u32, level: u32, comments: bool, instructions: bool) -> u
     ensures { λ r. ⌜ r ≡ valuesAt comments instructions mode level ⌝ }
 {
     // most parts are an element's first
-    if (mode == 5) & (level == 0) {
+    if (mode == IN_ELEMENT) & (level == 0) {
         return 2;
     }
-    if (mode == 4) & (level == 0) {
+    if (mode == IN_TAG) & (level == 0) {
         return 1;
     }
     let here = count_at(mode, level, comments, instructions);

@@ -15,15 +15,15 @@ use event_code::SD;
 use event_code::SE;
 
 // The grammar's states by their numbers (specs of mem_rows have the same names).
-pub const IN_DOC_CONTENT: u32 = 1;
+pub const IN_DOC_CONTENT: u32 = event_code::IN_DOC_CONTENT;
 
-pub const IN_DOC_END: u32 = 2;
+pub const IN_DOC_END: u32 = event_code::IN_DOC_END;
 
-pub const IS_OVER: u32 = 3;
+pub const IS_OVER: u32 = event_code::IS_OVER;
 
-pub const IN_TAG: u32 = 4;
+pub const IN_TAG: u32 = event_code::IN_TAG;
 
-pub const IN_ELEMENT: u32 = 5;
+pub const IN_ELEMENT: u32 = event_code::IN_ELEMENT;
 
 // The position in the stream; the code points in the store; the rows of each table; the grammar's
 // state, by its number; the row of the innermost open element's name, or 0; and how many are open.

@@ -16,6 +16,7 @@ use Rattle.mem_entries.specs.Entries.{keyAt}
 use Rattle.mem_learned.specs.Learned.{LearnedHold, CountedAt}
 use Rattle.mem_rows.specs.Rows.{Learnt, Rows, kindAt, carries, siteNumber, siteAt, productionOf}
 use Rattle.mem_rows.specs.Rows.{learnedOf, inTag}
+use Rattle.event_code.specs.Parts.{numberSE, numberCH}
 use Rattle.mem_rows.specs.Valid.{LearntFits, Valid}
 use Rattle.mem_state.specs.Holds.{taughtIn}
 use Rattle.read_production.specs.declared.ProductionRead.{ProductionRead}
@@ -30,8 +31,8 @@ pub record SitePre (work : List ℕ) (top : ℕ) : Type 0 where
   pub low : top < nameRows
 
 pub record CountedHere (work : List ℕ) (mode top r : ℕ) : Type 0 where
-  pub outside : mode < 4 → r ≡ 0
-  pub counted : 4 ≤ mode → CountedAt work (siteIn mode top) r
+  pub outside : mode < inTag → r ≡ 0
+  pub counted : inTag ≤ mode → CountedAt work (siteIn mode top) r
   pub few : r ≤ 4096
 
 pub record LearnedPre (work : List ℕ) (site learned : ℕ) : Type 0 where
@@ -54,8 +55,8 @@ pub record IsLearned (w : Rows) (site v : ℕ) (r : ProductionRead) : Type 0 whe
       → firstFit (learnedIn (siteAt w site) (learnedOf w)) e ≡ some (v, productionOf w row)
 
 pub record LearnedBounds (r : ProductionRead) : Type 0 where
-  pub from : 2 ≤ r .kind
-  pub upTo : r .kind ≤ 5
+  pub from : numberSE ≤ r .kind
+  pub upTo : r .kind ≤ numberCH
   pub name : r .name < nameRows
   pub uri : r .uri < uriRows
   pub local : r .local < nameRows

@@ -14,6 +14,7 @@ use Rattle.mem_layout.specs.Layout.{nameRows, workCells}
 use Rattle.mem_index.specs.Index.{foundIn}
 use Rattle.mem_learned.specs.Learned.{nameIndex, nameCode, LearnedHold}
 use Rattle.mem_rows.specs.Rows.{Rows, nameAt, carries, inTag}
+use Rattle.event_code.specs.Parts.{numberSE, numberCH}
 use Rattle.mem_rows.specs.Valid.{learntAt, Valid}
 use Rattle.mem_state.specs.Holds.{taughtIn, Ahead}
 use Rattle.read_production.specs.Learned.{siteIn}
@@ -49,7 +50,7 @@ pub record LoosePost (work : List ℕ) (mode top kind name learned : ℕ) (r : B
       → CodeRows work learned mode top w opened → kindNumber (kindOf e) ≡ kind → NamedBy v e name
       → IsLoose w mode opened e r
   -- no learned production of the site has this kind and name
-  pub fresh : (w : Rows) → LearnedHold work learned (taughtIn w) → inTag ≤ mode → 2 ≤ kind
-      → kind ≤ 5 → r ≡ false → (i : ℕ) → i < length (w .learned)
+  pub fresh : (w : Rows) → LearnedHold work learned (taughtIn w) → inTag ≤ mode → numberSE ≤ kind
+      → kind ≤ numberCH → r ≡ false → (i : ℕ) → i < length (w .learned)
       → learntAt (w .learned) i
       ≡ record { site = siteIn mode top; kind = kind; name = name } → ⊥

@@ -14,7 +14,7 @@ use Rattle.spec_exi.specs.Grammar.{Production, Code, kindNumber, siteOf, learne
 use Rattle.spec_exi.specs.Grammar.{codeOf, sameCode, taught}
 use Rattle.spec_exi.specs.Context.{levelsIn}
 use Rattle.spec_exi.specs.Reader.{readCode}
-use Rattle.event_code.specs.Parts.{teachesIn}
+use Rattle.event_code.specs.Parts.{numberSE, numberCH, teachesIn}
 use Rattle.grammar_codes.specs.Table.{Stands}
 use Rattle.mem_layout.specs.Layout.{uriRows, nameRows, workCells}
 use Rattle.mem_entries.specs.Entries.{keyAt}
@@ -46,8 +46,8 @@ pub record Nameless (r : ProductionRead) : Type 0 where
 -- A learned production stands in an element, and is SE, AT, EE or CH.
 pub record Inner (mode : ℕ) (r : ProductionRead) : Type 0 where
   pub element : inTag ≤ mode
-  pub from : 2 ≤ r .kind
-  pub upTo : r .kind ≤ 5
+  pub from : numberSE ≤ r .kind
+  pub upTo : r .kind ≤ numberCH
 
 pub record ProductionBounds (mode : ℕ) (r : ProductionRead) : Type 0 where
   pub stands : Stands mode (r .kind)

@@ -14,6 +14,7 @@ ghost use Rattle.read_production.specs.Answers.{refusedAs, fixedAs, unna
 ghost use Rattle.read_production.specs.Production.{ProductionPre, ProductionPost};
 ghost use Rattle.read_production.specs.Loose.{LoosePre, LoosePost};
 use event_code::CH;
+use event_code::IN_TAG;
 use event_code::SE;
 use read_field::Field;
 use refusal::CODE;
@@ -168,7 +169,7 @@ pub fn site_in(mode: u32, top: u32) -> u32
     requires { ⌜ top < nameRows ⌝ }
     ensures { λ r. ⌜ r ≡ siteIn mode top ⌝ }
 {
-    if mode == 4 {
+    if mode == IN_TAG {
         return 2 * top + 1;
     }
     2 * top
@@ -179,7 +180,7 @@ fn count_here(mode: u32, top: u32, work: &[u32]) -> u32
     requires { ⌜ SitePre (now work) top ⌝ }
     ensures { λ r. ⌜ CountedHere (now (work .entry)) mode top r ⌝ }
 {
-    if mode < 4 {
+    if mode < IN_TAG {
         return 0;
     }
     mem_learned::count_at(work, site_in(mode, top))
@@ -261,7 +262,7 @@ pub fn is_loose(mode: u32, top: u32, kind: u32, name: u32, learned: u32, work: &
     requires { ⌜ LoosePre (now work) top name learned ⌝ }
     ensures { λ r. ⌜ LoosePost (now (work .entry)) mode top kind name learned r ⌝ }
 {
-    if mode < 4 {
+    if mode < IN_TAG {
         return false;
     }
     if kind < SE {

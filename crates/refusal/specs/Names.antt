@@ -5,8 +5,11 @@ use mathlib.Core.List.{List, [], _∷_, _++_}
 use lib.Dec.{eqb}
 use lib.ListN.{length, replicate}
 use Rattle.text.specs.Text.{Text, text}
-use Rattle.spec_fields.specs.Refusal.{Refusal, numberOf, room, settings, long, header, ended, code, number, character, reference, loose, name, limit, tail, shape, place}
+use Rattle.spec_fields.specs.Refusal.{Refusal, numberOf, room, settings, long, header, ended, code}
+use Rattle.spec_fields.specs.Refusal.{number, character, reference, loose, name, limit, tail, shape}
+use Rattle.spec_fields.specs.Refusal.{place}
 
+-- The word of the scope's table.
 unfoldable pub nameOf : Refusal → Text
 nameOf room = text "ROOM"
 nameOf settings = text "SETTINGS"
@@ -24,9 +27,11 @@ nameOf tail = text "TAIL"
 nameOf shape = text "SHAPE"
 nameOf place = text "PLACE"
 
+-- All of them, in the order of their numbers.
 unfoldable pub refusals : List Refusal
 refusals =
-    room ∷ settings ∷ long ∷ header ∷ ended ∷ code ∷ number ∷ character ∷ reference ∷ loose ∷ name ∷ limit ∷ tail ∷ shape ∷ place ∷ []
+    room ∷ settings ∷ long ∷ header ∷ ended ∷ code ∷ number ∷ character ∷ reference ∷ loose ∷ name
+    ∷ limit ∷ tail ∷ shape ∷ place ∷ []
 
 -- The name of the one among these with this number, or nothing.
 unfoldable pub nameAmong : List Refusal → ℕ → Text

@@ -33,7 +33,7 @@ pub const SHAPE: u32 = 14;
 
 pub const PLACE: u32 = 15;
 
-// A name in ASCII, and zeros behind it.
+// A name in ASCII, and zeros after it.
 #[repr(C)]
 pub struct Name {
     pub text: [u8; 16],

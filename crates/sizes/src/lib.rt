@@ -27,7 +27,7 @@ pub const MAX_STORE: usize = 16384;
 pub const CELLS_PER_EVENT: usize = 9;
 
 pub const EVENT_CELLS: usize = CELLS_PER_EVENT * MAX_EVENTS;
-// Work memory of the reader, and of the writer, which has a text store behind it.
+// Work memory of the reader, and of the writer, which has a text store after it.
 pub const READER_WORK: usize = 18432;
 
 pub const WRITER_WORK: usize = READER_WORK + MAX_STORE;

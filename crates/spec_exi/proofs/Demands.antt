@@ -168,7 +168,7 @@ good-accepted r o l e m g =
     let q = read-accepts r o (strict s l) e m (g .limits .octets) ∙ f .answer in
     (f .reading, q, texts r o (strict s l) (f .reading) q ∙ ap some (f .is))
 
--- A stream is the strict form of one list.
+-- A stream is the strict form of one list (demand 3).
 pub one-list : (s : Settings) (l m : List (Event Text)) → Good s l → Good s m
     → strict s l ≡ strict s m → l ≡ m
 one-list s l m g h e =
@@ -215,7 +215,7 @@ accepted-when-zero r o stream = (
   λ h. zero-accepted (read r o stream) .1 (h .1 .0, h .1 .1),
 )
 
--- Accepted are exactly the strict forms of good lists.
+-- Accepted are exactly the strict forms of good lists (demand 3).
 pub exact : (r : ReaderRoom) (o : SettingNumbers) (stream : List ℕ) (l : List (Event Text))
     → AreOctets stream
     → Accepts r o stream l
@@ -226,13 +226,13 @@ exact r o stream l h = (
   λ g. rw (g .3) (good-accepted r o l (g .0) (g .1) (g .2)),
 )
 
--- A list is answered to one stream.
+-- A list is answered to one stream (demand 3).
 pub one-stream : (r : ReaderRoom) (o : SettingNumbers) (a b : List ℕ) (l : List (Event Text))
     → AreOctets a → AreOctets b
     → Accepts r o a l → Accepts r o b l → a ≡ b
 one-stream r o a b l ha hb qa qb = accepts-good r o a l ha qa .1 ∙ sym (accepts-good r o b l hb qb .1)
 
--- No accepted stream begins a longer one.
+-- No accepted stream begins a longer one (demand 3).
 pub no-prefix : (r : ReaderRoom) (o : SettingNumbers) (a b : List ℕ) (l m : List (Event Text))
     → AreOctets (a ++ b)
     → Accepts r o a l → Accepts r o (a ++ b) m → b ≡ []
@@ -310,7 +310,7 @@ behind : (r : WriterRoom) (o : SettingNumbers) (xs : List Stored) (store : Text)
     → Behind (settingsOf o) xs store stream
 behind r o xs store stream q = written-list (settingsOf o) xs store stream (writing r o xs store stream q .answer)
 
--- What the reader accepts the writer gives back, octet for octet.
+-- What the reader accepts the writer gives back, octet for octet (demand 2).
 pub written-back : (r : WriterRoom) (p : ReaderRoom) (o : SettingNumbers) (stream : List ℕ)
     (x : Reading) → T (enoughToWrite sizes r) → AreOctets stream
     → read p o stream ≡ accepted x
@@ -335,7 +335,7 @@ pub written-when-zero : (r : WriterRoom) (o : SettingNumbers) (xs : List Stored)
     ↔ ((stream : List ℕ) × (write r o xs store ≡ accepted stream))
 written-when-zero r o xs store = zero-written (write r o xs store)
 
--- Written are exactly the good lists, in their strict forms.
+-- Written are exactly the good lists, in their strict forms (demand 2).
 pub written : (r : WriterRoom) (o : SettingNumbers) (xs : List Stored) (store : Text)
     (stream : List ℕ)
     → (write r o xs store ≡ accepted stream)
@@ -351,7 +351,7 @@ written r o xs store stream = (
       ∙ list-written (settingsOf o) xs store (g .0) (g .1) (g .2) ∙ ap accepted (sym (g .3)),
 )
 
--- Reading what was written returns the list.
+-- Reading what was written returns the list (demand 2).
 pub read-back : (r : WriterRoom) (p : ReaderRoom) (o : SettingNumbers) (xs : List Stored)
     (store : Text) (l : List (Event Text)) (stream : List ℕ)
     → T (enoughToRead sizes p) → meant store xs ≡ some l → write r o xs store ≡ accepted stream

@@ -2,6 +2,7 @@
 use mathlib.Core.Path.{_≡_, refl}
 use mathlib.Core.List.{List, [], _∷_, map}
 use lib.Dec.{T}
+use Rattle.spec_fields.proofs.Examples.{field-examples}
 use Rattle.spec_fields.proofs.Refusal.{numbered}
 use Rattle.spec_fields.proofs.Tests.{left, right}
 use Rattle.text.specs.Text.{eqText}
@@ -13,12 +14,13 @@ use Rattle.spec_exi.specs.Examples.Streams.{mistakes, kept}
 use Rattle.spec_exi.specs.Examples.Places.{layoutOf, storeWith, Lie, at, inUri, named}
 use Rattle.spec_exi.specs.Examples.Places.{laidOut}
 use Rattle.spec_exi.specs.Examples.Refusals.{orders, refusals}
-use Rattle.spec_exi.specs.Examples.Numbers.{sizesAs, setting, meaningless, readerRoom}
-use Rattle.spec_exi.specs.Examples.Numbers.{writerRoom, readerRooms, writerRooms, Pinned}
-use Rattle.spec_exi.specs.Examples.Bounds.{bound, under, rewritten, sumUnder, Bounded, bounds}
+use Rattle.spec_exi.specs.Examples.Bounds.{sizesAs, only, bound, RefusedUnder, rewritten}
+use Rattle.spec_exi.specs.Examples.Bounds.{sumUnder, Bounded, bounds, inOrder}
+use Rattle.spec_exi.specs.Examples.Numbers.{setting, meaningless, readerRoom, writerRoom}
+use Rattle.spec_exi.specs.Examples.Numbers.{readerRooms, writerRooms, Pinned}
 use Rattle.spec_exi.specs.Examples.Written.{writtenFor, Written, WriteReplied, wrote, listed}
-use Rattle.spec_exi.specs.Examples.Written.{writes, writeReplies, nested, upTo, inUris}
-use Rattle.spec_exi.specs.Examples.Written.{withAttribute, aRow, atSizes}
+use Rattle.spec_exi.specs.Examples.Written.{writes, writeReplies, WrittenUnder, writesInOrder}
+use Rattle.spec_exi.specs.Examples.Written.{upTo, nested, inUris, withAttribute, aRow, atSizes}
 use Rattle.spec_exi.specs.Examples.Pieces.{Tell, pieces}
 use Rattle.spec_exi.specs.Examples.All.{WorkedExamples}
 use Rattle.spec_exi.proofs.Definitions.{definitions}
@@ -64,21 +66,28 @@ refusals-hold : Hold refusals
 unfolding definitions refusals
 refusals-hold = record { answers = refl; strictForms = same-streams refusals tt }
 
+bounds-hold : Bounded bounds
+unfolding definitions sizesAs only bound rewritten sumUnder bounds
+bounds-hold = record { reader = refl; writer = refl; above = refl }
+
 pinned : Pinned
 unfolding definitions sizesAs setting meaningless readerRoom writerRoom readerRooms writerRooms
 pinned =
     record {
       refusals = numbered;
       sizesAre = refl;
+      bothSides = bounds-hold;
       readerSettings = refl;
       writerSettings = refl;
       readerLent = refl;
       writerLent = refl;
+      outside = refl;
+      inside = refl;
     }
 
-bounds-hold : Bounded bounds
-unfolding definitions sizesAs bound under rewritten sumUnder bounds
-bounds-hold = record { reader = refl; writer = refl; above = refl }
+in-order : RefusedUnder inOrder
+unfolding definitions sizesAs only bound inOrder
+in-order = refl
 
 writes-hold : Written writes
 unfolding definitions at inUri named writtenFor listed writes
@@ -87,6 +96,10 @@ writes-hold = record { answers = refl }
 writes-replied : WriteReplied writes writeReplies
 unfolding definitions at inUri named writtenFor wrote listed writes writeReplies
 writes-replied = record { replies = refl }
+
+writes-in-order : WrittenUnder writesInOrder
+unfolding definitions sizesAs only at inUri named listed writesInOrder
+writes-in-order = record { answers = refl }
 
 at-sizes : Written atSizes
 unfolding definitions at inUri named writtenFor listed upTo nested inUris withAttribute aRow atSizes
@@ -102,15 +115,17 @@ worked-examples =
     record {
       scope = scope;
       scope-replies = scope-replies;
+      fields = field-examples;
       mistakes-hold = mistakes-hold;
       kept-hold = kept-hold;
       places-lie = places-lie;
       orders-hold = orders-hold;
       refusals-hold = refusals-hold;
       pinned = pinned;
-      bounds-hold = bounds-hold;
+      in-order = in-order;
       writes-hold = writes-hold;
       writes-replied = writes-replied;
+      writes-in-order = writes-in-order;
       at-sizes = at-sizes;
       pieces-told = pieces-told;
     }

@@ -91,7 +91,7 @@ is-ended k e = rw e
 not-ended : (k : Refusal) → isEnded k ≡ false → k ≡ ended → ⊥
 not-ended k f e = let z : _≡_ {A = ℕ} 1 0 = ap (λ b. cond b 1 0) (sym (is-ended k e) ∙ f) in omega arith
 
--- What stands behind an event is refused, or accepted, where the whole is.
+-- What stands after an event is refused, or accepted, where the whole is.
 follow-refused : (e : Event Placed) (a : Answer Reading) (k : Refusal) (i : ℕ)
     → following e a ≡ refused k i
     → (j : ℕ) × (a ≡ refused k j) × (i ≡ suc j)
@@ -591,16 +591,18 @@ module _ (r : ReaderRoom) (o : SettingNumbers) (os : List ℕ) where
       so-far (λ x. x .store ≡ contextAfter (settingsOf o) (start (settingsOf o)) (map eventText (x .events)) .tables .store)
       (store r o os) (complete-store (settingsOf o) os)
 
-  -- ROOM and SETTINGS stay, however many octets come; else LONG comes past the longest stream.
+  -- ROOM stays, however many octets come (P8).
   pub no-room : T (not (enoughToRead sizes r)) → receive r o os ≡ refused room 0
   unfolding receive soFar numberOf read readSized
   no-room a = rw (not-T (enoughToRead sizes r) a)
 
+  -- SETTINGS stays, too.
   pub no-meaning : T (enoughToRead sizes r) → T (not (meaningful o))
       → receive r o os ≡ refused settings 0
   unfolding receive soFar numberOf read readSized
   no-meaning a b = rw (T-is (enoughToRead sizes r) a, not-T (meaningful o) b)
 
+  -- Else LONG comes past the longest stream.
   pub too-long : T (enoughToRead sizes r) → T (meaningful o) → maxStream < length os
       → receive r o os ≡ refused long 0
   unfolding receive soFar numberOf read readSized

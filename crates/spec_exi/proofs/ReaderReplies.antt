@@ -141,7 +141,7 @@ record Among (n : ℕ) (k : Refusal) (i : ℕ) : Type 0 where
 among : {n i j : ℕ} {k l : Refusal} → T (ofEvents k) → i ≤ n → (k ≡ l) × (i ≡ j) → Among n l j
 among t h (e, q) = record { by = subst (λ x. T (ofEvents x)) e t; index = omega arith }
 
--- What stands behind an event is refused where the whole is, one event earlier.
+-- What stands after an event is refused where the whole is, one event earlier.
 behind : (e : Event Placed) (a : Answer Reading) {n : ℕ} {k : Refusal} {i : ℕ}
     → ((j : ℕ) → a ≡ refused k j → Among n k j)
     → following e a ≡ refused k i → Among (suc n) k i
@@ -290,7 +290,8 @@ module _ {r : ReaderRoom} {o : SettingNumbers} {stream : List ℕ} where
   numbers (inside e m l (stopped least most i z)) = most
   numbers (inside e m l (whole n c)) = zero-le
 
-  -- ROOM, SETTINGS and LONG come first, in this order.
+  -- ROOM, SETTINGS and LONG come first, in this order (scope, "Refusal numbers", "Order"): ROOM just
+  -- where a lent part is too short.
   pub no-room : {a : Answer Reading} → Outcome r o stream a
       → (readReply a .number ≡ numberOf room) ↔ T (not (enoughToRead sizes r))
   unfolding readReply numberOf
@@ -300,6 +301,7 @@ module _ {r : ReaderRoom} {o : SettingNumbers} {stream : List ℕ} where
   no-room (inside e m l (stopped least most i z)) = (λ q. absurd (omega (arith, least)), λ f. contrary (enoughToRead sizes r) e f)
   no-room (inside e m l (whole n c)) = (λ q. absurd (omega arith), λ f. contrary (enoughToRead sizes r) e f)
 
+  -- SETTINGS just where memory is enough, and a number has no meaning.
   pub no-meaning : {a : Answer Reading} → Outcome r o stream a
       → (readReply a .number ≡ numberOf settings)
       ↔ (T (enoughToRead sizes r) × T (not (meaningful o)))
@@ -310,6 +312,7 @@ module _ {r : ReaderRoom} {o : SettingNumbers} {stream : List ℕ} where
   no-meaning (inside e m l (stopped least most i z)) = (λ q. absurd (omega (arith, least)), λ f. contrary (meaningful o) m (f .1))
   no-meaning (inside e m l (whole n c)) = (λ q. absurd (omega arith), λ f. contrary (meaningful o) m (f .1))
 
+  -- LONG just where both are right, and the stream is too long.
   pub too-long : {a : Answer Reading} → Outcome r o stream a
       → (readReply a .number ≡ numberOf long)
       ↔ (T (enoughToRead sizes r) × T (meaningful o) × (maxStream < length stream))
@@ -341,12 +344,13 @@ module _ {r : ReaderRoom} {o : SettingNumbers} {stream : List ℕ} where
   bounded (inside e m l (stopped least most i z)) = (i, zero-le, zero-le)
   bounded (inside e m l (whole n c)) = (zero-le, n, c)
 
--- The counts are those of the reading, and 0 after a refusal.
+-- The counts are those of the reading.
 pub counts : (a : Answer Reading) (x : Reading) → a ≡ accepted x
     → (readReply a .events ≡ length (x .events)) × (readReply a .codePoints ≡ length (x .store))
 unfolding readReply
 counts a x e = rw e (refl, refl)
 
+-- After a refusal they are 0.
 pub no-counts : (a : Answer Reading) → 0 < readReply a .number
     → (readReply a .events ≡ 0) × (readReply a .codePoints ≡ 0)
 unfolding readReply

@@ -37,7 +37,7 @@ pub data Run (s : Settings) : State → List (Event Text) → Type 0 where
 -- ---- a document is run through
 
 -- From the state of any element there is a run through l, the element's end and r, if there is one
--- through r behind the element.
+-- through r after the element.
 abbrev Through : Settings → (QName Text → List (QName Text) → State) → List (Event Text) → Type 0
 Through s state l =
     (q : QName Text) (outer : List (QName Text)) (r : List (Event Text)) → Run s (closed s (q ∷ outer)) r

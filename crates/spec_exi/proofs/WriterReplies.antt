@@ -207,7 +207,8 @@ module _ {r : WriterRoom} {o : SettingNumbers} {xs : List Stored} {store : Text}
   numbers (tooLong e m h) = tt
   numbers (whole e m l) = tt
 
-  -- ROOM and SETTINGS come first, in this order.
+  -- ROOM and SETTINGS come first, in this order (scope, "Refusal numbers", "Order"): ROOM just where a
+  -- lent part is too short.
   pub no-room : {a : Answer (List ℕ)} → Outcome r o xs store a
       → (writeReply a .number ≡ numberOf room) ↔ T (not (enoughToWrite sizes r))
   unfolding writeReply numberOf
@@ -217,6 +218,7 @@ module _ {r : WriterRoom} {o : SettingNumbers} {xs : List Stored} {store : Text}
   no-room (tooLong e m h) = (λ q. absurd (omega arith), λ f. contrary (enoughToWrite sizes r) e f)
   no-room (whole e m l) = (λ q. absurd (omega arith), λ f. contrary (enoughToWrite sizes r) e f)
 
+  -- SETTINGS just where memory is enough, and a number has no meaning.
   pub no-meaning : {a : Answer (List ℕ)} → Outcome r o xs store a
       → (writeReply a .number ≡ numberOf settings)
       ↔ (T (enoughToWrite sizes r) × T (not (meaningful o)))
@@ -237,7 +239,7 @@ module _ {r : WriterRoom} {o : SettingNumbers} {xs : List Stored} {store : Text}
   is-too-long (tooLong e m h) q = (e, m, h)
   is-too-long (whole e m l) q = absurd (omega arith)
 
-  -- The index is that of a stored event, or the list's length; 0 on success, for ROOM, SETTINGS and LONG.
+  -- The index is that of a stored event, or the list's length.
   pub index : {a : Answer (List ℕ)} → Outcome r o xs store a → writeReply a .index ≤ length xs
   unfolding writeReply
   index (noRoom e) = zero-le
@@ -246,6 +248,7 @@ module _ {r : WriterRoom} {o : SettingNumbers} {xs : List Stored} {store : Text}
   index (tooLong e m h) = zero-le
   index (whole e m l) = zero-le
 
+  -- It is 0 on success, and for ROOM, SETTINGS and LONG.
   pub no-index : {a : Answer (List ℕ)} → Outcome r o xs store a
       → writeReply a .number ≤ numberOf long → writeReply a .index ≡ 0
   unfolding writeReply numberOf
@@ -274,12 +277,13 @@ too-long r o xs store = (
   λ h. ap (λ a. writeReply a .number) (too-long-refused r o xs store (h .0) (h .1) (h .2)),
 )
 
--- The count is that of the octets, and 0 after a refusal.
+-- The count is that of the octets.
 pub counts : (a : Answer (List ℕ)) (os : List ℕ) → a ≡ accepted os
     → writeReply a .octets ≡ length os
 unfolding writeReply
 counts a os e = rw e
 
+-- After a refusal it is 0.
 pub no-counts : (a : Answer (List ℕ)) → 0 < writeReply a .number → writeReply a .octets ≡ 0
 unfolding writeReply
 no-counts (refused k i) h = refl

@@ -10,7 +10,8 @@ use Rattle.spec_exi.specs.Tables.{Placed, Entry, Tables}
 use Rattle.spec_exi.specs.Grammar.{Production, Learned, Code}
 use Rattle.spec_exi.specs.Context.{Context}
 
--- ---- the same with every place 0, and a store of zeros
+-- ---- the same with every place 0, and a store of zeros: an entry, the tables, what is learned, a
+-- code, a context
 
 unfoldable pub unplaced : Placed → Placed
 unplaced x = record { place = 0; text = x .text }
@@ -48,7 +49,8 @@ unplacedContext c =
       grammars = c .grammars;
     }
 
--- ---- alike: the same but for places
+-- ---- alike: the same but for places. Reader and writer lay a text at different places; no bit,
+-- size or test depends on it (scope, "What is bought": lists are the same wherever their texts lie)
 
 pub record SameBy {A : Type 0} (f : A → A) (x y : A) : Type 0 where
   pub same : f x ≡ f y

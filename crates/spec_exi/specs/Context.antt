@@ -15,7 +15,7 @@ use Rattle.spec_exi.specs.Grammar.{startTag, elementContent, Learned, Co
 use Rattle.spec_exi.specs.Grammar.{levels, codeOf, siteOf, learnedAt, taught, learn}
 use Rattle.spec_exi.specs.Grammar.{grammarsAfter, stateAfter}
 
--- What an event is read and written by.
+-- What an event is read and written by: string tables (EXI 7.3) and grammars (EXI 8.4).
 pub record Context : Type 0 where
   pub state : State
   pub tables : Tables
@@ -23,7 +23,7 @@ pub record Context : Type 0 where
   -- the names of the elements that have a grammar
   pub grammars : List (QName Text)
 
--- The start of a stream.
+-- The start of a stream (scope, "Grammars": the strict form).
 unfoldable pub start : Settings → Context
 start s = record { state = document; tables = startTables s; learned = []; grammars = [] }
 
@@ -44,7 +44,7 @@ pub record Item : Type 0 where
 unfoldable pub item : Role → Text → Item
 item r x = record { role = r; written = true; text = x }
 
--- Characters stand only inside an element, and are values of its name.
+-- Characters stand only inside an element, and are values of its name (EXI 7.3.1).
 unfoldable pub characterRole : State → Role
 characterRole document = plain
 characterRole docContent = plain
@@ -71,7 +71,7 @@ items st p (characters v) = item (characterRole st) v ∷ []
 items st p (comment x) = item plain x ∷ []
 items st p (instruction x y) = item target x ∷ item plain y ∷ []
 
--- What a string leaves, by the form that it has in the strict form.
+-- What a string leaves, by the form that it has in the strict form (EXI 7.3; scope, "Grammars").
 unfoldable pub afterItem : Tables → Item → Tables
 afterItem t i =
     let form = formOf (partitionsOf t (i .role)) (i .text) in
@@ -84,8 +84,8 @@ afterItems t (i ∷ is) = afterItems (afterItem t i) is
 
 -- ---- what an event leaves
 
--- What an event with this code leaves, where its strings leave these tables and its name lies
--- there.
+-- What an event with this code leaves (EXI 8.4; scope, "Grammars": before the child is read), where
+-- its strings leave these tables and its name lies there.
 unfoldable pub after :
     Settings → Context → Code → Tables → Option (QName Placed) → Event Text → Context
 after s c x t q e =
@@ -103,7 +103,7 @@ unfoldable pub entryOf : List Placed → Text → Placed
 entryOf [] x = record { place = 0; text = x }
 entryOf (e ∷ es) x = cond (eqText (e .text) x) e (entryOf es x)
 
--- Where the entries of a name lie.
+-- Where the entries of a name lie (scope, "Sizes": a hit lies where its entry lies).
 unfoldable pub entriesOf : Tables → QName Text → QName Placed
 entriesOf t q =
     record { uri = entryOf (t .uris) (q .uri); local = entryOf (namesOf t (q .uri)) (q .local) }
@@ -115,8 +115,8 @@ afterCode s c (some x) e =
     let t = afterItems (c .tables) (items (c .state) (x .production) e) in
     after s c x t (Option·map (entriesOf t) (nameOf e)) e
 
--- What an event leaves in the strict form. One that no production fits stands in no well-formed
--- list, and leaves nothing.
+-- What an event leaves in the strict form (scope, "Grammars"). One that no production fits stands
+-- in no well-formed list, and leaves nothing.
 unfoldable pub next : Settings → Context → Event Text → Context
 next s c e = afterCode s c (codeOf (levelsIn s c) e) e
 

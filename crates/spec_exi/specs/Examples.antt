@@ -15,8 +15,8 @@ pub mod Scope
 pub mod Streams
 pub mod Places
 pub mod Refusals
-pub mod Numbers
 pub mod Bounds
+pub mod Numbers
 pub mod Written
 pub mod Pieces
 pub mod All

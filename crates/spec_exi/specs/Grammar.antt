@@ -11,8 +11,8 @@ use Rattle.spec_exi.specs.Event.{Kind, SD, ED, SE, AT, EE, CH, CM, PI, k
 use Rattle.spec_exi.specs.Settings.{Settings}
 use Rattle.spec_exi.specs.Tables.{Placed, nameText}
 
--- A production, by its terminal symbol. SE and AT with a name are learned; without one they are
--- SE(*) and AT(*).
+-- A production, by its terminal symbol (EXI 4, table 4-1). SE and AT with a name are learned;
+-- without one they are SE(*) and AT(*).
 pub record Production : Type 0 where
   pub kind : Kind
   -- the name that it carries, where the entries lie with which it was named
@@ -33,7 +33,7 @@ kindNumber CH = 5
 kindNumber CM = 6
 kindNumber PI = 7
 
--- The production has no name; of SE(*) and AT(*): the event's name is written.
+-- The production has no name; of SE(*) and AT(*): the event's name is written (EXI 7.1.7).
 unfoldable pub isWildcard : Option (QName Placed) → Bool
 isWildcard none = true
 isWildcard (some q) = false
@@ -44,17 +44,18 @@ fitsName none n = true
 fitsName (some q) none = false
 fitsName (some q) (some p) = eqName (nameText q) p
 
--- A production fits an event of its kind, and of its name where it has one.
+-- A production fits an event of its kind, and of its name where it has one (EXI 8.1).
 unfoldable pub fits : Production → Event Text → Bool
 fits p e = eqb (kindNumber (p .kind)) (kindNumber (kindOf e)) && fitsName (p .qname) (nameOf e)
 
--- ---- states (the grammars' left-hand sides). The two of an element's grammar hold its name and
+-- ---- states: the grammars' left-hand sides (EXI 8.4.1, 8.4.3: Document, DocContent, DocEnd,
+-- StartTagContent, ElementContent), and the end. The two of an element's grammar hold its name and
 -- those of the elements around it, the innermost first
 pub data State : Type 0 where
   document docContent docEnd finished : State
   startTag elementContent : QName Text → List (QName Text) → State
 
--- The open elements, the innermost first.
+-- The open elements, the innermost first (scope, "Sizes").
 unfoldable pub openElements : State → List (QName Text)
 openElements document = []
 openElements docContent = []
@@ -76,7 +77,8 @@ eqSite (tagOf p) (contentOf q) = false
 eqSite (contentOf p) (tagOf q) = false
 eqSite (contentOf p) (contentOf q) = eqName p q
 
--- Only the two states of an element's grammar learn.
+-- Only the two states of an element's grammar learn (EXI 8.4.3; scope, "Grammars": document content
+-- learns nothing).
 unfoldable pub siteOf : State → Option Site
 siteOf document = none
 siteOf docContent = none
@@ -95,7 +97,7 @@ unfoldable pub learnedIn : Site → List Learned → List Production
 learnedIn k [] = []
 learnedIn k (x ∷ xs) = cond (eqSite k (x .site)) (x .production ∷ learnedIn k xs) (learnedIn k xs)
 
--- What is learned at a site, the newest first.
+-- What is learned at a site, the newest first: it has code 0, and raised the others (EXI 8.4.3).
 unfoldable pub learnedAt : Option Site → List Learned → List Production
 learnedAt none ls = []
 learnedAt (some k) ls = learnedIn k ls
@@ -130,12 +132,12 @@ allEmpty [] = true
 allEmpty ([] ∷ ls) = allEmpty ls
 allEmpty ((p ∷ ps) ∷ ls) = false
 
--- What the values of a part name: a production of its level or, where later levels (ls) have any,
--- the next level.
+-- What the values of a part name (EXI 6.2): a production of its level or, where later levels (ls)
+-- have any, the next level.
 unfoldable pub choices : List Production → List (List Production) → List (Option Production)
 choices l ls = map some l ++ cond (allEmpty ls) [] (none ∷ [])
 
--- An event code, as its parts, and the production that has it.
+-- An event code, as its parts, and the production that has it (EXI 6.2).
 pub record Code : Type 0 where
   pub parts : List ℕ
   pub production : Production
@@ -207,7 +209,7 @@ unfoldable pub taught :
     List Production → Code → Kind → Option (QName Placed) → Option Production
 taught ls x k q = cond (teaches ls x k) (some (record { kind = k; qname = q })) none
 
--- A production is learned at a site: the newest is first.
+-- A production is learned at a site: the newest is first (EXI 8.4.3).
 unfoldable pub learn : Option Site → Option Production → List Learned → List Learned
 learn none p ls = ls
 learn (some k) none ls = ls
@@ -218,7 +220,7 @@ unfoldable pub hasName : List (QName Text) → QName Text → Bool
 hasName [] q = false
 hasName (p ∷ ps) q = eqName p q || hasName ps q
 
--- An element of a new name has a new grammar.
+-- An element of a new name has a new grammar (EXI 8.4.3).
 unfoldable pub withGrammar : List (QName Text) → Option (QName Text) → List (QName Text)
 withGrammar gs none = gs
 withGrammar gs (some q) = cond (hasName gs q) gs (gs ++ (q ∷ []))
@@ -228,7 +230,7 @@ unfoldable pub grammarsAfter : List (QName Text) → Event Text → List (QName 
 grammarsAfter gs e =
     cond (eqb (kindNumber (kindOf e)) (kindNumber SE)) (withGrammar gs (nameOf e)) gs
 
--- A start tag's content begins; in other states nothing changes.
+-- A start tag's content begins; in other states nothing changes (EXI 8.4.1, 8.4.3).
 unfoldable pub inContent : State → State
 inContent document = document
 inContent docContent = docContent
@@ -237,8 +239,8 @@ inContent finished = finished
 inContent (startTag q outer) = elementContent q outer
 inContent (elementContent q outer) = elementContent q outer
 
--- The innermost of the open elements ends; after the root comes the end of the document. (The first
--- clause is not reached: an end element closes an open one.)
+-- The innermost of the open elements ends; after the root comes the end of the document (EXI
+-- 8.4.1). The first clause is not reached: an end element closes an open one.
 unfoldable pub closed : Settings → List (QName Text) → State
 closed s [] = docEnd
 closed s (q ∷ []) = docEnd
@@ -256,7 +258,7 @@ stateAfter s st (characters v) = inContent st
 stateAfter s st (comment x) = inContent st
 stateAfter s st (instruction x y) = inContent st
 
--- The end document has come.
+-- The end document has come (EXI 6: nothing is coded after it).
 unfoldable pub isFinished : State → Bool
 isFinished document = false
 isFinished docContent = false

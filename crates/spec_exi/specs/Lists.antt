@@ -21,7 +21,7 @@ every f (x ∷ xs) = f x && every f xs
 -- ---- well-formed: start document; comments and instructions; one element, balanced; comments and
 -- instructions; end document; nothing after
 
--- Comments and instructions, as the settings keep them.
+-- Comments and instructions, as the settings keep them (scope, "What is bought").
 pub data Misc (s : Settings) : List (Event Text) → Type 0 where
   nothing : Misc s []
   aComment : {l : List (Event Text)} (x : Text) → T (s .comments) → Misc s l
@@ -37,7 +37,7 @@ mutual
         → Inner s (attribute q v ∷ l)
     noMore : {l : List (Event Text)} → Content s l → Inner s l
 
-  -- Characters, comments and instructions, and elements.
+  -- Characters, comments and instructions, and elements, each with its end (EXI 4).
   pub data Content (s : Settings) : List (Event Text) → Type 0 where
     nothing : Content s []
     someCharacters : {l : List (Event Text)} (v : Text) → Content s l → Content s (characters v ∷ l)
@@ -48,7 +48,7 @@ mutual
     anElement : {inner l : List (Event Text)} (q : QName Text) → Inner s inner → Content s l
         → Content s (startElement q ∷ (inner ++ endElement ∷ l))
 
--- A whole list.
+-- A whole list (scope, "What is bought").
 pub data Document (s : Settings) : List (Event Text) → Type 0 where
   aDocument : {before inner behind : List (Event Text)} (q : QName Text) → Misc s before
       → Inner s inner → Misc s behind
@@ -56,7 +56,7 @@ pub data Document (s : Settings) : List (Event Text) → Type 0 where
       (startDocument ∷ (before ++ startElement q ∷ (inner ++ endElement
       ∷ (behind ++ endDocument ∷ []))))
 
--- The event has no name that row 11 refuses.
+-- The event has no name that row 11 refuses (scope, "Refusal numbers").
 unfoldable pub namesAllowed : Event Text → Bool
 namesAllowed startDocument = true
 namesAllowed endDocument = true
@@ -67,7 +67,7 @@ namesAllowed (characters v) = true
 namesAllowed (comment x) = true
 namesAllowed (instruction x y) = nameAllowed target x
 
--- Only Chars in its strings.
+-- Only Chars in its strings (scope, "What is bought").
 unfoldable pub charsOnly : Event Text → Bool
 charsOnly e = every allChars (stringsOf e)
 
@@ -81,7 +81,7 @@ pub record WellFormed (s : Settings) (l : List (Event Text)) : Type 0 where
 -- ---- inside the limits (scope, "Sizes"): the list and its strict form pass no size (z)
 
 module _ (z : Sizes) where
-  -- The tables and the store.
+  -- The tables and the store (scope, "Sizes").
   unfoldable pub withinTables : Tables → Bool
   withinTables t =
       leb (length (t .uris)) (z .uris)
@@ -89,7 +89,7 @@ module _ (z : Sizes) where
       && leb (length (t .values)) (z .values)
       && leb (length (t .store)) (z .store)
 
-  -- Open elements, element grammars, learned productions.
+  -- Open elements, element grammars, learned productions (scope, "Sizes").
   unfoldable pub withinGrammars : Context → Bool
   withinGrammars c =
       leb (length (openElements (c .state))) (z .opened)
@@ -105,7 +105,7 @@ module _ (z : Sizes) where
   staysWithin s c [] = true
   staysWithin s c (e ∷ l) = within (next s c e) && staysWithin s (next s c e) l
 
-  -- The length of one string.
+  -- The length of one string (scope, "Sizes").
   unfoldable pub short : Text → Bool
   short x = leb (length x) (z .string)
 
@@ -124,7 +124,7 @@ module _ (z : Sizes) where
     pub list : InsideTables s l
     pub octets : length (strict s l) ≤ z .stream
 
--- A well-formed list inside the limits: demands 2 and 3 speak of these.
+-- A well-formed list inside the limits, under the product's sizes: demands 2 and 3 speak of these.
 pub record Good (s : Settings) (l : List (Event Text)) : Type 0 where
   pub wellFormed : WellFormed s l
   pub limits : InsideLimits sizes s l

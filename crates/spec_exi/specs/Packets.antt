@@ -1,4 +1,5 @@
--- A stream that comes in pieces: what is answered to the octets so far, however they were cut.
+-- A stream that comes in pieces (P8, "The stream in packets"): what is answered to the octets so
+-- far, however they were cut.
 use Rattle.spec_fields.specs.Prelude.{ℕ, zero, suc, _≡_, cond, List, [], _∷_, _++_, eqb}
 use Rattle.spec_fields.specs.Bits.{Bits, unpack}
 use Rattle.spec_fields.specs.Refusal.{numberOf, ended, Answer, refused, accepted}
@@ -35,22 +36,22 @@ unfoldable pub afterHeader : Settings → Result (Unit {0}) → Reading
 afterHeader s (bad k) = nothingYet (start s)
 afterHeader s (got u bs) = firstEvents maxEvents s (start s) bs
 
--- The events that are complete in these octets, and the text store with their literals.
+-- The events that are complete in these octets, and the text store with their literals (P8).
 unfoldable pub complete : Settings → List ℕ → Reading
 complete s octets = afterHeader s (readHeader (headerOf s) (unpack octets))
 
--- Octets that end are no refusal yet.
+-- Octets that end are no refusal yet: any number but ENDED is one (P8).
 unfoldable pub soFar : Reading → Answer Reading → Answer Reading
 soFar whole (refused k i) =
     cond (eqb (numberOf k) (numberOf ended)) (accepted whole) (refused k i)
 soFar whole (accepted r) = accepted r
 
 -- The answer after a piece, by the octets so far: that of these, read whole, or the events that are
--- complete in them. The closing call's answer is `read`.
+-- complete in them (P8). The closing call's answer is `read`.
 unfoldable pub receive : ReaderRoom → SettingNumbers → List ℕ → Answer Reading
 receive r o octets = soFar (complete (settingsOf o) octets) (read r o octets)
 
--- The later reading begins with the earlier one's events and text store.
+-- The later reading begins with the earlier one's events and text store (P8).
 pub record Begins (x y : Reading) : Type 0 where
   pub events : List (Event Placed)
   pub literals : Text

@@ -37,7 +37,8 @@ readCharacter s = do
   return p
 
 module _ (z : Sizes) (s : Settings) where
-  -- A literal of n code points: the length limit, the store limit, then the characters.
+  -- A literal of n code points (EXI 7.1.10): the length limit, the store limit, then the characters
+  -- (scope, "Refusal numbers", "Order").
   unfoldable pub readLiteral : Tables → ℕ → Parser (Form × Placed)
   readLiteral t n = do
     need (leb n (z .string)) limit
@@ -45,7 +46,8 @@ module _ (z : Sizes) (s : Settings) where
     x ← times n (readCharacter s)
     return (literal, laid t x)
 
-  -- A number that names no entry is REFERENCE. (The second test passes, as yet: no slot is empty.)
+  -- A number that names no entry is REFERENCE (scope, "Refusal numbers", 9). The second test
+  -- passes, as yet: no slot is empty.
   unfoldable pub readHit : ℕ → List Slot → Parser (Form × Placed)
   readHit j es = do
     (i, slot) ← choice (s .alignment) reference es
@@ -72,14 +74,15 @@ module _ (z : Sizes) (s : Settings) where
     e ← present reference slot
     return (hit 0 (v - 1), e)
 
-  -- The form of a string, by its partitions.
+  -- The form of a string, by its partitions (EXI 7.3).
   unfoldable pub readForm : Tables → Partitions → Parser (Form × Placed)
   readForm t (compact es) = do
     (v, e) ← choice (s .alignment) reference (none ∷ map some es)
     readEntry t v e
   readForm t (literals ess) = readByLiterals t ess
 
-  -- A string and the tables after it: its form, then LOOSE, NAME, its table's limit.
+  -- A string and the tables after it: its form, then LOOSE, NAME, its table's limit (scope,
+  -- "Refusal numbers", "Order").
   unfoldable pub readString : Tables → Role → Parser (Placed × Tables)
   readString t r = do
     (f, x) ← readForm t (partitionsOf t r)
@@ -91,7 +94,8 @@ module _ (z : Sizes) (s : Settings) where
 
   -- ---- events
 
-  -- A name that a learned production carries is not read, and lies where the production has it.
+  -- A name that a learned production carries is not read, and lies where the production has it (EXI
+  -- 7.1.7; scope, "Sizes").
   unfoldable pub readName :
       Tables → Bool → Option (QName Placed) → Parser (QName Placed × Tables)
   readName t attr (some q) = return (q, t)
@@ -131,7 +135,8 @@ readPart v none deeper = do
   x ← deeper
   return (below v x)
 
--- An event code (EXI 6.2), part by part; a part that names no production is CODE.
+-- An event code (EXI 6.2), part by part; a part that names no production is CODE (scope, "Refusal
+-- numbers", 6).
 unfoldable pub readCode : Alignment → List (List Production) → Parser Code
 readCode a [] = fail code
 readCode a (l ∷ ls) = do
@@ -139,7 +144,8 @@ readCode a (l ∷ ls) = do
   readPart v p (readCode a ls)
 
 -- One event and the context that it leaves: its code, its content, LOOSE for the production, then
--- open elements, element grammars and learned productions.
+-- open elements, element grammars and learned productions (EXI 6; scope, "Refusal numbers",
+-- "Order").
 unfoldable pub step : Sizes → Settings → Context → Parser (Event Placed × Context)
 step z s c = do
   x ← readCode (s .alignment) (levelsIn s c)
@@ -151,17 +157,19 @@ step z s c = do
 
 -- ---- the whole stream
 
--- The list, each string with the place where it lies, and the text store.
+-- The list, each string with the place where it lies, and the text store (scope, "Sizes").
 pub record Reading : Type 0 where
   pub events : List (Event Placed)
   pub store : Text
 
--- One event stands before what this answer is about.
+-- One event stands before what this answer is about: the index counts it (scope, "Refusal
+-- numbers").
 unfoldable pub following : Event Placed → Answer Reading → Answer Reading
 following e (refused k i) = refused k (suc i)
 following e (accepted r) = accepted (record { events = e ∷ r .events; store = r .store })
 
--- After the end of the document only pad bits may stand; else TAIL. (s is not used, as yet.)
+-- After the end of the document only pad bits may stand; else TAIL (scope, "Refusal numbers", 13).
+-- (s is not used, as yet.)
 unfoldable pub ending : Settings → Context → Bits → Answer Reading
 ending s c rest =
     let reading : Reading = record { events = []; store = c .tables .store } in
@@ -174,12 +182,12 @@ onward s rest (bad k) = refused k 0
 onward s rest (got (e, c) bs) =
     let more = rest c bs in following e (cond (isFinished (c .state)) (ending s c bs) more)
 
--- At most n more events.
+-- At most n more events: the event limit comes before the code (scope, "Refusal numbers", "Order").
 unfoldable pub readEvents : ℕ → Sizes → Settings → Context → Bits → Answer Reading
 readEvents zero z s c bs = refused limit 0
 readEvents (suc n) z s c bs = onward s (λ c′ rest. readEvents n z s c′ rest) (step z s c bs)
 
--- Each octet of the header is a field.
+-- Each octet of the header is a field: ENDED, then HEADER (scope, "Refusal numbers", "Order").
 unfoldable pub readHeader : List ℕ → Parser (Unit {0})
 readHeader [] = return tt
 readHeader (h ∷ hs) = do
@@ -187,7 +195,7 @@ readHeader (h ∷ hs) = do
   need (eqb o h) header
   readHeader hs
 
--- The events after the header.
+-- The events after the header (EXI 4).
 unfoldable pub readBody : Sizes → Settings → Result (Unit {0}) → Answer Reading
 readBody z s (bad k) = refused k 0
 readBody z s (got u bs) = readEvents (z .events) z s (start s) bs
@@ -196,7 +204,7 @@ readBody z s (got u bs) = readEvents (z .events) z s (start s) bs
 unfoldable pub readStream : Sizes → Settings → List ℕ → Answer Reading
 readStream z s stream = readBody z s (readHeader (headerOf s) (unpack stream))
 
--- The lengths of the parts that are lent, in cells.
+-- The lengths of the parts that are lent, in cells (scope, "Sizes": memory to lend).
 pub record ReaderRoom : Type 0 where
   pub events : ℕ
   pub text : ℕ
@@ -208,7 +216,8 @@ enoughToRead z r =
     leb (cellsPerEvent * z .events) (r .events) && leb (z .store) (r .text)
     && leb (z .work) (r .work)
 
--- The reader's answer under these sizes: ROOM, SETTINGS, LONG, then in stream order.
+-- The reader's answer under these sizes: ROOM, SETTINGS, LONG, then in stream order (scope,
+-- "Refusal numbers", "Order").
 unfoldable pub readSized : Sizes → ReaderRoom → SettingNumbers → List ℕ → Answer Reading
 readSized z r o stream =
     cond (not (enoughToRead z r)) (refused room 0)
@@ -216,7 +225,7 @@ readSized z r o stream =
     (cond (not (leb (length stream) (z .stream))) (refused long 0)
     (readStream z (settingsOf o) stream)))
 
--- The reader's answer.
+-- The reader's answer, under the product's sizes.
 unfoldable pub read : ReaderRoom → SettingNumbers → List ℕ → Answer Reading
 read = readSized sizes
 
@@ -225,7 +234,8 @@ unfoldable pub listOf : Answer Reading → Answer (List (Event Text))
 listOf (refused k i) = refused k i
 listOf (accepted r) = accepted (map eventText (r .events))
 
--- The numbers of an answer: on success number and index are 0, after a refusal the counts are.
+-- The numbers of an answer: on success number and index are 0, after a refusal the counts are
+-- (scope, "Refusal numbers").
 pub record ReadReply : Type 0 where
   pub number : ℕ
   pub index : ℕ

@@ -12,7 +12,7 @@ pub record Settings : Type 0 where
   pub comments : Bool
   pub instructions : Bool
 
--- The settings' numbers, as a caller hands them over: all 0 is the base.
+-- The settings' numbers, as a caller hands them over (ours): all 0 is the base.
 pub record SettingNumbers : Type 0 where
   pub alignment : ℕ
   pub cookie : ℕ
@@ -28,7 +28,8 @@ pub record SettingNumbers : Type 0 where
   pub grammarCap : ℕ
 
 -- Each number has a meaning (which numbers is our choice): alignment 0 is bit-packed and 1
--- byte-aligned, cookie, comments and instructions 0 is no and 1 yes.
+-- byte-aligned, cookie, comments and instructions 0 is no and 1 yes. Else SETTINGS (scope, "Refusal
+-- numbers", 2).
 unfoldable pub meaningful : SettingNumbers → Bool
 meaningful o =
     leb (o .alignment) 1
@@ -42,7 +43,7 @@ meaningful o =
     && eqb (o .prefixes) 0
     && eqb (o .grammarCap) 0
 
--- What the numbers mean.
+-- What the numbers mean (scope, "What is bought").
 unfoldable pub settingsOf : SettingNumbers → Settings
 settingsOf o =
     record {

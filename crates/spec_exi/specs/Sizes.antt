@@ -2,7 +2,7 @@
 -- each (crates/sizes).
 use Rattle.spec_fields.specs.Prelude.{ℕ, _+_, _*_, _≤_}
 
--- octets of a stream
+-- octets of a stream (LONG; the others are LIMIT's)
 unfoldable pub maxStream : ℕ
 maxStream = 16384
 
@@ -42,11 +42,11 @@ maxString = 4096
 unfoldable pub maxStore : ℕ
 maxStore = 16384
 
--- cells of an event (ours: docs/MEMORY.md)
+-- cells of an event (ours: docs/MEMORY.md; scope, "What is bought")
 unfoldable pub cellsPerEvent : ℕ
 cellsPerEvent = 9
 
--- cells of work memory (ours)
+-- cells of work memory (ours: docs/MEMORY.md; scope, "Sizes")
 unfoldable pub readerWork : ℕ
 readerWork = 18432
 
@@ -66,7 +66,7 @@ pub record Sizes : Type 0 where
   -- cells of work memory
   pub work : ℕ
 
--- The product's.
+-- The product's: the scope's, with P2's strings and values.
 abbrev pub sizes : Sizes
 sizes =
     record {
@@ -83,7 +83,7 @@ sizes =
       work = readerWork;
     }
 
--- The scope's own, before strings and values grew.
+-- The scope's own, before P2 ("Longer notes, more values").
 unfoldable pub baseSizes : Sizes
 baseSizes =
     record {
@@ -100,7 +100,7 @@ baseSizes =
       work = readerWork;
     }
 
--- No size of y is above that of z. (Memory is each side's own.)
+-- No size of y is above that of z (P2). Memory is each side's own.
 pub record NoLarger (y z : Sizes) : Type 0 where
   pub stream : y .stream ≤ z .stream
   pub events : y .events ≤ z .events
@@ -115,7 +115,7 @@ pub record NoLarger (y z : Sizes) : Type 0 where
 
 -- ---- what is lent, in cells of 32 bits
 
--- Cells for the events.
+-- Cells for the events (scope, "Sizes": memory to lend).
 unfoldable pub eventCells : ℕ
 eventCells = cellsPerEvent * maxEvents
 

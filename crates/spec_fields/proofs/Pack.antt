@@ -59,7 +59,7 @@ unpack-injective a b ha hb e =
     let l : length a ≡ length b = omega (arith, length-unpack a, length-unpack b, ap length e) in
     sym (from-unpack a ha) ∙ ap₂ octetsFrom l e ∙ from-unpack b hb
 
--- Zeros behind the bits stand where `octetsFrom` puts zeros for missing bits: after k bits, y is
+-- Zeros after the bits stand where `octetsFrom` puts zeros for missing bits: after k bits, y is
 -- what is left of them.
 cut : (k m : ℕ) (bs z : Bits) → k ≤ m → T (allZero z) → k ≤ length (bs ++ z)
     → (y : Bits) × T (allZero y) × (take k (bs ++ replicate m false) ++ (drop k bs ++ y) ≡ bs ++ z)
@@ -90,7 +90,7 @@ unfolding allZero
 zeros zero = tt
 zeros (suc n) = zeros n
 
--- What was packed unpacks to itself and padding.
+-- What was packed unpacks to itself and padding (scope, "Fields": zero pad bits to the octet).
 pub unpack-pack : (bs : Bits) → (z : Bits) × (unpack (pack bs) ≡ bs ++ z) × T (isPadding z)
 unfolding pack isPadding octetsFor
 unpack-pack bs =

@@ -19,6 +19,7 @@ module _ (P : Refusal → Bool) where
   pub record Says {A : Type 0} (p : Parser A) : Type 0 where
     pub refuses : (bs : Bits) (k : Refusal) → p bs ≡ bad k → T (P k)
 
+  -- What is put together of parsers refuses as they do, by a test with its refusal too.
   module _ {A : Type 0} where
     pub says-return : (a : A) → Says (return a)
     unfolding return
@@ -37,6 +38,7 @@ module _ (P : Refusal → Bool) where
     says-cond true f g = f
     says-cond false f g = g
 
+  -- One after the other.
   pub says-then : {A B : Type 0} {p : Parser A} {f : A → Parser B} → Says p → ((a : A) → Says (f a)) → Says (p >>= f)
   unfolding _>>=_ andThen
   says-then {A} {B} {p} {f} h g = record { refuses = λ bs k e. go bs k (p bs) refl e }
@@ -50,6 +52,7 @@ module _ (P : Refusal → Bool) where
   says-guard true k t h = says-then (says-return tt) (λ _. h)
   says-guard false k t h = says-then (says-fail k t) (λ _. h)
 
+  -- n times.
   pub says-times : {A : Type 0} {p : Parser A} (n : ℕ) → Says p → Says (times n p)
   unfolding times
   says-times zero h = says-return []

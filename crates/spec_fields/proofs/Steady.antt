@@ -20,6 +20,7 @@ pub record Steady {A : Type 0} (p : Parser A) : Type 0 where
   pub reads : (bs : Bits) (a : A) (rest more : Bits) → p bs ≡ got a rest → p (bs ++ more) ≡ got a (rest ++ more)
   pub refuses : (bs : Bits) (k : Refusal) (more : Bits) → p bs ≡ bad k → (k ≡ ended → ⊥) → p (bs ++ more) ≡ bad k
 
+-- What is put together of steady parsers is steady.
 module _ {A : Type 0} where
   pub steady-return : (a : A) → Steady (return a)
   unfolding return

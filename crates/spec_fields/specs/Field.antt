@@ -12,7 +12,7 @@ pub data Alignment : Type 0 where
 
 -- ---- bits and octets
 
--- One bit; where there is none, the input ends inside a field: ENDED.
+-- One bit; where there is none, the input ends inside a field: ENDED (scope, "Refusal numbers", 5).
 unfoldable pub bit : Parser Bool
 bit [] = bad ended
 bit (b ∷ bs) = got b bs
@@ -26,7 +26,7 @@ octet = do
 -- ---- n-bit Unsigned Integer (EXI 7.1.9): n bits, most significant first; byte-aligned the fewest
 -- octets that hold n bits, least significant octet first
 
--- The k lowest octets of v, least significant first.
+-- The k lowest octets of v, least significant first (EXI 7.1.9).
 unfoldable pub littleEndian : ℕ → ℕ → List ℕ
 littleEndian zero v = []
 littleEndian (suc k) v = v % 256 ∷ littleEndian k (v / 256)
@@ -36,12 +36,12 @@ unfoldable pub littleValue : List ℕ → ℕ
 littleValue [] = 0
 littleValue (o ∷ os) = o + 256 * littleValue os
 
--- The field of v in n bits.
+-- The field of v in n bits (EXI 7.1.9).
 unfoldable pub numberBits : Alignment → ℕ → ℕ → Bits
 numberBits bitPacked n v = bitsOf n v
 numberBits byteAligned n v = unpack (littleEndian (octetsFor n) v)
 
--- Reads a field of n bits. Byte-aligned, all bits of its octets are the number.
+-- Reads a field of n bits (EXI 7.1.9). Byte-aligned, all bits of its octets are the number.
 unfoldable pub numberField : Alignment → ℕ → Parser ℕ
 numberField bitPacked n = do
   bs ← times n bit
@@ -57,7 +57,7 @@ unfoldable pub widthFrom : ℕ → ℕ → ℕ → ℕ
 widthFrom zero n m = n
 widthFrom (suc k) n m = let wider = widthFrom k (suc n) m in cond (leb m (2 ^ n)) n wider
 
--- The width of a choice among m.
+-- The width of a choice among m (EXI 6.2: the logarithm of m, rounded up; scope, "Fields").
 unfoldable pub width : ℕ → ℕ
 width m = widthFrom m 0 m
 
@@ -65,7 +65,8 @@ width m = widthFrom m 0 m
 unfoldable pub choiceBits : Alignment → ℕ → ℕ → Bits
 choiceBits a m v = numberBits a (width m) v
 
--- A choice among the members of a list: the number and the member; k where the number names none.
+-- A choice among the members of a list: the number and the member; k where the number names none
+-- (scope, "Refusal numbers": CODE or REFERENCE).
 unfoldable pub choice : {A : Type 0} → Alignment → Refusal → List A → Parser (ℕ × A)
 choice a k l = do
   v ← numberField a (width (length l))
@@ -76,11 +77,11 @@ choice a k l = do
 -- first, the top bit set on all but the last; at most 5 octets, and a number up to 2,147,483,647
 -- (scope, "Refusal numbers", 7)
 
--- Octets of an Unsigned Integer.
+-- Octets of an Unsigned Integer, at most (scope, "Refusal numbers", 7).
 unfoldable pub maxOctets : ℕ
 maxOctets = 5
 
--- The largest Unsigned Integer: 2 ^ 31 - 1.
+-- The largest Unsigned Integer: 2 ^ 31 - 1 (EXI 7.1.6; scope, "Refusal numbers", 7).
 unfoldable pub maxUnsigned : ℕ
 maxUnsigned = 2147483647
 
@@ -89,7 +90,7 @@ unfoldable pub groups : ℕ → ℕ → List ℕ
 groups zero v = []
 groups (suc k) v = let more = (v % 128 + 128) ∷ groups k (v / 128) in cond (ltb v 128) (v ∷ []) more
 
--- An Unsigned Integer in fewest octets.
+-- An Unsigned Integer in fewest octets (EXI 7.1.6).
 unfoldable pub unsignedBits : ℕ → Bits
 unsignedBits v = unpack (groups maxOctets v)
 
@@ -104,7 +105,7 @@ grouped (suc k) = do
     return ((o - 128) + 128 * high, fewest && ltb 0 high)
   cond (ltb o 128) (return (o, true)) more
 
--- A number that is too large, or not in fewest octets, is NUMBER.
+-- A number that is too large, or not in fewest octets, is NUMBER (scope, "Refusal numbers", 7).
 unfoldable pub unsigned : Parser ℕ
 unsigned = do
   (v, fewest) ← grouped maxOctets

@@ -1,4 +1,5 @@
--- Parsers of bits: a refusal, or a value and the bits that are left.
+-- Parsers of bits: a refusal, or a value and the bits that are left. They are how the scope's "goes
+-- by stream order" is said ("Refusal numbers", "Order"): what fails first is answered.
 use Rattle.spec_fields.specs.Prelude.{ℕ, zero, suc, Bool, true, false, List, [], _∷_, Option}
 use Rattle.spec_fields.specs.Prelude.{none, some}
 use Rattle.spec_fields.specs.Bits.{Bits}

@@ -13,11 +13,13 @@ parts : (a b : Bool) → T (a && b) → T a × T b
 parts true b t = (tt, t)
 parts false b t = absurd t
 
+-- A text is the same as itself.
 pub eqText-refl : (x : Text) → T (eqText x x)
 unfolding eqText
 eqText-refl [] = tt
 eqText-refl (c ∷ x) = both (eqb c c) (eqText x x) (eqb-refl c) (eqText-refl x)
 
+-- Texts that the test finds the same are equal.
 pub eqText-eq : (x y : Text) → T (eqText x y) → x ≡ y
 unfolding eqText
 eqText-eq [] [] t = refl
@@ -31,5 +33,6 @@ fails : (b : Bool) → (T b → ⊥) → b ≡ false
 fails true h = absurd (h tt)
 fails false h = refl
 
+-- Texts that it finds different are not.
 pub eqText-no : (x y : Text) → (x ≡ y → ⊥) → eqText x y ≡ false
 eqText-no x y h = fails (eqText x y) (λ t. h (eqText-eq x y t))

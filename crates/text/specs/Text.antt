@@ -8,7 +8,7 @@ use mathlib.Core.List.{List, [], _∷_}
 use lib.ListN.{length, take, drop}
 use lib.Dec.{eqb, leb}
 
--- Code points, one number each.
+-- Code points, one number each (scope, "What is bought").
 abbrev pub Text : Type 0
 Text = List ℕ
 
@@ -17,7 +17,7 @@ unfoldable pub text : String → Text
 text String.[] = []
 text (String._∷_ c s) = code c ∷ text s
 
--- Two texts are the same when their code points are.
+-- Two texts are the same when their code points are (scope, "What is bought").
 unfoldable pub eqText : Text → Text → Bool
 eqText [] [] = true
 eqText [] (y ∷ ys) = false
@@ -42,7 +42,7 @@ unfoldable pub allChars : Text → Bool
 allChars [] = true
 allChars (p ∷ ps) = isChar p && allChars ps
 
--- A string in a store.
+-- A string in a store: a place and a length (scope, "What is bought").
 pub record Span : Type 0 where
   pub place : ℕ
   pub size : ℕ

@@ -1,4 +1,5 @@
 -- The claims of specs/Cells.antt: one line each, which points to its proof.
+use Rattle.event.proofs.Examples.{cell-examples}
 use Rattle.theorems.specs.Cells.{CellTheorems}
 use Rattle.theorems.proofs.Left as left
 use Rattle.theorems.proofs.Round as round
@@ -22,4 +23,5 @@ cell-theorems =
         one-stream = λ a b c d l. round.one-stream c d l;
         no-prefix = λ a b c d. round.no-prefix c d;
       };
+      event-cells = cell-examples;
     }

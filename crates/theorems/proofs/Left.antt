@@ -87,6 +87,7 @@ module _ (n : ℕ) where
 
 module _ {s : SettingNumbers} {stream : List ℕ} {m m′ : ReaderLent} {r : ReadReply}
     (p : ReadPost s stream m m′ r) where
+  -- Whatever meets the reader's contract meets demand 1.
   pub demand-1-read : Demand1Read s stream m m′ r
   unfolding reader.answerOf replyOf readReply eventsFilled textFilled
   demand-1-read =
@@ -115,6 +116,7 @@ module _ {s : SettingNumbers} {stream : List ℕ} {m m′ : ReaderLent} {r : Rea
 
 module _ {s : SettingNumbers} {events : List ℕ} {text : Text} {m m′ : WriterLent} {r : WriteReply}
     (p : WritePost s events text m m′ r) where
+  -- Whatever meets the writer's contract meets demand 1.
   pub demand-1-write : Demand1Write s events text m m′ r
   unfolding writer.answerOf writer.replyOf writeReply filled
   demand-1-write =
@@ -145,6 +147,7 @@ module _ {s : SettingNumbers} {stream : List ℕ} (c : ReadCall s stream) where
 
   -- Accepted with this reading.
   module _ (x : Reading) (q : read (readerRoom (c .before)) (numbersOf s) stream ≡ accepted x) where
+    -- The counted cells are the events'.
     pub events-left : eventsLeft c ≡ cellsOfAll (x .events)
     unfolding reader.answerOf replyOf readReply eventsFilled cellsPerEvent
     events-left =
@@ -153,6 +156,7 @@ module _ {s : SettingNumbers} {stream : List ℕ} (c : ReadCall s stream) where
         ap₂ (λ (n : ℕ) (l : List ℕ). take (9 * n) l) count cells
         ∙ take-at (cellsOfAll (x .events)) _ (9 * length (x .events)) (cells-size (x .events))
 
+    -- The counted code points are the store.
     pub text-left : textLeft c ≡ x .store
     unfolding reader.answerOf replyOf readReply textFilled
     text-left =
@@ -161,6 +165,7 @@ module _ {s : SettingNumbers} {stream : List ℕ} (c : ReadCall s stream) where
         ap₂ (λ (n : ℕ) (l : List ℕ). take n l) count cells
         ∙ take-at (x .store) _ (length (x .store)) refl
 
+    -- The counted cells mean the events.
     pub stored-left : eventsOf (eventsLeft c) ≡ map storedOf (x .events)
     stored-left = ap eventsOf events-left ∙ cells-mean (x .events)
 
@@ -172,15 +177,18 @@ module _ {s : SettingNumbers} {stream : List ℕ} (c : ReadCall s stream) where
       ap₂ (λ (y : Text) (xs : List Stored). meant y xs) (text-left x q) (stored-left x q) ∙ t,
     )
 
+  -- Number 0: the definitions accept.
   pub accepted-when-zero : c .reply .number ≡ 0
       → (l : List (Event Text)) × Accepts (readerRoom (c .before)) (numbersOf s) stream l
   accepted-when-zero z =
       demands.accepted-when-zero (readerRoom (c .before)) (numbersOf s) stream .0
       (sym number-is ∙ z)
 
+  -- Number 0: what is left means a list (demand 3).
   pub a-list : c .reply .number ≡ 0 → (l : List (Event Text)) × Leaves c l
   a-list z = let (l, a) = accepted-when-zero z in (l, leaves-accepted l a)
 
+  -- What is left means l just where the definitions answer l.
   pub leaves : (l : List (Event Text))
       → Leaves c l ↔ Accepts (readerRoom (c .before)) (numbersOf s) stream l
   leaves l = (λ h. accepts h, leaves-accepted l)
@@ -206,6 +214,7 @@ module _ {s : SettingNumbers} {events : List ℕ} {text : Text} (w : WriteCall s
             ∙ take-at stream _ (length stream) refl,
       )
 
+  -- The counted octets are a stream just where the definitions answer it.
   pub gives : (stream : List ℕ)
       → Gives w stream
       ↔ (write (writerRoom (w .before)) (numbersOf s) (eventsOf events) text ≡ accepted stream)

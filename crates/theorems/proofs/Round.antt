@@ -70,6 +70,7 @@ enough p o stream x q =
 -- ---- demand 2
 
 module _ {s : SettingNumbers} where
+  -- Written are exactly the good lists, in their strict form.
   pub written : {events : List ℕ} {text : Text} (w : WriteCall s events text) (stream : List ℕ)
       → Gives w stream
       ↔ (CanWrite w
@@ -80,6 +81,7 @@ module _ {s : SettingNumbers} where
       let d = demands.written r (numbersOf s) (eventsOf events) text stream in
       (λ h. d .0 (gives w stream .0 h), λ g. gives w stream .1 (d .1 g))
 
+  -- What was written is read as that list.
   pub read-back : {events : List ℕ} {text : Text} (w : WriteCall s events text)
       (c : ReadCall s (octetsLeft w)) (l : List (Event Text)) → CanRead c
       → w .reply .number ≡ 0 → Hold events text l → Leaves c l
@@ -88,6 +90,7 @@ module _ {s : SettingNumbers} where
       (demands.read-back (writerRoom (w .before)) (readerRoom (c .before)) (numbersOf s)
       (eventsOf events) text l (octetsLeft w) (can .0) h (gives w (octetsLeft w) .0 (z, refl)))
 
+  -- What was read is written as those octets.
   pub written-back : {stream : List ℕ} (c : ReadCall s stream)
       (w : WriteCall s (eventsLeft c) (textLeft c)) → CanWrite w → AreOctets stream
       → c .reply .number ≡ 0 → Gives w stream
@@ -101,6 +104,7 @@ module _ {s : SettingNumbers} where
 
   -- ---- demand 3
 
+  -- Accepted are exactly the strict forms of good lists.
   pub exact : {stream : List ℕ} (c : ReadCall s stream) (l : List (Event Text)) → AreOctets stream
       → Leaves c l ↔ (CanRead c × Good (asked s) l × (stream ≡ strict (asked s) l))
   exact {stream} c l octets =
@@ -109,6 +113,7 @@ module _ {s : SettingNumbers} where
         λ h. leaves c l .1 (d .1 (h .0 .0, h .0 .1, h .1, h .2)),
       )
 
+  -- Two calls on one stream leave one list.
   pub one-list : {stream : List ℕ} (c d : ReadCall s stream) (l k : List (Event Text))
       → Leaves c l → Leaves d k → l ≡ k
   one-list {stream} c d l k a b =
@@ -121,10 +126,12 @@ module _ {s : SettingNumbers} where
       Option·some-injective l k
       (sym t ∙ ap (λ (z : Reading). meant (z .store) (map storedOf (z .events))) same ∙ u)
 
+  -- Two streams that leave one list are one.
   pub one-stream : {a b : List ℕ} (c : ReadCall s a) (d : ReadCall s b) (l : List (Event Text))
       → AreOctets a → AreOctets b → Leaves c l → Leaves d l → a ≡ b
   one-stream c d l oa ob h k = exact c l oa .0 h .2 ∙ sym (exact d l ob .0 k .2)
 
+  -- No accepted stream begins a longer one.
   pub no-prefix : {a b : List ℕ} (c : ReadCall s a) (d : ReadCall s (a ++ b)) → AreOctets (a ++ b)
       → c .reply .number ≡ 0 → d .reply .number ≡ 0 → b ≡ []
   no-prefix {a} {b} c d octets y z =
@@ -145,6 +152,7 @@ k1-reply : readReply (read full inOctets k1)
 unfolding definitions
 k1-reply = refl
 
+-- Demand 1 alone fixes the reply to K1.
 pub k1-accepted : (s : SettingNumbers) (m m′ : ReaderLent) (r : ReadReply)
     → numbersOf s ≡ inOctets → T (enoughToRead sizes (readerRoom m)) → Demand1Read s k1 m m′ r
     → (r .number ≡ 0) × (r .events ≡ 4) × (r .«code_points» ≡ 100)

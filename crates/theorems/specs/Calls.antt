@@ -17,10 +17,11 @@ use Rattle.reader.specs.Read.{ReaderLent, readerRoom, ReadPost}
 use Rattle.writer.specs.declared.WriteReply.{WriteReply}
 use Rattle.writer.specs.Write.{WriterLent, writerRoom, WritePost}
 
+-- n cells, all zero.
 abbrev pub zeros : ℕ → List ℕ
 zeros n = replicate n 0
 
--- n cells: these, and zeros behind them.
+-- n cells: these, and zeros after them.
 abbrev pub upTo : ℕ → List ℕ → List ℕ
 upTo n xs = xs ++ zeros (n - length xs)
 
@@ -46,10 +47,11 @@ module _ {s : SettingNumbers} {stream : List ℕ} (c : ReadCall s stream) where
   abbrev pub CanRead : Type 0
   CanRead = T (enoughToRead sizes (readerRoom (c .before))) × T (meaningful (numbersOf s))
 
-  -- The event cells and the code points that the reply counts.
+  -- The event cells that the reply counts.
   abbrev pub eventsLeft : List ℕ
   eventsLeft = take (cellsPerEvent * c .reply .events) (c .after .events)
 
+  -- The code points that it counts.
   abbrev pub textLeft : Text
   textLeft = take (c .reply .«code_points») (c .after .text)
 
@@ -59,6 +61,7 @@ module _ {s : SettingNumbers} {stream : List ℕ} (c : ReadCall s stream) where
 
 -- ---- the writer
 
+-- What was lent, what is left in it, and the reply.
 pub record WriteCall (s : SettingNumbers) (events : List ℕ) (text : Text) : Type 0 where
   pub before : WriterLent
   pub after : WriterLent
@@ -66,6 +69,7 @@ pub record WriteCall (s : SettingNumbers) (events : List ℕ) (text : Text) : Ty
   pub post : WritePost s events text before after reply
 
 module _ {s : SettingNumbers} {events : List ℕ} {text : Text} (c : WriteCall s events text) where
+  -- Enough was lent, and the settings' numbers have a meaning.
   abbrev pub CanWrite : Type 0
   CanWrite = T (enoughToWrite sizes (writerRoom (c .before))) × T (meaningful (numbersOf s))
 

@@ -86,3 +86,5 @@ pub record CellTheorems : Type 0 where
       (r : WriteReply) → WritePost s events text m m′ r → Demand1Write s events text m m′ r
   pub demand-2 : (s : SettingNumbers) → Demand2Cells s
   pub demand-3 : (s : SettingNumbers) → Demand3Cells s
+  -- An event of each kind in its nine cells, and cells that are none.
+  pub event-cells : CellExamples

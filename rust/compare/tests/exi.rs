@@ -96,8 +96,8 @@ fn samples_that_are_refused() {
 fn settings_without_a_meaning_have_no_words() {
     for word in [
         "--fragment",
-        "--value-length",
-        "--value-capacity",
+        "--max-length",
+        "--capacity",
         "--loose",
         "--prefixes",
         "--grammar-cap",

@@ -168,3 +168,59 @@ fn bounds_and_settings() {
     let output = run(compiler("-std=c11").args(words), source.as_bytes());
     assert!(output.status.success(), "{}", text(&output.stderr));
 }
+
+/// Reader and writer, called from C by designated members: each settings number at the first that
+/// has no meaning, and bounds up to the largest, are SETTINGS; before LONG, and before SHAPE.
+#[test]
+fn settings_without_a_meaning() {
+    const CALLS: &str = r#"
+#include <stdio.h>
+#include "plumethrift.h"
+
+static uint32_t events[PLUMETHRIFT_EVENT_CELLS];
+static uint32_t text[PLUMETHRIFT_TEXT_CELLS];
+static uint32_t work[PLUMETHRIFT_WRITER_WORK_CELLS];
+static uint8_t octets[PLUMETHRIFT_STREAM_OCTETS + 1];
+
+static void ask(plumethrift_settings settings) {
+  const plumethrift_read_reply read = plumethrift_read(
+      settings, octets, sizeof octets, events, PLUMETHRIFT_EVENT_CELLS, text,
+      PLUMETHRIFT_TEXT_CELLS, work, PLUMETHRIFT_READER_WORK_CELLS);
+  const plumethrift_write_reply write = plumethrift_write(
+      settings, octets, PLUMETHRIFT_STREAM_OCTETS, NULL, 0, NULL, 0, work,
+      PLUMETHRIFT_WRITER_WORK_CELLS);
+  printf("%d %d\n", (int)read.number, (int)write.number);
+}
+
+int main(void) {
+"#;
+    let members = [
+        "alignment = 2",
+        "cookie = 2",
+        "comments = 2",
+        "instructions = 2",
+        "fragment = 1",
+        "value_length = PLUMETHRIFT_BOUND(0)",
+        "value_length = PLUMETHRIFT_BOUND(UINT32_MAX)",
+        "value_capacity = PLUMETHRIFT_BOUND(0)",
+        "value_capacity = PLUMETHRIFT_BOUND(2048)",
+        "value_capacity = PLUMETHRIFT_BOUND(UINT32_MAX)",
+        "loose = 1",
+        "prefixes = 1",
+        "grammar_cap = PLUMETHRIFT_BOUND(0)",
+        "grammar_cap = PLUMETHRIFT_BOUND(UINT32_MAX)",
+    ];
+    let mut source = String::from(CALLS);
+    for member in members {
+        source += &format!("  ask((plumethrift_settings){{.{member}}});\n");
+    }
+    source +=
+        "  ask((plumethrift_settings){.value_capacity = PLUMETHRIFT_UNBOUNDED});\n  return 0;\n}\n";
+
+    let file = Path::new(env!("CARGO_TARGET_TMPDIR")).join("settings.c");
+    fs::write(&file, source).unwrap();
+    let output = run(&mut Command::new(program(&file)), &[]);
+    let expected = "2 2\n".repeat(members.len()) + "3 14\n";
+    assert_eq!(text(&output.stdout), expected);
+    assert_eq!(output.status.code(), Some(0));
+}

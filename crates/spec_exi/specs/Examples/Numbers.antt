@@ -1,28 +1,14 @@
--- The scope's numbers, each written out: refusals, sizes, settings, lent lengths.
-use Rattle.spec_fields.specs.Prelude.{ℕ, _≡_, List, [], _∷_, _++_, map, getD, replicate}
+-- The scope's numbers, each written out: refusals, sizes, settings, lent lengths, Chars.
+use Rattle.spec_fields.specs.Prelude.{ℕ, _≡_, Bool, true, false, List, [], _∷_, _++_, map}
+use Rattle.spec_fields.specs.Prelude.{replicate}
 use Rattle.spec_fields.specs.Refusal.{Numbered}
+use Rattle.text.specs.Text.{isChar}
 use Rattle.spec_exi.specs.Settings.{SettingNumbers}
-use Rattle.spec_exi.specs.Sizes.{Sizes, sizes}
+use Rattle.spec_exi.specs.Sizes.{sizes}
 use Rattle.spec_exi.specs.Reader.{ReaderRoom, read, readReply}
 use Rattle.spec_exi.specs.Writer.{WriterRoom, write, writeReply}
 use Rattle.spec_exi.specs.Examples.{full, fullToWrite, numbers}
-
--- The sizes in their order; those that are left out are 999.
-unfoldable pub sizesAs : List ℕ → Sizes
-sizesAs ns =
-    record {
-      stream = getD ns 0 999;
-      events = getD ns 1 999;
-      opened = getD ns 2 999;
-      uris = getD ns 3 999;
-      names = getD ns 4 999;
-      values = getD ns 5 999;
-      grammars = getD ns 6 999;
-      learned = getD ns 7 999;
-      string = getD ns 8 999;
-      store = getD ns 9 999;
-      work = getD ns 10 999;
-    }
+use Rattle.spec_exi.specs.Examples.Bounds.{sizesAs, Bounded, bounds}
 
 -- The i-th settings' number is v, the others are 0.
 unfoldable pub setting : ℕ → ℕ → SettingNumbers
@@ -55,6 +41,7 @@ pub record Pinned : Type 0 where
   pub refusals : Numbered
   pub sizesAre : sizes
       ≡ sizesAs (16384 ∷ 4096 ∷ 100 ∷ 16 ∷ 128 ∷ 2048 ∷ 64 ∷ 512 ∷ 4096 ∷ 16384 ∷ 18432 ∷ [])
+  pub bothSides : Bounded bounds
   -- Of a stream, and of a list, without octets and events: SETTINGS. ROOM comes before it.
   pub readerSettings : map (λ o. readReply (read full o []) .number) meaningless ≡ replicate 10 2
   pub writerSettings : map (λ o. writeReply (write fullToWrite o [] []) .number) meaningless
@@ -63,3 +50,8 @@ pub record Pinned : Type 0 where
       ≡ 2 ∷ 1 ∷ 1 ∷ 1 ∷ []
   pub writerLent : map (λ r. writeReply (write r (setting 0 2) [] []) .number) writerRooms
       ≡ 2 ∷ 1 ∷ 1 ∷ []
+  -- Both sides of each end of the ranges of Char.
+  pub outside : map isChar
+      (8 ∷ 11 ∷ 12 ∷ 14 ∷ 31 ∷ 55296 ∷ 57343 ∷ 65534 ∷ 65535 ∷ 1114112 ∷ []) ≡ replicate 10 false
+  pub inside : map isChar (9 ∷ 10 ∷ 13 ∷ 32 ∷ 55295 ∷ 57344 ∷ 65533 ∷ 65536 ∷ 1114111 ∷ [])
+      ≡ replicate 9 true

@@ -31,6 +31,19 @@ mistakes =
     -- nothing learned.
     ∷ example inBits "80 40 98 54 09 AC 0C C7 81 BC 48 13 10 80"
     (whole (begin "a" ∷ attr "k" "1" ∷ chars "x" ∷ begin "b" ∷ end ∷ end ∷ []))
+    -- <r><a/><a k="1"/><a>x</a><a><b/></a></r>, the four twice: the start tag of a has learned SE(b),
+    -- CH, AT(k) and EE, the newest first, and the second four go by them.
+    ∷ twoLines inOctets
+    "80 01 02 72 02 01 02 61 00 01 00 01 00 01 01 01 01 02 6B 03 31 01 00 02 03 03 78 00 00 03 02"
+    "01 02 62 00 00 00 03 00 02 00 03 00 01 00 00 00 00 00 00 01"
+    (whole (begin "r" ∷ begin "a" ∷ end ∷ begin "a" ∷ attr "k" "1" ∷ end ∷ begin "a" ∷ chars "x"
+    ∷ end ∷ begin "a" ∷ begin "b" ∷ end ∷ end ∷ begin "a" ∷ end ∷ begin "a" ∷ attr "k" "1" ∷ end
+    ∷ begin "a" ∷ chars "x" ∷ end ∷ begin "a" ∷ begin "b" ∷ end ∷ end ∷ end ∷ []))
+    -- <a><b/>x<b/><c/>x<b/></a>. The content of a learns CH, SE(b) and SE(c), and goes by the first
+    -- two; its EE stays of one part, after them.
+    ∷ example inBits "80 40 98 64 09 88 C0 DE 22 01 64 09 8C 40 04 C0"
+    (whole (begin "a" ∷ begin "b" ∷ end ∷ chars "x" ∷ begin "b" ∷ end ∷ begin "c" ∷ end ∷ chars "x"
+    ∷ begin "b" ∷ end ∷ end ∷ []))
     -- <a xmlns="u" xml:lang="fr">é<b xml:lang="fr"/></a>. URI and name of xml:lang are initial
     -- entries; é takes two octets.
     ∷ example inBits "80 00 5D 40 98 54 01 02 33 39 70 3E 90 1A 01 31 28 02 00 88"

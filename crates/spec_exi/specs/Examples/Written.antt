@@ -5,11 +5,13 @@ use Rattle.spec_fields.specs.Refusal.{settings, character, name, limit, shape, 
 use Rattle.spec_fields.specs.Refusal.{refused, accepted}
 use Rattle.text.specs.Text.{Text, text}
 use Rattle.spec_exi.specs.Event.{startDocument, endDocument, endElement, startElement}
-use Rattle.spec_exi.specs.Event.{attribute, characters}
-use Rattle.spec_exi.specs.Settings.{SettingNumbers}
-use Rattle.spec_exi.specs.Writer.{Stored, write, WriteReply, writeReply}
+use Rattle.spec_exi.specs.Event.{attribute, characters, instruction}
+use Rattle.spec_exi.specs.Settings.{SettingNumbers, settingsOf}
+use Rattle.spec_exi.specs.Sizes.{Sizes}
+use Rattle.spec_exi.specs.Writer.{Stored, writeList, write, WriteReply, writeReply}
 use Rattle.spec_exi.specs.Examples.{fullToWrite, numbers, inOctets, octets}
 use Rattle.spec_exi.specs.Examples.Places.{at, inUri, named}
+use Rattle.spec_exi.specs.Examples.Bounds.{only}
 
 -- A list under these settings, and the answer for it.
 pub record WriteExample : Type 0 where
@@ -56,8 +58,19 @@ writes =
     -- A local name outside the store, which looked up is empty: PLACE. An empty one outside, too.
     ∷ listed (some (startElement (named 9 9)) ∷ []) [] (refused place 1)
     ∷ listed (some (startElement (named 9 0)) ∷ []) [] (refused place 1)
-    -- An empty one inside: NAME.
+    -- A URI that is no Char, and a local name outside the store; an empty name, and a value outside:
+    -- PLACE for all strings of the event comes first.
+    ∷ listed (some (startElement (inUri 0 1 9 9)) ∷ []) (0 ∷ []) (refused place 1)
+    ∷ listed (some (startElement (named 0 1)) ∷ some (attribute (named 0 0) (at 9 9)) ∷ [])
+    (text "a") (refused place 2)
+    -- An empty one inside: NAME. An empty target, too.
     ∷ listed (some (startElement (named 0 0)) ∷ []) [] (refused name 1)
+    ∷ record {
+      numbers = numbers (1 ∷ 0 ∷ 0 ∷ 1 ∷ []);
+      events = some startDocument ∷ some (instruction (at 0 0) (at 0 0)) ∷ [];
+      store = [];
+      answer = refused name 1;
+    }
     -- 4,097 code points that are no Chars: LIMIT. One: CHARACTER.
     ∷ listed (some (startElement (named 0 4097)) ∷ []) (replicate 4097 0) (refused limit 1)
     ∷ listed (some (startElement (named 0 1)) ∷ []) (0 ∷ []) (refused character 1) ∷ []
@@ -66,7 +79,29 @@ writes =
 unfoldable pub writeReplies : List WriteReply
 writeReplies =
     wrote 0 0 5 ∷ wrote 2 0 0 ∷ wrote 14 1 0 ∷ wrote 14 1 0 ∷ wrote 14 1 0 ∷ wrote 15 1 0
-    ∷ wrote 15 1 0 ∷ wrote 11 1 0 ∷ wrote 12 1 0 ∷ wrote 8 1 0 ∷ []
+    ∷ wrote 15 1 0 ∷ wrote 15 1 0 ∷ wrote 15 2 0 ∷ wrote 11 1 0 ∷ wrote 11 1 0 ∷ wrote 12 1 0
+    ∷ wrote 8 1 0 ∷ []
+
+-- ---- by small sizes: where a size is passed and another test fails, too, the first is answered
+
+-- A list under these sizes, and the answer for each.
+pub record WrittenUnder (xs : List (Sizes × WriteExample)) : Type 0 where
+  pub answers : map (λ x. writeList (x .0) (settingsOf inOctets) (x .1 .events) (x .1 .store)) xs
+      ≡ map (λ x. x .1 .answer) xs
+
+-- The scope's order ("Refusal numbers").
+unfoldable pub writesInOrder : List (Sizes × WriteExample)
+writesInOrder =
+    -- the event limit, before SHAPE
+    (only 1 2, listed (some (startElement (named 0 1)) ∷ none ∷ []) (text "a") (refused limit 2))
+    -- the store limit, before the characters
+    ∷ (only 9 99, listed (some (startElement (named 0 1)) ∷ []) (0 ∷ []) (refused limit 1))
+    -- NAME, before the limit of its table, and before that of open elements
+    ∷ (only 4 6, listed (some (startElement (named 0 0)) ∷ []) [] (refused name 1))
+    ∷ (only 2 0, listed (some (startElement (named 0 0)) ∷ []) [] (refused name 1))
+    -- the limit of the URIs, before the local name's characters
+    ∷ (only 3 3, listed (some (startElement (inUri 0 1 1 1)) ∷ []) (117 ∷ 0 ∷ []) (refused limit 1))
+    ∷ []
 
 -- ---- both sides of the scope's own sizes: a list that ends early, or LIMIT
 

@@ -15,6 +15,7 @@ pub use Rattle.spec_exi.specs.Examples.{inOctets}
 pub use Rattle.settings.specs.declared.SettingNumbers.{SettingNumbers}
 pub use Rattle.settings.specs.Meant.{numbersOf}
 pub use Rattle.event.specs.Cells.{eventsOf}
+pub use Rattle.event.specs.Examples.{CellExamples}
 pub use Rattle.read_body.specs.declared.ReadReply.{ReadReply}
 pub use Rattle.read_body.specs.Reply.{cellsOfAll, replyOf as readNumbers}
 pub use Rattle.writer.specs.declared.WriteReply.{WriteReply}
