@@ -262,7 +262,7 @@ fn put_value(
 }
 
 fn put_text(stream: &mut [u8], at: usize, value: Part, text: &[u32]) -> usize
-    requires { ⌜ PutTextPre (now stream) at (partAt (now text) value) ⌝ }
+    requires { ⌜ PutTextPre (now stream) at value (now text) ⌝ }
     ensures { λ r. ⌜
         Put (now (stream .entry)) at (stringBits 0 (partAt (now (text .entry)) value))
         (now (stream .exit)) r ⌝ }
