@@ -71,3 +71,6 @@ module _ {t : Tables} {is : List Item} {n : ℕ} {t₁ : Tables} {bits : Alignme
         after = λ y. subst (λ v. AlikeTables v u) (sym (after-append t is js))
             (alike-then (after-items-alike al js) (o .after y));
       }
+
+  pub items-passed : n ≡ 0 → ItemsMean t is 0 t₁ bits
+  items-passed z = subst (λ k. ItemsMean t is k t₁ bits) z m
