@@ -8,11 +8,11 @@ use lib.ListN.{length}
 use Rattle.spec_fields.specs.Field.{Alignment}
 use Rattle.text.specs.Text.{Text, inside, part}
 use Rattle.spec_exi.specs.Sizes.{sizes, maxStore, maxUris, maxNames, maxValues}
-use Rattle.spec_exi.specs.Event.{QName, Event, Kind, CH, startDocument, endDocument, endElement}
+use Rattle.spec_exi.specs.Event.{Event, CH, startDocument, endDocument, endElement}
 use Rattle.spec_exi.specs.Event.{startElement, attribute, characters, comment, instruction}
 use Rattle.spec_exi.specs.Event.{kindOf, nameOf, mapEvent, stringsOf}
 use Rattle.spec_exi.specs.Tables.{Tables, value, target, plain}
-use Rattle.spec_exi.specs.Grammar.{State, kindNumber}
+use Rattle.spec_exi.specs.Grammar.{State}
 use Rattle.spec_exi.specs.Context.{Item, item, characterRole, afterItems}
 use Rattle.spec_exi.specs.Strict.{itemsBits}
 use Rattle.spec_exi.specs.Lists.{every}
@@ -140,7 +140,8 @@ pub record ContentMeans (opening text : List ℕ) (e : declared.Event) (c : Core
     (w : Rows) (st : State) (x : Event Text) (r : Content) : Type 0 where
   pub fault : (written : Bool) → (written ≡ false → NamedHits (tablesIn w (c .stored)) x)
       → r .number
-      ≡ faultNumber (firstFailed (contentTests sizes (tablesIn w (c .stored)) (itemsAs written st x)))
+      ≡ faultNumber
+      (firstFailed (contentTests sizes (tablesIn w (c .stored)) (itemsAs written st x)))
   pub leaves : r .number ≡ 0 → ContentLeaves opening text e c work w st x r
 
 pub record ContentPost (opening text : List ℕ) (e : declared.Event) (c : Core) (work : List ℕ)

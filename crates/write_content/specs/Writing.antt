@@ -90,10 +90,10 @@ pub record PutValuedPre (stream : List ℕ) (at : ℕ) (value : Part) (c : Core)
   pub few : c .values ≤ maxValues
   pub puttable : ValuePuttable x (partAt text value)
 
-pub record PutTextPre (stream : List ℕ) (at : ℕ) (x : Text) : Type 0 where
+pub record PutTextPre (stream : List ℕ) (at : ℕ) (value : Part) (text : List ℕ) : Type 0 where
   pub blank : T (blankFrom stream at)
   pub near : at + stringMost ≤ farthest
-  pub written : Written x
+  pub written : Written (partAt text value)
 
 pub record PutContentPre (stream : List ℕ) (at : ℕ) (e : declared.Event) (c : Core) (x : Content)
     (text work : List ℕ) : Type 0 where

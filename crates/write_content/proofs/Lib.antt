@@ -1,0 +1,5 @@
+pub mod Values
+pub mod Contents
+pub mod Named
+pub mod Unnamed
+pub mod Puts

@@ -1,0 +1,140 @@
+-- A value, judged where the strings before it are ahead of memory.
+use Prim.Native.Nat.{ℕ, _+_, _≤_, _<_}
+use native.Mathlib.Omega.{arith}
+use mathlib.Core.Path.{_≡_, refl, sym, ap, subst, _∙_}
+use mathlib.Core.Bool.{Bool, true, false, cond, true≢false}
+use mathlib.Core.List.{List, []}
+use mathlib.Core.Option.{none}
+use lib.ListN.{length}
+use Rattle.spec_exi.specs.Sizes.{maxUris, maxNames}
+use Rattle.spec_exi.specs.Tables.{Placed, value}
+use Rattle.text.specs.Text.{Text, part}
+use Rattle.event.specs.declared.Part.{Part}
+use Rattle.event.specs.Cells.{asSpan}
+use Rattle.mem_values.specs.Forms.{ValuesStand}
+use Rattle.mem_rows.specs.Rows.{Rows, placedAt, nameAt, withValue}
+use Rattle.mem_rows.specs.Valid.{Valid}
+use Rattle.mem_state.specs.declared.Core.{Core}
+use Rattle.mem_state.specs.declared.Strings.{Strings}
+use Rattle.mem_state.specs.Holds.{Stores, Bounded, Counts}
+use Rattle.mem_state.specs.Strung.{uriAdded, nameAdded, valueAdded, StringsJoin}
+use Rattle.mem_state.proofs.Strung.{uris-counted, names-counted, strings-values}
+use Rattle.write_partition.specs.Writable.{Writable, Few}
+use Rattle.write_partition.specs.Judged.{StringMeans}
+use Rattle.write_values.specs.declared.ValueJudged.{ValueJudged}
+use Rattle.write_values.specs.Values.{valueBits, ValueBounds, ValuePost}
+use Rattle.write_qname.specs.Premise.{listStores, Prepared, Inside, partAt}
+use Rattle.write_qname.specs.Qnames.{noStrings}
+use Rattle.write_qname.proofs.Lain.{placedIn, lain-in}
+use Rattle.write_content.specs.declared.Content.{Content}
+use Rattle.write_content.specs.Writing.{ValuePuttable}
+use Rattle.write_content.specs.Contents as contents
+
+-- ---- rows with the strings of a name
+
+within : {n most k : ℕ} (b : Bool) → n ≤ most → (b ≡ true → n < most) → n + cond b 1 0 ≡ k
+    → k ≤ most
+within true few left e = omega (arith, left refl, e)
+within false few left e = omega (arith, few, e)
+
+pub few-strings : {from : Stores} {c : Core} {s : Strings} {w v : Rows} → Bounded c
+    → Counts c w → StringsJoin from s w v
+    → (s .uri .joins ≡ true → c .uris < maxUris) → (s .name .joins ≡ true → c .names < maxNames)
+    → s .value .joins ≡ false → Few v
+few-strings {s = s} b n j uris names f =
+    record {
+      uris = within (s .uri .joins) (b .uris) uris (uris-counted j n);
+      names = within (s .name .joins) (b .names) names (names-counted j n);
+      values = omega (arith, ap length (strings-values j f), b .values, n .values);
+    }
+
+-- None have joined.
+pub none-join : (from : Stores) {w : Rows} → Valid w → StringsJoin from noStrings w w
+unfolding uriAdded nameAdded valueAdded
+none-join from v =
+    let x : Placed = record { place = 0; text = [] } in
+    record {
+      uri = x;
+      name = x;
+      value = x;
+      uri-joins = λ j. absurd (true≢false (sym j));
+      name-joins = λ j. absurd (true≢false (sym j));
+      value-joins = λ j. absurd (true≢false (sym j));
+      uri-valid = v;
+      name-valid = v;
+      valid = v;
+      is = refl;
+    }
+
+-- ---- a value more
+
+-- As a part of the list's store.
+pub value-at : {text y : Text} (x : Part)
+    → y ≡ part text (record { place = x .place; size = x .size })
+    → {owner values stored : ℕ} {work : List ℕ} {v : ValueJudged}
+    → ValuePost text y owner values stored work v
+    → ValuePost text (partAt text x) owner values stored work v
+unfolding asSpan
+value-at {text} x e {owner} {values} {stored} {work} {v} p =
+    subst (λ t. ValuePost text t owner values stored work v) e p
+
+without-value : (b : Bool) (k : ℕ) (w : Rows) (y : Placed) → b ≡ false → valueAdded b k w y ≡ w
+unfolding valueAdded
+without-value true k w y e = absurd (true≢false e)
+without-value false k w y e = refl
+
+-- Names stay.
+pub value-name : (b : Bool) (k : ℕ) (w : Rows) (y : Placed) (n : ℕ)
+    → nameAt (valueAdded b k w y) n ≡ nameAt w n
+unfolding valueAdded withValue nameAt placedAt
+value-name true k w y n = refl
+value-name false k w y n = refl
+
+module _ {opening text work : List ℕ} {c : Core} {w : Rows} (p : Prepared opening text work c w)
+    {s : Strings} {w₂ : Rows} (j : StringsJoin (listStores opening text) s w w₂)
+    (f : s .value .joins ≡ false) where
+  values-stand : ValuesStand work text (length text) (c .values) 0 (c .values) (w₂ .values) none
+  values-stand =
+      subst (λ es. ValuesStand work text (length text) (c .values) 0 (c .values) es none)
+      (sym (strings-values j f))
+      (subst (λ n. ValuesStand work text (length text) n 0 n (w .values) none)
+      (sym (p .counts .values)) (p .holds .values))
+
+  module _ (x : Part) {owner stored : ℕ} {v : ValueJudged}
+      (post : ValuePost text (partAt text x) owner (c .values) stored work v)
+      (writable : Writable w₂) (few : Few w₂) (row : owner < length (w₂ .names)) where
+    pub value-means : StringMeans (value (nameAt w₂ owner)) w₂
+        (valueAdded (v .joins) owner w₂ (placedIn text x)) stored (partAt text x) (v .number)
+        (v .stored) (valueBits work (v .partition) (v .id) owner (c .values) (partAt text x))
+    value-means = post .meant w₂ (j .valid) writable few values-stand row (x .place)
+
+    pub value-joins : v .number ≡ 0 → Inside text x
+        → StringsJoin (listStores opening text) (contents.withValue s owner x v .strings) w
+        (valueAdded (v .joins) owner w₂ (placedIn text x))
+    value-joins z i =
+        record {
+          uri = j .uri;
+          name = j .name;
+          value = placedIn text x;
+          uri-joins = j .uri-joins;
+          name-joins = j .name-joins;
+          value-joins = λ b. record {
+            lain = lain-in i (v .joins) (v .hash);
+            hash = post .bounds z .new b .2;
+          };
+          uri-valid = j .uri-valid;
+          name-valid = j .name-valid;
+          valid = value-means .valid z;
+          is = ap (λ (y : Rows). valueAdded (v .joins) owner y (placedIn text x))
+              (j .is ∙ without-value (s .value .joins) (s .owner) _ (j .value) f);
+        }
+
+-- ---- what the writing asks
+
+pub value-puttable : {x : Text} {values stored : ℕ} {v : ValueJudged} → ValueBounds x values stored v
+    → (r : Content) → r .partition ≡ v .partition → ValuePuttable r x
+value-puttable {v = v} b r e =
+    record {
+      literal = λ f g.
+          b .literal (let n : v .partition ≡ 2 = omega (arith, b .which, e, f, g) in n);
+    }
