@@ -140,7 +140,8 @@ pub record ContentMeans (opening text : List ℕ) (e : declared.Event) (c : Core
     (w : Rows) (st : State) (x : Event Text) (r : Content) : Type 0 where
   pub fault : (written : Bool) → (written ≡ false → NamedHits (tablesIn w (c .stored)) x)
       → r .number
-      ≡ faultNumber (firstFailed (contentTests sizes (tablesIn w (c .stored)) (itemsAs written st x)))
+      ≡ faultNumber
+      (firstFailed (contentTests sizes (tablesIn w (c .stored)) (itemsAs written st x)))
   pub leaves : r .number ≡ 0 → ContentLeaves opening text e c work w st x r
 
 pub record ContentPost (opening text : List ℕ) (e : declared.Event) (c : Core) (work : List ℕ)

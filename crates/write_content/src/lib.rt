@@ -1,5 +1,6 @@
-// The content of an event (EXI 4), judged string by string, and written as it was judged. Work memory
-// is not written. What the functions ask and leave is in specs/Contents.antt.
+// The content of an event (EXI 4), judged string by string, and written as it was judged. Work
+// memory is not written. What the functions ask and leave is in specs/Contents.antt and
+// specs/Writing.antt.
 ghost use mathlib.Core.Path.{_≡_};
 ghost use Rattle.read_field.specs.View.{alignmentOf};
 ghost use Rattle.event.specs.declared.Event.the-variants.{StartElement, Attribute, Characters};
@@ -20,8 +21,8 @@ use write_qname::NameJudged;
 use write_values::NEITHER;
 use write_values::ValueJudged;
 
-// The number of a refusal or 0; the code points in the store after the content; what is to join; and
-// of a value the partition that has it, and its compact identifier there.
+// The number of a refusal or 0; the code points in the store after the content; what is to join;
+// and of a value the partition that has it, and its compact identifier there.
 pub struct Content {
     pub number: u32,
     pub stored: usize,
@@ -270,8 +271,8 @@ fn put_text(stream: &mut [u8], at: usize, value: Part, text: &[u32]) -> usize
     write_string::put_string(stream, at, 0, x)
 }
 
-// Writes the strings of an event as they were judged; a name that a learned production carries is not
-// written.
+// Writes the strings of an event as they were judged; a name that a learned production carries is
+// not written.
 pub fn put_content(
     aligned: bool,
     stream: &mut [u8],

@@ -4,7 +4,7 @@ use mathlib.Core.Path.{_≡_}
 use mathlib.Core.Bool.{true}
 use mathlib.Core.List.{List}
 use lib.ListN.{length, replicate}
-use Rattle.text.specs.Text.{Text, Span, inside, part}
+use Rattle.text.specs.Text.{Text, inside, part}
 use Rattle.spec_exi.specs.Context.{Context}
 use Rattle.event.specs.declared.Part.{Part}
 use Rattle.event.specs.Cells.{asSpan}
@@ -16,8 +16,8 @@ use Rattle.mem_state.specs.declared.Core.{Core}
 use Rattle.mem_state.specs.Holds.{Stores, Holds, Counts}
 use Rattle.write_partition.specs.Writable.{Writable, uriSource, nameSource}
 
--- Where the texts of the rows lie: those of the initial entries in the opening text, all others in the
--- store of the list itself.
+-- Where the texts of the rows lie: those of the initial entries in the opening text, all others in
+-- the store of the list itself.
 abbrev pub listStores : List ℕ → List ℕ → Stores
 listStores opening text =
     record {

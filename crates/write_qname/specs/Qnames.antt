@@ -1,7 +1,7 @@
 -- What judging and writing a qualified name asks and leaves (EXI 7.1.7).
 use Prim.Native.Nat.{ℕ, _+_, _*_, _≤_, _<_}
 use mathlib.Core.Path.{_≡_}
-use mathlib.Core.Bool.{Bool, true, false, cond}
+use mathlib.Core.Bool.{Bool, true, false}
 use mathlib.Core.List.{List, [], _∷_, _++_}
 use lib.ListN.{length}
 use lib.Dec.{T}
@@ -135,7 +135,8 @@ pub record NameMeans (opening text : List ℕ) (attr : Bool) (q : QName Text) (c
   -- a name that a learned production carries is judged as one that is written
   pub fault : (written : Bool) → (written ≡ false → NameHits (tablesIn w (c .stored)) attr q)
       → r .number
-      ≡ faultNumber (firstFailed (contentTests sizes (tablesIn w (c .stored)) (nameAs written attr q)))
+      ≡ faultNumber
+      (firstFailed (contentTests sizes (tablesIn w (c .stored)) (nameAs written attr q)))
   pub leaves : r .number ≡ 0 → NameLeaves opening text attr q c work w r
 
 pub record NamePost (opening text : List ℕ) (attr : Bool) (uri local : Part) (c : Core)

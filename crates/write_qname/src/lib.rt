@@ -1,10 +1,10 @@
-// A qualified name (EXI 7.1.7), judged and written: a URI and a local name. What the functions ask and
-// leave is in specs/Qnames.antt.
+// A qualified name (EXI 7.1.7), judged and written: a URI and a local name. What the functions ask
+// and leave is in specs/Qnames.antt.
 ghost use mathlib.Core.Path.{_≡_};
 ghost use Rattle.read_field.specs.View.{alignmentOf};
 ghost use Rattle.write_field.specs.Written.{Put};
-ghost use Rattle.write_qname.specs.Qnames.{joiningOf, noJoining, noStrings, stoppedAs, namedAs};
-ghost use Rattle.write_qname.specs.Qnames.{NamePre, NamePost, PutNamePre, qnameBits};
+ghost use Rattle.write_qname.specs.Qnames.{joiningOf, noJoining, noStrings, stoppedAs};
+ghost use Rattle.write_qname.specs.Qnames.{namedAs, NamePre, NamePost, PutNamePre, qnameBits};
 ghost use Rattle.write_qname.specs.Premise.{partAt};
 use event::Part;
 use mem_state::Core;
@@ -100,7 +100,8 @@ pub fn judge_name(
 ) -> NameJudged
     requires { ⌜ NamePre (now work) c ⌝ }
     ensures { λ r. ⌜
-        NamePost (now (opening .entry)) (now (text .entry)) attr uri local c (now (work .entry)) r ⌝ }
+        NamePost (now (opening .entry)) (now (text .entry)) attr uri local c (now (work .entry))
+        r ⌝ }
 {
     let y = text::look_up(text, uri.place, uri.size);
     let u = write_names::judge_uri(opening, text, y, c.uris, c.stored, work);
