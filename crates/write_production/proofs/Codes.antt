@@ -3,11 +3,11 @@ use Prim.Native.Nat.{ℕ, zero, suc, _+_, _-_, _≤_, _<_}
 use native.Mathlib.Omega.{arith}
 use native.Mathlib.Nat.{zero-add}
 use mathlib.Core.Path.{_≡_, refl, sym, ap, subst, _∙_}
-use mathlib.Core.Bool.{Bool, true, false, cond}
+use mathlib.Core.Bool.{Bool, true, false}
 use mathlib.Core.List.{List, [], _∷_, _++_}
-use lib.ListN.{length, getD, drop, length-append}
+use lib.ListN.{length, getD, drop}
 use lib.Seq.{getD-drop}
-use lib.Dec.{T, eqb}
+use lib.Dec.{eqb}
 use borrow.Author.Tests.{eqb-true, eqb-false}
 use Rattle.spec_fields.specs.Field.{choiceBits}
 use Rattle.spec_fields.proofs.Tests.{split}
@@ -23,7 +23,7 @@ use Rattle.write_field.specs.Written.{Put, ChoiceFits}
 use Rattle.write_field.proofs.Written.{put-blank, put-then}
 use Rattle.write_field.proofs.Lengths.{choice-length}
 use Rattle.write_production.specs.declared.Code.{Code}
-use Rattle.write_production.specs.Codes.{placedBits, lowerBits, codeBitsAs, InTable, FixedPre}
+use Rattle.write_production.specs.Codes.{placedBits, lowerBits, codeBitsAs, FixedPre}
 use Rattle.write_production.specs.Codes.{LowerPre, CodePre}
 
 -- ---- how many values a part has
@@ -36,7 +36,7 @@ some-kind ([] ∷ t) (suc j) h = some-kind t j h
 some-kind ((k ∷ ks) ∷ t) j h = refl
 
 module _ (c i : Bool) (mode : ℕ) where
-  few-values : (j : ℕ) → valuesAt c i mode j ≤ 5
+  pub few-values : (j : ℕ) → valuesAt c i mode j ≤ 5
   few-values j =
       split (noKinds (drop (suc j) (tableOf c i mode)))
       (λ t. rw t (omega (arith, few-kinds c i mode j)))
