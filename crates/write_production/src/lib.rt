@@ -57,9 +57,8 @@ pub fn put_code(o: Settings, stream: &mut [u8], at: usize, mode: u32, p: Place, 
 {
     if code.learned {
         let among = code.count + grammar_codes::values_at(mode, 0, o.comments, o.instructions);
-        let width = read_field::width(among);
         let part = mem_chain::less(code.part, among);
-        return write_field::put_number(o.aligned, stream, at, width, part);
+        return write_field::put_choice(o.aligned, stream, at, among, part);
     }
     put_fixed(o, stream, at, mode, p, code.count)
 }
