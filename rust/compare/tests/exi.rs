@@ -144,6 +144,9 @@ fn readings_of_the_sample_days() {
         let (_, from_input, _) = exi(&format!("readings - {flag}"), &sample(stream));
         assert!(from_input == stdout, "{stream}");
     }
+    let (_, stdout, _) = exi("readings --ms day-with-gap.exi", b"");
+    assert!(stdout.starts_with("ms,um\n825638400000,3700\n825640200000,4750\n"));
+    assert!(stdout.ends_with("\n825723000000,1500\n"));
 }
 
 /// What is made of a table is the sample's stream, octet for octet.
@@ -177,9 +180,7 @@ fn a_day_of_500() {
 #[test]
 fn streams_that_have_no_readings() {
     refused("readings refused-tail.exi", b"", "13 TAIL, event 196: ");
-    let (status, stdout, stderr) = exi("readings -", b"\x80\x40\x98\x40"); // <a/>
-    assert!(stderr.starts_with("exi: refused: 16 "), "{stderr}");
-    assert_eq!((status, stdout.as_str()), (Some(1), ""));
+    refused("readings -", b"\x80\x40\x98\x40", "16, reading 0: "); // <a/>
 }
 
 /// Tables with a bad line: it is told by its number, and nothing is written.
@@ -187,20 +188,35 @@ fn streams_that_have_no_readings() {
 fn tables_that_are_refused() {
     let folder = folder("tables");
     let good = "2026-03-01T00:00:00.000Z,1";
-    for (lines, line, status) in [
-        (vec!["t,um", "2026-02-29T00:00:00.000Z,1"], 2, 1),
-        (vec!["t,um", good, "2026-03-01T00:00:00.000Z,2"], 3, 1),
-        (vec!["t,um", good, "2026-03-01T00:30:00.000Z,20001"], 3, 1),
-        (vec!["t,um", good, "2026-03-01T00:30:00.000Z"], 3, 2),
+    for (lines, says) in [
+        (vec![], "16, line 1: "),
+        (vec!["um,t", good], "16, line 1: "),
+        (vec!["t,um", "2026-02-29T00:00:00.000Z,1"], "17, line 2: "),
+        (
+            vec!["t,um", good, "2026-03-01T00:30:00.000Z"],
+            "16, line 3: ",
+        ),
+        (
+            vec!["t,um", good, "2026-03-01T00:30:00.000Z,20001"],
+            "18, line 3: ",
+        ),
+        (
+            vec!["t,um", good, "2026-03-01T00:30:00.000Z,+1"],
+            "18, line 3: ",
+        ),
+        (vec!["t,um", good, good], "19, line 3: "),
+        (vec!["ms,um", "0,0", "1,-20000", "1,0"], "19, line 4: "),
+        (
+            vec!["ms,um", "3155759999999,0", "3155760000000,0"],
+            "17, line 3: ",
+        ),
     ] {
         fs::write(folder.join("bad.csv"), lines.join("\n") + "\n").unwrap();
         let words = ["write-readings", "bad.csv", "bad.exi"];
-        let (got, stdout, stderr) = exi_in(&folder, &words, b"");
-        assert!(
-            stderr.contains(&format!("line {line}")),
-            "{lines:?}: {stderr}"
-        );
-        assert_eq!((got, stdout.as_str()), (Some(status), ""), "{lines:?}");
+        let (status, stdout, stderr) = exi_in(&folder, &words, b"");
+        let says = format!("exi: refused: {says}");
+        assert!(stderr.starts_with(&says), "{lines:?}: {stderr}");
+        assert_eq!((status, stdout.as_str()), (Some(1), ""), "{lines:?}");
         assert!(!folder.join("bad.exi").exists(), "{lines:?}");
     }
 }
