@@ -62,7 +62,7 @@ module _ (e : Event Text) where
       go none o′ f h = absurd (Option·none-ne-some _ h)
       go (some y) o′ f h = rw (f y refl) h
 
-  fit-right : (l k : List Production) → firstFit l e ≡ none
+  pub fit-right : (l k : List Production) → firstFit l e ≡ none
       → firstFit (l ++ k) e ≡ Option·map (λ x. (length l + x .0, x .1)) (firstFit k e)
   unfolding firstFit raised
   fit-right [] k h = same (firstFit k e)

@@ -1,2 +1,4 @@
 pub mod Table
 pub mod Codes
+pub mod Places
+pub mod Bits

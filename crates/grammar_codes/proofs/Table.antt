@@ -234,7 +234,7 @@ unfolding kindNumber
 one-kind v k = nth-is (λ n. kindNumber (getD (k ∷ []) n SD)) refl refl refl refl (λ n. refl) v
 
 -- The states that have no production.
-beyond : (c i : Bool) (mode : ℕ) → (mode ≡ 0 → ⊥) → (mode ≡ 1 → ⊥) → (mode ≡ 2 → ⊥) → (mode ≡ 4 → ⊥)
+pub beyond : (c i : Bool) (mode : ℕ) → (mode ≡ 0 → ⊥) → (mode ≡ 1 → ⊥) → (mode ≡ 2 → ⊥) → (mode ≡ 4 → ⊥)
     → (mode ≡ 5 → ⊥) → tableOf c i mode ≡ []
 unfolding tableOf tables
 beyond c i zero a b d e f = absurd (a refl)

@@ -3,13 +3,18 @@
 --
 -- States: 0 document, 1 document content, 2 document end, 3 finished, 4 start tag, 5 element
 -- content. Levels: 0 the first part of a code, 1 the second, 2 the third.
-use Prim.Native.Nat.{ℕ, suc, _+_, _≤_, _<_}
+use Prim.Native.Nat.{ℕ, zero, suc, _+_, _≤_, _<_}
 use mathlib.Core.Path.{_≡_}
 use mathlib.Core.Bool.{Bool, true, false, cond}
 use mathlib.Core.List.{List, [], _∷_, _++_, map}
+use mathlib.Core.Option.{Option, none, some, Option·map}
 use lib.ListN.{length, getD, drop}
+use lib.Dec.{eqb}
+use Rattle.spec_fields.specs.Bits.{Bits}
+use Rattle.spec_fields.specs.Field.{Alignment, choiceBits}
 use Rattle.spec_exi.specs.Event.{Kind, SD, ED, SE, AT, EE, CH, CM, PI}
 use Rattle.spec_exi.specs.Grammar.{Production, unnamed, kindNumber, Code, atLevel, below}
+use Rattle.grammar_codes.specs.declared.Place.{Place}
 
 -- ---- the table
 
@@ -51,6 +56,34 @@ valuesAt comments instructions mode level =
     valuesOf (levelAt comments instructions mode level)
     (drop (suc level) (tableOf comments instructions mode))
 
+-- ---- where a kind stands
+
+-- The kind with this number, among these.
+unfoldable pub numberIn : List Kind → ℕ → Option ℕ
+numberIn [] kind = none
+numberIn (k ∷ ks) kind =
+    let later = Option·map suc (numberIn ks kind) in cond (eqb (kindNumber k) kind) (some 0) later
+
+-- In this level, or else in a later one.
+unfoldable pub inLevel : Option ℕ → Option (ℕ × ℕ) → Option (ℕ × ℕ)
+inLevel none p = Option·map (λ x. (suc (x .0), x .1)) p
+inLevel (some v) p = some (0, v)
+
+-- In a table: the level, and the number there.
+unfoldable pub placeIn : List (List Kind) → ℕ → Option (ℕ × ℕ)
+placeIn [] kind = none
+placeIn (l ∷ ls) kind = inLevel (numberIn l kind) (placeIn ls kind)
+
+-- The number 3 where no level has it.
+unfoldable pub placeAs : Option (ℕ × ℕ) → Place
+placeAs none = record { level = 3; value = 0 }
+placeAs (some x) = record { level = x .0; value = x .1 }
+
+-- The same, of a level alone.
+unfoldable pub keptPlace : ℕ → Option ℕ → Place
+keptPlace level none = record { level = 3; value = 0 }
+keptPlace level (some v) = record { level = level; value = v }
+
 -- ---- in the definitions
 
 unfoldable pub leveled : List (List Kind) → List (List Production)
@@ -68,6 +101,17 @@ pub data Reaches : List (List Kind) → Code → Type 0 where
   in-next : {l : List Kind} {ls : List (List Kind)} {x : Code} → Reaches ls x
       → Reaches (l ∷ ls) (below (length l) x)
 
+-- A code that the table has, of a production of this kind.
+pub record FixedCode (t : List (List Kind)) (kind : ℕ) (x : Code) : Type 0 where
+  pub reaches : Reaches t x
+  pub is : kindNumber (x .production .kind) ≡ kind
+
+-- The code of a level's production with number v. (The first clause is not reached.)
+unfoldable pub codeAt : List (List Kind) → ℕ → ℕ → Code
+codeAt [] level v = atLevel v (unnamed SD)
+codeAt (l ∷ ls) zero v = atLevel v (unnamed (getD l v SD))
+codeAt (l ∷ ls) (suc level) v = below (length l) (codeAt ls level v)
+
 unfoldable pub raisedBy : ℕ → List ℕ → List ℕ
 raisedBy n [] = []
 raisedBy n (v ∷ vs) = (n + v) ∷ vs
@@ -75,6 +119,13 @@ raisedBy n (v ∷ vs) = (n + v) ∷ vs
 -- The code where n learned productions stand first.
 unfoldable pub afterLearned : ℕ → Code → Code
 afterLearned n x = record { parts = raisedBy n (x .parts); production = x .production }
+
+-- Its bits: each part is a choice among the values that it has (EXI 6.2).
+unfoldable pub fixedBits : Alignment → List (List Kind) → ℕ → ℕ → ℕ → Bits
+fixedBits a [] n level v = []
+fixedBits a (l ∷ ls) n zero v = choiceBits a (n + valuesOf l ls) (n + v)
+fixedBits a (l ∷ ls) n (suc level) v =
+    choiceBits a (n + valuesOf l ls) (n + length l) ++ fixedBits a ls 0 level v
 
 -- ---- what the functions answer
 
@@ -91,3 +142,8 @@ pub record Stands (mode kind : ℕ) : Type 0 where
 pub record KindAt (comments instructions : Bool) (mode level v r : ℕ) : Type 0 where
   pub is : r ≡ kindNumber (getD (levelAt comments instructions mode level) v SD)
   pub stands : v < length (levelAt comments instructions mode level) → Stands mode r
+
+pub record PlaceAt (comments instructions : Bool) (mode kind : ℕ) (r : Place) : Type 0 where
+  pub is : r ≡ placeAs (placeIn (tableOf comments instructions mode) kind)
+  pub few : r .level ≤ 3
+  pub low : r .level < 3 → r .value < length (levelAt comments instructions mode (r .level))

@@ -4,10 +4,12 @@
 ghost use mathlib.Core.Path.{_≡_};
 ghost use mathlib.Core.List.{[], _∷_};
 ghost use Prim.Native.Nat.{_<_};
+ghost use mathlib.Core.Option.{none};
 ghost use lib.ListN.{length, getD};
-ghost use Rattle.spec_exi.specs.Event.{SD};
+ghost use Rattle.spec_exi.specs.Event.{Kind, SD};
 ghost use Rattle.spec_exi.specs.Grammar.{kindNumber};
-ghost use Rattle.grammar_codes.specs.Table.{keptKinds, CountAt, KindAt, valuesAt};
+ghost use Rattle.grammar_codes.specs.Table.{keptKinds, CountAt, KindAt, valuesAt, PlaceAt};
+ghost use Rattle.grammar_codes.specs.Table.{tableOf, numberIn, keptPlace, placeIn, placeAs};
 use event_code::AT;
 use event_code::CH;
 use event_code::CM;
@@ -16,6 +18,12 @@ use event_code::EE;
 use event_code::PI;
 use event_code::SD;
 use event_code::SE;
+
+// A level, and the number of a production there; level 3 for none.
+pub struct Place {
+    pub level: u32,
+    pub value: u32,
+}
 
 // The one of four with this number, or 0.
 fn nth(i: u32, a: u32, b: u32, c: u32, d: u32) -> u32
@@ -109,4 +117,86 @@ pub fn values_at(mode: u32, level: u32, comments: bool, instructions: bool) -> u
         return here;
     }
     here + 1
+}
+
+fn nowhere() -> Place
+    ensures { λ r. ⌜ r ≡ placeAs none ⌝ }
+{
+    Place { level: 3, value: 0 }
+}
+
+// A comment or an instruction, in the level that has those that are kept.
+fn kept_place(kind: u32, level: u32, comments: bool, instructions: bool) -> Place
+    ensures { λ r. ⌜ r ≡ keptPlace level (numberIn (keptKinds comments instructions) kind) ⌝ }
+{
+    if kind == CM {
+        if comments {
+            return Place { level, value: 0 };
+        }
+        return nowhere();
+    }
+    if kind == PI {
+        if !instructions {
+            return nowhere();
+        }
+        if comments {
+            return Place { level, value: 1 };
+        }
+        return Place { level, value: 0 };
+    }
+    nowhere()
+}
+
+fn tag_place(kind: u32, comments: bool, instructions: bool) -> Place
+    ensures { λ r. ⌜ r ≡ placeAs (placeIn (tableOf comments instructions 4) kind) ⌝ }
+{
+    match kind {
+        EE => Place { level: 1, value: 0 },
+        AT => Place { level: 1, value: 1 },
+        SE => Place { level: 1, value: 2 },
+        CH => Place { level: 1, value: 3 },
+        _ => kept_place(kind, 2, comments, instructions),
+    }
+}
+
+fn element_place(kind: u32, comments: bool, instructions: bool) -> Place
+    ensures { λ r. ⌜ r ≡ placeAs (placeIn (tableOf comments instructions 5) kind) ⌝ }
+{
+    match kind {
+        EE => Place { level: 0, value: 0 },
+        SE => Place { level: 1, value: 0 },
+        CH => Place { level: 1, value: 1 },
+        _ => kept_place(kind, 2, comments, instructions),
+    }
+}
+
+// Outside the root element: one kind stands in the first level.
+fn outer_place(first: u32, kind: u32, comments: bool, instructions: bool) -> Place
+    ensures { λ r. ⌜
+        ((k : Kind) → kindNumber k ≡ first
+        → r ≡ placeAs (placeIn ((k ∷ []) ∷ keptKinds comments instructions ∷ []) kind)) ⌝ }
+{
+    if kind == first {
+        return Place { level: 0, value: 0 };
+    }
+    kept_place(kind, 1, comments, instructions)
+}
+
+// Where a kind stands in the table of a state.
+pub fn place_of(mode: u32, kind: u32, comments: bool, instructions: bool) -> Place
+    ensures { λ r. ⌜ PlaceAt comments instructions mode kind r ⌝ }
+{
+    match mode {
+        0 => {
+            if kind == SD {
+                return Place { level: 0, value: 0 };
+            }
+            nowhere()
+        }
+        1 => outer_place(SE, kind, comments, instructions),
+        2 => outer_place(ED, kind, comments, instructions),
+        4 => tag_place(kind, comments, instructions),
+        5 => element_place(kind, comments, instructions),
+        _ => nowhere(),
+    }
 }

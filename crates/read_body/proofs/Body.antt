@@ -15,10 +15,11 @@ use Rattle.spec_exi.specs.Tables.{Placed}
 use Rattle.spec_exi.specs.Reader.{Reading, ending, readReply}
 use Rattle.mem_rows.specs.Rows.{Rows, tablesOf, contextOf}
 use Rattle.mem_state.specs.Holds.{contextAt}
-use Rattle.read_run.specs.declared.State.{State}
+use Rattle.open_elements.specs.declared.State.{State}
 use Rattle.read_run.specs.declared.Advanced.{Advanced}
 use Rattle.read_run.specs.Events.{none-read}
-use Rattle.read_run.specs.Run.{openedIn, Running, AdvancePre, AdvancePost}
+use Rattle.open_elements.specs.Opened.{openedIn}
+use Rattle.read_run.specs.Run.{Running, AdvancePre, AdvancePost}
 use Rattle.read_run.proofs.Laid.{text-same}
 use Rattle.read_run.proofs.Events.{shifted}
 use Rattle.read_run.proofs.Answers.{context-going, Answers, running-answers}

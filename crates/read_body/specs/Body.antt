@@ -11,8 +11,9 @@ use Rattle.spec_exi.specs.Reader.{Reading, readEvents}
 use Rattle.mem_rows.specs.Rows.{Rows, isOver}
 use Rattle.mem_state.specs.Holds.{inStore, Topped, Represents, contextAt}
 use Rattle.read_literal.specs.Literal.{ZeroFrom}
-use Rattle.read_run.specs.declared.State.{State}
-use Rattle.read_run.specs.Run.{openedIn, EventsLaid, TextLaid}
+use Rattle.open_elements.specs.declared.State.{State}
+use Rattle.open_elements.specs.Opened.{openedIn}
+use Rattle.read_run.specs.Run.{EventsLaid, TextLaid}
 use Rattle.read_body.specs.declared.ReadReply as declared
 use Rattle.read_body.specs.Reply.{Attempted, Filled}
 

@@ -8,8 +8,8 @@ ghost use Rattle.settings.specs.Meant.{settingsFrom};
 ghost use Rattle.read_run.specs.Run.{AdvancePre};
 ghost use Rattle.read_body.specs.Reply.{refusalOf};
 ghost use Rattle.read_body.specs.Body.{PlaceIn, RunPost, BodyPost};
+use open_elements::State;
 use read_field::Field;
-use read_run::State;
 use refusal::TAIL;
 use settings::Settings;
 

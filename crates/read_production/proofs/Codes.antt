@@ -18,7 +18,7 @@ use Rattle.spec_exi.specs.Context.{levelsIn}
 use Rattle.spec_exi.proofs.Codes.{code-same, fits-kind}
 use Rattle.event_code.specs.Parts.{fixedParts, modeOf, teachesIn, learnt}
 use Rattle.event_code.proofs.Codes.{fixed-coded, fixed-none}
-use Rattle.grammar_codes.specs.Table.{tableOf, withLearned, Reaches, at-level, in-next}
+use Rattle.grammar_codes.specs.Table.{tableOf, withLearned, Reaches, at-level, in-next, FixedCode}
 use Rattle.grammar_codes.specs.Table.{afterLearned}
 use Rattle.grammar_codes.proofs.Table.{kinds-once}
 use Rattle.grammar_codes.proofs.Codes.{fixed-code, fixed-loose, learned-code}
@@ -28,7 +28,6 @@ use Rattle.mem_rows.specs.Rows.{productionOf, learnedOf, stateOf, contextOf}
 use Rattle.mem_rows.specs.Valid.{Valid}
 use Rattle.read_production.specs.declared.ProductionRead.{ProductionRead}
 use Rattle.read_production.specs.Answers.{fixedAs}
-use Rattle.read_production.specs.Levels.{FixedCode}
 use Rattle.read_production.specs.Learned.{siteIn, IsLearned}
 use Rattle.read_production.specs.Production.{CodeRows, learnedHere, codeHere, Strict}
 use Rattle.read_production.specs.Production.{Unlearned, IsCode}

@@ -6,7 +6,7 @@ use mathlib.Core.Path.{_≡_, refl, sym, ap, subst, _∙_}
 use mathlib.Core.Bool.{true, false, cond}
 use mathlib.Core.List.{List, [], _∷_, _++_, map}
 use mathlib.Core.Option.{Option, none, some, Option·none-ne-some}
-use lib.ListN.{length, getD, getElem?, drop, length-append, length-map}
+use lib.ListN.{length, getD, getElem?, drop, length-map}
 use lib.Dec.{eqb, ltb}
 use borrow.Author.Tests.{eqb-true, eqb-false, ltb-true, ltb-false}
 use Rattle.spec_fields.specs.Bits.{Bits, octetsFor}
@@ -19,12 +19,13 @@ use Rattle.spec_exi.specs.Event.{Kind, SD}
 use Rattle.spec_exi.specs.Grammar.{Production, Code, unnamed, allEmpty, choices}
 use Rattle.spec_exi.specs.Grammar.{atLevel, below}
 use Rattle.spec_exi.specs.Reader.{readCode}
-use Rattle.grammar_codes.specs.Table.{noKinds, valuesOf, leveled, withLearned, at-level}
-use Rattle.grammar_codes.specs.Table.{in-next, raisedBy, afterLearned}
+use Rattle.grammar_codes.specs.Table.{noKinds, leveled, withLearned, at-level, in-next, FixedCode}
+use Rattle.grammar_codes.specs.Table.{raisedBy, afterLearned}
+use Rattle.grammar_codes.proofs.Bits.{none-left, level-count, choices-count}
 use Rattle.read_contract.specs.Outcome.{Outcome}
 use Rattle.read_contract.proofs.Outcome.{refused-outcome, declined-as, declined-then}
 use Rattle.read_production.specs.declared.Level.{Level}
-use Rattle.read_production.specs.Levels.{LevelRead, FixedCode}
+use Rattle.read_production.specs.Levels.{LevelRead}
 use Rattle.read_production.proofs.Parts.{level-refused, level-here, level-below}
 
 -- ---- choices
@@ -54,29 +55,9 @@ module _ {A : Type 0} where
   at-nth d (y ∷ l) zero h = refl
   at-nth d (y ∷ l) (suc v) h = at-nth d l v (omega arith)
 
-none-left : (ls : List (List Kind)) → allEmpty (leveled ls) ≡ noKinds ls
-unfolding allEmpty leveled noKinds
-none-left [] = refl
-none-left ([] ∷ ls) = none-left ls
-none-left ((k ∷ ks) ∷ ls) = refl
-
 module _ (ps : List Production) (l : List Kind) (ls : List (List Kind)) where
   abbrev level : List Production
   level = ps ++ map unnamed l
-
-  level-count : length (ps ++ map unnamed l) ≡ length ps + length l
-  level-count = length-append ps (map unnamed l) ∙ ap (λ n. length ps + n) (length-map l unnamed)
-
-  choices-count : length (choices level (leveled ls)) ≡ length ps + valuesOf l ls
-  unfolding choices
-  choices-count =
-      length-append (map some level) (cond (allEmpty (leveled ls)) [] (none ∷ []))
-      ∙ rw (length-map level (λ (p : Production). some p), level-count, none-left ls) last
-    where
-      last : length ps + length l
-          + length (cond {A = List (Option Production)} (noKinds ls) [] (none ∷ []))
-          ≡ length ps + (length l + cond (noKinds ls) 0 1)
-      last = split (noKinds ls) (λ t. rw t (omega arith)) (λ t. rw t (omega arith))
 
   choices-at : (v : ℕ) {p : Production} → getElem? level v ≡ some p
       → getElem? (choices level (leveled ls)) v ≡ some (some p)
@@ -100,7 +81,7 @@ module _ (ps : List Production) (l : List Kind) (ls : List (List Kind)) where
   unfolding choices
   choices-on t =
       let n : length (map some level) + 0 ≡ length ps + length l =
-      omega (arith, length-map level (λ (p : Production). some p), level-count) in
+      omega (arith, length-map level (λ (p : Production). some p), level-count ps l ls) in
       ap (getElem? (map some level ++ cond (allEmpty (leveled ls)) [] (none ∷ []))) (sym n)
       ∙ at-back (map some level) (cond (allEmpty (leveled ls)) [] (none ∷ [])) 0
       (rw (none-left ls, t))

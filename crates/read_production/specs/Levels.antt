@@ -12,9 +12,9 @@ use Rattle.spec_fields.specs.Field.{Alignment, choice}
 use Rattle.spec_exi.specs.Event.{Kind, SD}
 use Rattle.spec_exi.specs.Sizes.{maxStream}
 use Rattle.spec_exi.specs.Settings.{Settings}
-use Rattle.spec_exi.specs.Grammar.{Production, Code, kindNumber}
+use Rattle.spec_exi.specs.Grammar.{Production, kindNumber}
 use Rattle.spec_exi.specs.Reader.{readCode}
-use Rattle.grammar_codes.specs.Table.{tableOf, levelAt, valuesOf, leveled, Reaches, Stands}
+use Rattle.grammar_codes.specs.Table.{tableOf, levelAt, valuesOf, leveled, FixedCode, Stands}
 use Rattle.read_contract.specs.Outcome.{Declined, Outcome}
 use Rattle.read_production.specs.declared.Level.{Level}
 
@@ -62,11 +62,6 @@ LevelAt s mode level before stream at r =
 pub record LowerPre (stream : List ℕ) (at : ℕ) : Type 0 where
   pub size : length stream ≤ maxStream
   pub place : at ≤ 8 * length stream
-
--- A code that the table has, of a production of this kind.
-pub record FixedCode (t : List (List Kind)) (kind : ℕ) (x : Code) : Type 0 where
-  pub reaches : Reaches t x
-  pub is : kindNumber (x .production .kind) ≡ kind
 
 pub record LowerRead (s : Settings) (mode : ℕ) (stream : List ℕ) (at : ℕ) (r : Level)
     : Type 0 where

@@ -26,10 +26,11 @@ use Rattle.mem_rows.specs.Rows.{Rows, nameAt, inTag, isOver, stateOf, ModeFits,
 use Rattle.mem_state.specs.declared.Core.{Core}
 use Rattle.mem_state.specs.Holds.{inStore, Bounded, Topped, Represents, contextAt}
 use Rattle.read_contract.specs.Outcome.{Declined}
-use Rattle.read_run.specs.declared.State.{State}
+use Rattle.open_elements.specs.declared.State.{State}
 use Rattle.read_run.specs.declared.Advanced.{Advanced}
 use Rattle.read_run.specs.Events.{Steps}
-use Rattle.read_run.specs.Run.{openedIn, Running, AdvancePost}
+use Rattle.open_elements.specs.Opened.{openedIn}
+use Rattle.read_run.specs.Run.{Running, AdvancePost}
 use Rattle.read_run.proofs.Events.{steps-then, no-step, shifted, onFrom, steps-answer}
 use Rattle.read_run.proofs.Events.{steps-first}
 

@@ -1,4 +1,3 @@
-pub mod Opened
 pub mod Laid
 pub mod Events
 pub mod Turns

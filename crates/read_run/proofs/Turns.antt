@@ -26,13 +26,14 @@ use Rattle.read_contract.specs.Outcome.{Declined, Gotten}
 use Rattle.read_literal.specs.Literal.{laidAt}
 use Rattle.read_literal.proofs.Store.{laid-none}
 use Rattle.read_step.specs.declared.Stepped.{Stepped}
-use Rattle.read_step.specs.Step.{StepPre, StepRefused, StepLaid, StepMeans, StepPost, Turned}
-use Rattle.read_run.specs.declared.State.{State}
+use Rattle.read_step.specs.Step.{StepPre, StepRefused, StepLaid, StepMeans, StepPost}
+use Rattle.open_elements.specs.declared.State.{State}
+use Rattle.open_elements.specs.Opened.{openedIn, innermostIn, Kept}
+use Rattle.open_elements.proofs.Opened.{last-top, innermost-is, innermost-small}
+use Rattle.open_elements.proofs.Tops.{withTop, represents-top, bounded-top, stored-row, same-rows}
 use Rattle.read_run.specs.Events.{Steps, none-read, cellsOfAll}
-use Rattle.read_run.specs.Run.{lastFirst, openedIn, innermostIn, AdvancePre}
+use Rattle.read_run.specs.Run.{AdvancePre}
 use Rattle.read_run.specs.Run.{TextLaid, Running, Progress, Refuses, AdvancePost}
-use Rattle.read_run.proofs.Opened.{last-pushed, last-popped, last-top, innermost-is}
-use Rattle.read_run.proofs.Opened.{innermost-small}
 use Rattle.read_run.proofs.Laid.{cells-size, cells-more, row-next, events-next, text-next}
 use Rattle.read_run.proofs.Laid.{text-cleared, text-same, events-same, cleared-before}
 use Rattle.read_run.proofs.Events.{one-more}
@@ -51,53 +52,6 @@ represents-text {c = c} e room h =
           (h .holds);
       counts = h .counts;
       opens = h .opens;
-    }
-
--- Another top.
-abbrev pub withTop : Core → ℕ → Core
-withTop c top =
-    record {
-      at = c .at;
-      stored = c .stored;
-      uris = c .uris;
-      names = c .names;
-      values = c .values;
-      learned = c .learned;
-      grammars = c .grammars;
-      mode = c .mode;
-      top = top;
-      depth = c .depth;
-    }
-
-represents-top : {work : List ℕ} {from : Stores} {c : Core} {w : Rows} {opened : List ℕ} (top : ℕ)
-    → Represents work from c w opened → Represents work from (withTop c top) w opened
-represents-top top h =
-    record {
-      valid = h .valid;
-      holds = h .holds;
-      counts =
-          record {
-            uris = h .counts .uris;
-            names = h .counts .names;
-            values = h .counts .values;
-            learned = h .counts .learned;
-            grammars = h .counts .grammars;
-          };
-      opens = record { size = h .opens .size; rows = h .opens .rows };
-    }
-
-bounded-top : {c : Core} (top : ℕ) → top < nameRows → Bounded c → Bounded (withTop c top)
-bounded-top top h b =
-    record {
-      stored = b .stored;
-      uris = b .uris;
-      names = b .names;
-      values = b .values;
-      learned = b .learned;
-      grammars = b .grammars;
-      top = h;
-      depth = b .depth;
-      fits = b .fits;
     }
 
 -- ---- no event yet
@@ -284,39 +238,18 @@ module _ {s : Settings} {stream events text work : List ℕ} {st : State} {first
         laid : StepLaid events′ text′ work′ (t .core) (cellsPerEvent * n) events″ text″ work″ r
         laid = p .laid z
 
-        -- These rows in the array are the open elements after the event.
-        pub record Kept (rows : List ℕ) : Type 0 where
-          pub size : length rows ≡ maxOpen
-          pub is : (o : List ℕ) → Turned (t .core) (r .core) (openedIn t) o
-              → lastFirst (r .core .depth) rows ≡ o
+        -- These cells of the array are the open elements after the event.
+        abbrev pub KeptAfter : List ℕ → Type 0
+        KeptAfter rows = Kept (t .core) (r .core) (openedIn t) rows
 
-        -- An element begins: its row is stored.
-        pub stored-row : t .core .depth < r .core .depth
-            → Kept (set (t .opened) (t .core .depth) (r .core .top))
-        stored-row l =
-            record {
-              size = simp length-set (i .array);
-              is = λ o u.
-                  let (e, k) = u .enters l in
-                  ap (λ d. lastFirst d (set (t .opened) (t .core .depth) (r .core .top))) e
-                  ∙ last-pushed (t .core .depth) (r .core .top) (t .opened)
-                  (omega (arith, i .array, p .bounded .depth)) ∙ sym k;
-            }
+        pub turn-stored : t .core .depth < r .core .depth
+            → KeptAfter (set (t .opened) (t .core .depth) (r .core .top))
+        turn-stored = stored-row t (r .core) (i .array) (p .bounded .depth)
 
-        -- Else the array stays.
-        pub same-rows : r .core .depth ≤ t .core .depth → Kept (t .opened)
-        same-rows l =
-            record {
-              size = i .array;
-              is = λ o u. elim (ℕ-discrete (r .core .depth) (t .core .depth)) [
-                | yes y ↦ ap (λ d. lastFirst d (t .opened)) y ∙ sym (u .stays y)
-                | no y ↦
-                    let (e, k) = u .leaves (omega arith) in
-                    last-popped (t .core .depth) (r .core .depth) (t .opened) (t .core .top) o e k
-              ];
-            }
+        pub turn-same : r .core .depth ≤ t .core .depth → KeptAfter (t .opened)
+        turn-same = same-rows t (r .core) (i .array)
 
-        module _ {rows : List ℕ} (kept : Kept rows) {top : ℕ}
+        module _ {rows : List ℕ} (kept : KeptAfter rows) {top : ℕ}
             (inner : top ≡ innermostIn rows (r .core .depth)) where
           abbrev later : State
           later = record { core = withTop (r .core) top; opened = rows }

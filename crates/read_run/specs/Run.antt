@@ -17,26 +17,10 @@ use Rattle.mem_rows.specs.Rows.{Rows, isOver}
 use Rattle.mem_state.specs.Holds.{inStore, Bounded, Topped, Represents, contextAt}
 use Rattle.read_contract.specs.Outcome.{Declined}
 use Rattle.read_literal.specs.Literal.{laidAt}
-use Rattle.read_run.specs.declared.State.{State}
+use Rattle.open_elements.specs.declared.State.{State}
+use Rattle.open_elements.specs.Opened.{openedIn}
 use Rattle.read_run.specs.declared.Advanced.{Advanced}
 use Rattle.read_run.specs.Events.{Steps, cellsOfAll}
-
--- ---- the open elements
-
--- The first n cells of an array, the last first.
-unfoldable pub lastFirst : ℕ → List ℕ → List ℕ
-lastFirst zero l = []
-lastFirst (suc n) l = getD l n 0 ∷ lastFirst n l
-
--- The open elements, the innermost first.
-abbrev pub openedIn : State → List ℕ
-openedIn t = lastFirst (t .core .depth) (t .opened)
-
--- The innermost of so many, or 0. (Rows of names are below `nameRows`: nothing is taken from
--- them.)
-unfoldable pub innermostIn : List ℕ → ℕ → ℕ
-innermostIn opened zero = 0
-innermostIn opened (suc n) = getD opened n 0 % nameRows
 
 -- ---- bounds alone
 

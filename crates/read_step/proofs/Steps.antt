@@ -41,7 +41,8 @@ use Rattle.read_step.specs.Judge.{AfterPre}
 use Rattle.read_step.specs.Step.{StepPre, StepMeans, StepPost}
 use Rattle.read_step.proofs.Tests.{fits-learned, opened-after, learned-after}
 use Rattle.read_step.proofs.Tests.{grammars-after}
-use Rattle.read_step.proofs.Turns.{opened-turned, opened-rows, after-bounded}
+use Rattle.open_elements.proofs.Turns.{opened-turned, opened-rows}
+use Rattle.read_step.proofs.Turns.{after-bounded}
 
 module _ {stream events text work : List ℕ} {c : Core} {cell : ℕ}
     (pre : StepPre stream events text work c cell) where

@@ -18,6 +18,7 @@ use Rattle.mem_state.specs.declared.Strings.{Strings}
 use Rattle.mem_state.specs.declared.Growth.{Growth}
 use Rattle.mem_state.specs.Commit.{joinedStrings, grown, counted, turned}
 use Rattle.mem_state.specs.Holds.{inStore, Bounded, Topped, Represents, contextAt}
+use Rattle.open_elements.specs.Opened.{Turned}
 use Rattle.read_contract.specs.Outcome.{Outcome}
 use Rattle.read_literal.specs.Literal.{laidAt, Cleared}
 use Rattle.read_step.specs.declared.Stepped.{Stepped}
@@ -61,13 +62,6 @@ pub record StepLaid (events text work : List ℕ) (c : Core) (cell : ℕ) (event
       (growth .name)
 
 -- ---- by the definitions
-
--- What an event leaves of the open elements. (After an end tag the top is the ended element's: only
--- who keeps them all knows the next.)
-pub record Turned (c d : Core) (opened opened′ : List ℕ) : Type 0 where
-  pub enters : c .depth < d .depth → (d .depth ≡ c .depth + 1) × (opened′ ≡ d .top ∷ opened)
-  pub stays : d .depth ≡ c .depth → opened′ ≡ opened
-  pub leaves : d .depth < c .depth → (d .depth + 1 ≡ c .depth) × (opened ≡ c .top ∷ opened′)
 
 -- v is the event and the context that memory represents after it.
 pub record StepMeans (events : List ℕ) (c : Core) (cell : ℕ) (opened events′ text′ work′ : List ℕ)

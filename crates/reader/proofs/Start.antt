@@ -16,8 +16,9 @@ use Rattle.mem_layout.specs.Layout.{workCells, zeroCells}
 use Rattle.mem_initial.specs.Initial.{initialText, withText, withRows, startRows, startAt, Layable}
 use Rattle.mem_initial.proofs.Initial.{start-represents, start-topped, start-bounded, start-means}
 use Rattle.read_literal.specs.Literal.{ZeroFrom}
-use Rattle.read_run.specs.declared.State.{State}
-use Rattle.read_run.specs.Run.{lastFirst, AdvancePre}
+use Rattle.open_elements.specs.declared.State.{State}
+use Rattle.open_elements.specs.Opened.{lastFirst}
+use Rattle.read_run.specs.Run.{AdvancePre}
 use Rattle.read_body.specs.Body.{BodyReady, answerFrom}
 use Rattle.reader.specs.Read.{StreamReady, zeroed, initialState}
 

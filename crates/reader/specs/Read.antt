@@ -10,7 +10,7 @@ use Rattle.spec_exi.specs.Reader as format
 use Rattle.settings.specs.Meant.{numbersOf}
 use Rattle.settings.specs.declared.SettingNumbers.{SettingNumbers}
 use Rattle.mem_initial.specs.Initial.{startAt}
-use Rattle.read_run.specs.declared.State.{State}
+use Rattle.open_elements.specs.declared.State.{State}
 use Rattle.read_body.specs.Reply.{replyOf, eventsFilled, textFilled}
 use Rattle.read_body.specs.declared.ReadReply as declared
 

@@ -5,11 +5,11 @@ use mathlib.Core.Logic.{⊎-elim}
 use mathlib.Core.Path.{sym, subst, _∙_}
 use Rattle.settings.specs.Meant.{settingsFrom}
 use Rattle.spec_exi.specs.Sizes.{maxEvents, maxOpen, cellsPerEvent}
-use Rattle.read_run.specs.declared.State.{State}
+use Rattle.open_elements.specs.declared.State.{State}
 use Rattle.read_run.specs.Run.{Progress}
 use Rattle.read_run.proofs.Turns.{progress-start, same-events, same-text, turn-asks}
-use Rattle.read_run.proofs.Turns.{turn-over, turn-full, turn-refused, turn-more, Kept}
-use Rattle.read_run.proofs.Turns.{stored-row, same-rows}
+use Rattle.read_run.proofs.Turns.{turn-over, turn-full, turn-refused, turn-more}
+use Rattle.read_run.proofs.Turns.{KeptAfter, turn-stored, turn-same}
 use borrow.Author.Needs.{needs}
 use Rattle.read_run.proofs.advance.Statement.{statement}
 use Rattle.read_run.proofs.advance.Tie as tie
@@ -150,16 +150,16 @@ loop-again c =
     let loop-test = if1 .before in
     let loop = loop-test .before in
     let start = loop .before .before .before .before .before in
-    let kept : Kept (start .pre) (loop .loop .inv) (loop-test .loop-test .taken) (if1 .if1 .left)
+    let kept : KeptAfter (start .pre) (loop .loop .inv) (loop-test .loop-test .taken) (if1 .if1 .left)
     (step .step .ensures) (if2 .if2 .left) (if3 .if3 .t .opened) =
     ⊎-elim
-    (λ w. subst (λ (x : State). Kept (start .pre) (loop .loop .inv) (loop-test .loop-test .taken)
+    (λ w. subst (λ (x : State). KeptAfter (start .pre) (loop .loop .inv) (loop-test .loop-test .taken)
     (if1 .if1 .left) (step .step .ensures) (if2 .if2 .left) (x .opened)) (sym (w .2))
-    (stored-row (start .pre) (loop .loop .inv) (loop-test .loop-test .taken) (if1 .if1 .left) (step
+    (turn-stored (start .pre) (loop .loop .inv) (loop-test .loop-test .taken) (if1 .if1 .left) (step
     .step .ensures) (if2 .if2 .left) (w .0 .taken)))
-    (λ w. subst (λ (x : State). Kept (start .pre) (loop .loop .inv) (loop-test .loop-test .taken)
+    (λ w. subst (λ (x : State). KeptAfter (start .pre) (loop .loop .inv) (loop-test .loop-test .taken)
     (if1 .if1 .left) (step .step .ensures) (if2 .if2 .left) (x .opened)) (sym (w .1))
-    (same-rows (start .pre) (loop .loop .inv) (loop-test .loop-test .taken) (if1 .if1 .left) (step
+    (turn-same (start .pre) (loop .loop .inv) (loop-test .loop-test .taken) (if1 .if1 .left) (step
     .step .ensures) (if2 .if2 .left) (w .0 .left)))
     (if3 .if3 .came) in
     turn-more (start .pre) (loop .loop .inv) (loop-test .loop-test .taken) (if1 .if1 .left) (step
