@@ -24,11 +24,11 @@ abbrev pub placedIn : List ℕ → Part → Placed
 placedIn text x = record { place = x .place; text = partAt text x }
 
 module _ {text : List ℕ} {x : Part} (i : Inside text x) where
-  pub fits-in : x .place + x .size ≤ length text
+  fits-in : x .place + x .size ≤ length text
   unfolding asSpan
   fits-in = inside-fits text (asSpan x) (is-T (inside text (asSpan x)) (i .is))
 
-  pub size-in : length (partAt text x) ≡ x .size
+  size-in : length (partAt text x) ≡ x .size
   unfolding asSpan
   size-in = part-length text (asSpan x) fits-in
 
