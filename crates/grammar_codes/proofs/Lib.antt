@@ -2,3 +2,4 @@ pub mod Table
 pub mod Codes
 pub mod Places
 pub mod Bits
+pub mod Teaches

@@ -1,5 +1,5 @@
 -- Where a kind stands in the table, and what its code is.
-use Prim.Native.Nat.{ℕ, suc, _≤_, _<_}
+use Prim.Native.Nat.{ℕ, zero, suc, _≤_, _<_}
 use native.Mathlib.Omega.{arith}
 use mathlib.Core.Path.{_≡_, refl, sym, ap, subst, _∙_}
 use mathlib.Core.Bool.{Bool, true, false}
@@ -7,7 +7,7 @@ use mathlib.Core.List.{List, [], _∷_, map}
 use mathlib.Core.Option.{Option, none, some, Option·map, Option·none-ne-some}
 use lib.ListN.{length, getD}
 use lib.Dec.{eqb}
-use borrow.Author.Tests.{eqb-true, eq-eqb, ne-eqb}
+use borrow.Author.Tests.{eqb-true, eqb-false, eq-eqb, ne-eqb}
 use Rattle.spec_fields.proofs.Tests.{split}
 use Rattle.text.specs.Text.{Text}
 use Rattle.spec_exi.specs.Event.{Event, Kind, SD, kindOf}
@@ -280,3 +280,36 @@ module _ (c i : Bool) (kind : ℕ) where
       → (mode ≡ 5 → ⊥) → placeAs none ≡ placeAs (placeIn (tableOf c i mode) kind)
   unfolding placeIn
   over-place {mode} a b d e f = rw (beyond c i mode a b d e f)
+
+-- ---- in an element
+
+-- SE, EE and CH have a place, and AT in a start tag.
+module _ (c i : Bool) where
+  tag-has : (k : ℕ) → 2 ≤ k → k ≤ 5 → placeIn (tableOf c i 4) k ≡ none → ⊥
+  unfolding tableOf tables placeIn numberIn inLevel kindNumber
+  tag-has zero a b e = omega arith
+  tag-has (suc zero) a b e = omega arith
+  tag-has (suc (suc zero)) a b e = Option·none-ne-some _ (sym e)
+  tag-has (suc (suc (suc zero))) a b e = Option·none-ne-some _ (sym e)
+  tag-has (suc (suc (suc (suc zero)))) a b e = Option·none-ne-some _ (sym e)
+  tag-has (suc (suc (suc (suc (suc zero))))) a b e = Option·none-ne-some _ (sym e)
+  tag-has (suc (suc (suc (suc (suc (suc k)))))) a b e = omega arith
+
+  content-has : (k : ℕ) → 2 ≤ k → k ≤ 5 → (k ≡ 3 → ⊥) → placeIn (tableOf c i 5) k ≡ none → ⊥
+  unfolding tableOf tables placeIn numberIn inLevel kindNumber
+  content-has zero a b n e = omega arith
+  content-has (suc zero) a b n e = omega arith
+  content-has (suc (suc zero)) a b n e = Option·none-ne-some _ (sym e)
+  content-has (suc (suc (suc zero))) a b n e = n refl
+  content-has (suc (suc (suc (suc zero)))) a b n e = Option·none-ne-some _ (sym e)
+  content-has (suc (suc (suc (suc (suc zero))))) a b n e = Option·none-ne-some _ (sym e)
+  content-has (suc (suc (suc (suc (suc (suc k)))))) a b n e = omega arith
+
+  pub element-has : {mode : ℕ} → 4 ≤ mode → mode ≤ 5 → (k : ℕ) → 2 ≤ k → k ≤ 5
+      → (k ≡ 3 → mode ≡ 4) → placeIn (tableOf c i mode) k ≡ none → ⊥
+  element-has {mode} l h k a b tag e =
+      split (eqb mode 4)
+      (λ t. let z : mode ≡ 4 = eqb-true mode 4 t in tag-has k a b (rw z at e))
+      (λ t.
+      let z : mode ≡ 5 = omega (arith, eqb-false mode 4 t) in
+      content-has k a b (λ y. omega (arith, tag y)) (rw z at e))

@@ -47,7 +47,7 @@ allOnce (l ∷ ls) = once l ls && allOnce ls
 unfoldable standsTest : ℕ → ℕ → Bool
 standsTest mode k = (leb 2 k || ltb mode 4) && (ltb k 4 || ltb 5 k || leb 4 mode)
 
-unfoldable every : (Kind → Bool) → List Kind → Bool
+unfoldable pub every : (Kind → Bool) → List Kind → Bool
 every p [] = true
 every p (x ∷ xs) = p x && every p xs
 
@@ -108,6 +108,13 @@ module _ (c i : Bool) (mode : ℕ) where
   fitted : T (fitting mode t)
   fitted = right (leb (length t) 3 && allOnce t) (fitting mode t) parts
 
+pub every-at : (p : Kind → Bool) (l : List Kind) (v : ℕ) → T (every p l) → v < length l
+    → T (p (getD l v SD))
+unfolding every
+every-at p [] v h b = absurd (omega arith)
+every-at p (x ∷ xs) zero h b = left (p x) (every p xs) h
+every-at p (x ∷ xs) (suc v) h b = every-at p xs v (right (p x) (every p xs) h) (omega arith)
+
 module _ (mode : ℕ) where
   level-fits : (ls : List (List Kind)) (level : ℕ) → T (fitting mode ls)
       → T (leb (length (getD ls level [])) 4
@@ -119,13 +126,6 @@ module _ (mode : ℕ) where
   level-fits (l ∷ ls) (suc level) h = level-fits ls level
       (right (leb (length l) 4 && every (λ k. standsTest mode (kindNumber k)) l)
       (fitting mode ls) h)
-
-  every-at : (p : Kind → Bool) (l : List Kind) (v : ℕ) → T (every p l) → v < length l
-      → T (p (getD l v SD))
-  unfolding every
-  every-at p [] v h b = absurd (omega arith)
-  every-at p (x ∷ xs) zero h b = left (p x) (every p xs) h
-  every-at p (x ∷ xs) (suc v) h b = every-at p xs v (right (p x) (every p xs) h) (omega arith)
 
   stands-is : (k : ℕ) → k < 8 → T (standsTest mode k) → Stands mode k
   unfolding standsTest
@@ -163,7 +163,7 @@ module _ (c i : Bool) (mode level : ℕ) where
   kind-stands v h =
       let l = getD (tableOf c i mode) level [] in
       stands-is mode _ (kind-below (getD l v SD))
-      (every-at mode (λ k. standsTest mode (kindNumber k)) l v
+      (every-at (λ k. standsTest mode (kindNumber k)) l v
       (right (leb (length l) 4) _ (level-fits mode (tableOf c i mode) level (fitted c i mode))) h)
 
 -- ---- how many values a part has

@@ -51,6 +51,7 @@ fits-up h f =
       from = f .from;
       upTo = f .upTo;
       name = omega (arith, f .name);
+      tag = f .tag;
       plain = f .plain;
     }
 

@@ -1,6 +1,6 @@
 -- What holds of the rows between events: each refers to rows that are there, no two of a table are the
 -- same, and every name was judged when it joined.
-use Prim.Native.Nat.{ℕ, _/_, _≤_, _<_}
+use Prim.Native.Nat.{ℕ, _/_, _%_, _≤_, _<_}
 use mathlib.Core.Path.{_≡_}
 use mathlib.Core.Bool.{true, false}
 use mathlib.Core.List.{List}
@@ -20,12 +20,13 @@ learntAt ls i = getD ls i noLearnt
 pub record KeysBelow (most : ℕ) (es : List (Entry ℕ)) : Type 0 where
   pub below : (i : ℕ) → i < length es → entryAt es i .key < most
 
--- A learned production is SE, AT, EE or CH, stands at a site of a name that is there, and carries such a
--- name, or 0.
+-- A learned production is SE, AT, EE or CH, stands at a site of a name that is there, AT in a start
+-- tag, and carries such a name, or 0.
 pub record LearntFits (names : ℕ) (l : Learnt) : Type 0 where
   pub site : l .site / 2 < names
   pub from : 2 ≤ l .kind
   pub upTo : l .kind ≤ 5
+  pub tag : l .kind ≡ 3 → l .site % 2 ≡ 1
   pub name : l .name < names
   pub plain : carries (kindAt (l .kind)) ≡ false → l .name ≡ 0
 

@@ -16,25 +16,23 @@ use Rattle.spec_exi.specs.Context.{levelsIn}
 use Rattle.spec_exi.specs.Reader.{readCode}
 use Rattle.grammar_codes.specs.Table.{tableOf, levelAt, Stands}
 use Rattle.mem_learned.specs.Learned.{CountedAt}
-use Rattle.mem_index.specs.Index.{tally}
 use Rattle.mem_rows.specs.Rows.{Rows, contextOf}
 use Rattle.mem_rows.specs.Valid.{Valid}
-use Rattle.mem_state.specs.Holds.{taughtIn}
 use Rattle.read_contract.specs.Outcome.{Outcome}
 use Rattle.read_contract.proofs.Outcome.{refused-outcome}
+use Rattle.grammar_match.specs.Here.{siteIn, SitePre, CountedHere, CodeRows, learnedHere}
+use Rattle.grammar_match.proofs.Here.{site-half, site-low, inner-here, top-row, levels-here}
+use Rattle.grammar_match.proofs.Here.{table-empty}
+use Rattle.grammar_match.proofs.Codes.{count-is}
 use Rattle.read_production.specs.declared.Level.{Level}
 use Rattle.read_production.specs.declared.ProductionRead.{ProductionRead}
 use Rattle.read_production.specs.Answers.{refusedAs, fixedAs}
 use Rattle.read_production.specs.Levels.{LevelPre, LevelAt, LevelRead, LowerPre, LowerRead}
-use Rattle.read_production.specs.Learned.{siteIn, SitePre, CountedHere, LearnedPre}
-use Rattle.read_production.specs.Learned.{IsLearned, LearnedRead}
-use Rattle.read_production.specs.Production.{ProductionPre, ProductionBounds, CodeRows}
-use Rattle.read_production.specs.Production.{learnedHere, IsCode, ProductionPost}
+use Rattle.read_production.specs.Learned.{LearnedPre, IsLearned, LearnedRead}
+use Rattle.read_production.specs.Production.{ProductionPre, ProductionBounds, IsCode}
+use Rattle.read_production.specs.Production.{ProductionPost}
 use Rattle.read_production.proofs.Levels.{table-refused, table-learned, table-fixed}
 use Rattle.read_production.proofs.Levels.{table-below}
-use Rattle.read_production.proofs.Here.{site-half, site-low, outer-here, inner-here, top-row}
-use Rattle.read_production.proofs.Here.{levels-here, table-empty}
-use Rattle.read_production.proofs.Rows.{here-count}
 use Rattle.read_production.proofs.Codes.{fixed-is, learned-is}
 
 -- ---- what the functions that are called ask
@@ -71,20 +69,6 @@ module _ (s : Settings) {stream : List ℕ} {at mode top learned : ℕ} {work : 
 
   module _ {w : Rows} {opened : List ℕ} (valid : Valid w)
       (rows : CodeRows work learned mode top w opened) where
-    count-is : count ≡ length (learnedHere w mode opened)
-    count-is =
-        split (ltb mode 4)
-        (λ t.
-        let l = ltb-true mode 4 t in
-        counted .outside l ∙ ap length (sym (outer-here rows l)))
-        (λ t.
-        let l = ltb-false mode 4 t in
-        counted .counted l .count learned (taughtIn w) (rows .hold)
-        ∙ ap (tally _) (sym (rows .hold .count))
-        ∙ sym (here-count valid (siteIn mode top)
-        (omega (arith, site-half mode top, top-row rows l)))
-        ∙ ap length (sym (inner-here rows l)))
-
     first : LevelRead (s .alignment) mode (getD (tableOf (s .comments) (s .instructions) mode) 0 [])
         (drop 1 (tableOf (s .comments) (s .instructions) mode))
         (length (learnedHere w mode opened)) stream at r
@@ -92,7 +76,7 @@ module _ (s : Settings) {stream : List ℕ} {at mode top learned : ℕ} {work : 
     first =
         subst (λ n. LevelRead (s .alignment) mode
         (getD (tableOf (s .comments) (s .instructions) mode) 0 [])
-        (drop 1 (tableOf (s .comments) (s .instructions) mode)) n stream at r) count-is g
+        (drop 1 (tableOf (s .comments) (s .instructions) mode)) n stream at r) (count-is valid rows counted) g
 
   -- A refusal.
   refused-post : {n : ℕ} → 0 < n → Meant (refusedAs n at)
@@ -141,7 +125,7 @@ module _ (s : Settings) {stream : List ℕ} {at mode top learned : ℕ} {work : 
         rw (levels-here rows s store)
         (table-fixed (learnedHere w mode opened) z (tableOf (s .comments) (s .instructions) mode)
         (table-empty rows (s .comments) (s .instructions)) (first valid rows)
-        (omega (arith, count-is valid rows)) y
+        (omega (arith, count-is valid rows counted)) y
         (fixed-is valid rows s store (r .kind) (r .next))))
 
     pub lower-asked : LowerPre stream (r .next)

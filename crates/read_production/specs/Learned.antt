@@ -5,7 +5,6 @@ use mathlib.Core.Bool.{true, cond}
 use mathlib.Core.List.{List}
 use mathlib.Core.Option.{some}
 use lib.ListN.{length, getElem?}
-use lib.Dec.{eqb}
 use Rattle.spec_fields.specs.Refusal.{numberOf, code}
 use Rattle.text.specs.Text.{Text}
 use Rattle.spec_exi.specs.Event.{Event}
@@ -14,26 +13,13 @@ use Rattle.spec_exi.specs.Grammar.{learnedIn, fits, firstFit}
 use Rattle.mem_layout.specs.Layout.{uriRows, nameRows, sites, workCells}
 use Rattle.mem_entries.specs.Entries.{keyAt}
 use Rattle.mem_learned.specs.Learned.{LearnedHold, CountedAt}
-use Rattle.mem_rows.specs.Rows.{Learnt, Rows, kindAt, carries, siteNumber, siteAt, productionOf}
-use Rattle.mem_rows.specs.Rows.{learnedOf, inTag}
 use Rattle.event_code.specs.Parts.{numberSE, numberCH}
+use Rattle.mem_rows.specs.Rows.{Learnt, Rows, kindAt, carries, siteAt, productionOf}
+use Rattle.mem_rows.specs.Rows.{learnedOf}
 use Rattle.mem_rows.specs.Valid.{LearntFits, Valid}
 use Rattle.mem_state.specs.Holds.{taughtIn}
 use Rattle.read_production.specs.declared.ProductionRead.{ProductionRead}
 use Rattle.read_production.specs.Answers.{refusedAs}
-
--- The number of the site, by the state's and the row of the innermost element's name.
-abbrev pub siteIn : ℕ → ℕ → ℕ
-siteIn mode top = siteNumber top (eqb mode inTag)
-
-pub record SitePre (work : List ℕ) (top : ℕ) : Type 0 where
-  pub room : workCells ≤ length work
-  pub low : top < nameRows
-
-pub record CountedHere (work : List ℕ) (mode top r : ℕ) : Type 0 where
-  pub outside : mode < inTag → r ≡ 0
-  pub counted : inTag ≤ mode → CountedAt work (siteIn mode top) r
-  pub few : r ≤ 4096
 
 pub record LearnedPre (work : List ℕ) (site learned : ℕ) : Type 0 where
   pub room : workCells ≤ length work

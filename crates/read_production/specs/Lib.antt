@@ -2,4 +2,3 @@ pub mod Answers
 pub mod Levels
 pub mod Learned
 pub mod Production
-pub mod Loose

@@ -2,28 +2,27 @@
 use Prim.Native.Nat.{ℕ, _*_, _≤_, _<_}
 use mathlib.Core.Path.{_≡_}
 use mathlib.Core.Bool.{true, false, cond}
-use mathlib.Core.List.{List, map}
-use mathlib.Core.Option.{Option, none, some}
-use lib.ListN.{length, getD}
+use mathlib.Core.List.{List}
+use mathlib.Core.Option.{none, some}
+use lib.ListN.{length}
 use Rattle.text.specs.Text.{Text}
-use Rattle.spec_exi.specs.Event.{QName, Event, kindOf}
+use Rattle.spec_exi.specs.Event.{Event, kindOf}
 use Rattle.spec_exi.specs.Sizes.{maxStream, maxLearned}
 use Rattle.spec_exi.specs.Settings.{Settings}
-use Rattle.spec_exi.specs.Tables.{Placed}
-use Rattle.spec_exi.specs.Grammar.{Production, Code, kindNumber, siteOf, learnedAt, fits, firstFit}
-use Rattle.spec_exi.specs.Grammar.{codeOf, sameCode, taught}
+use Rattle.spec_exi.specs.Grammar.{Production, Code, kindNumber, fits, firstFit}
+use Rattle.spec_exi.specs.Grammar.{sameCode}
 use Rattle.spec_exi.specs.Context.{levelsIn}
 use Rattle.spec_exi.specs.Reader.{readCode}
-use Rattle.event_code.specs.Parts.{numberSE, numberCH, teachesIn}
+use Rattle.event_code.specs.Parts.{numberSE, numberCH}
 use Rattle.grammar_codes.specs.Table.{Stands}
 use Rattle.mem_layout.specs.Layout.{uriRows, nameRows, workCells}
 use Rattle.mem_entries.specs.Entries.{keyAt}
-use Rattle.mem_learned.specs.Learned.{LearnedHold}
-use Rattle.mem_rows.specs.Rows.{Rows, nameAt, kindAt, carries, carriedAt, learnedOf, stateOf}
-use Rattle.mem_rows.specs.Rows.{ModeFits, contextOf, inTag}
+use Rattle.mem_rows.specs.Rows.{Rows, kindAt, carries, carriedAt}
+use Rattle.mem_rows.specs.Rows.{contextOf, inTag}
 use Rattle.mem_rows.specs.Valid.{Valid}
-use Rattle.mem_state.specs.Holds.{taughtIn}
 use Rattle.read_contract.specs.Outcome.{Outcome}
+use Rattle.grammar_match.specs.Here.{CodeRows, learnedHere, codeHere}
+use Rattle.grammar_match.specs.Codes.{Strict, Unlearned}
 use Rattle.read_production.specs.declared.ProductionRead.{ProductionRead}
 use Rattle.read_production.specs.Answers.{refusedAs}
 
@@ -59,19 +58,6 @@ pub record ProductionBounds (mode : ℕ) (r : ProductionRead) : Type 0 where
 
 -- ---- where memory holds rows
 
--- Memory holds the learned productions of w; these elements are open, the innermost first.
-pub record CodeRows (work : List ℕ) (learned mode top : ℕ) (w : Rows) (opened : List ℕ)
-    : Type 0 where
-  pub hold : LearnedHold work learned (taughtIn w)
-  pub fits : ModeFits mode (length opened)
-  pub rows : (i : ℕ) → i < length opened → getD opened i 0 < length (w .names)
-  pub topped : 0 < length opened → getD opened 0 0 ≡ top
-
--- What is learned in the state.
-abbrev pub learnedHere : Rows → ℕ → List ℕ → List Production
-learnedHere w mode opened =
-    learnedAt (siteOf (stateOf mode (map (nameAt w) opened))) (learnedOf w)
-
 -- The rows of a learned production's name.
 pub record NameRows (w : Rows) (r : ProductionRead) : Type 0 where
   pub name : r .name < length (w .names)
@@ -79,27 +65,11 @@ pub record NameRows (w : Rows) (r : ProductionRead) : Type 0 where
   pub local : r .local ≡ r .name
 
 module _ (s : Settings) (w : Rows) (store : Text) (mode : ℕ) (opened : List ℕ) where
-  abbrev pub codeHere : Event Text → Option Code
-  codeHere e = codeOf (levelsIn s (contextOf w store mode opened)) e
-
-  -- A learned production's code is the strict one of each event that it fits, and teaches nothing.
-  pub record Strict (x : Code) (e : Event Text) : Type 0 where
-    pub same : sameCode (x .parts) (codeHere e) ≡ true
-    pub untaught : (q : Option (QName Placed))
-        → taught (learnedHere w mode opened) x (kindOf e) q ≡ none
-
-  -- Where no learned production fits, any other's code is the strict one. What it teaches counts in
-  -- an element alone.
-  pub record Unlearned (kind : ℕ) (x : Code) (e : Event Text) : Type 0 where
-    pub same : sameCode (x .parts) (codeHere e) ≡ true
-    pub taught-is : inTag ≤ mode → (q : Option (QName Placed))
-        → taught (learnedHere w mode opened) x (kindOf e) q
-        ≡ cond (teachesIn mode kind) (some (record { kind = kindOf e; qname = q })) none
-
   pub record Fixed (kind : ℕ) (x : Code) (e : Event Text) : Type 0 where
-    pub strict : firstFit (learnedHere w mode opened) e ≡ none → Unlearned kind x e
+    pub strict : firstFit (learnedHere w mode opened) e ≡ none
+        → Unlearned s w store mode opened kind x e
     pub loose : (y : ℕ × Production) → firstFit (learnedHere w mode opened) e ≡ some y
-        → sameCode (x .parts) (codeHere e) ≡ false
+        → sameCode (x .parts) (codeHere s w store mode opened e) ≡ false
 
   pub record IsCode (r : ProductionRead) (x : Code) : Type 0 where
     pub production : x .production
@@ -109,7 +79,8 @@ module _ (s : Settings) (w : Rows) (store : Text) (mode : ℕ) (opened : List �
         }
     pub rows : r .learned ≡ true → NameRows w r
     pub nameless : carries (kindAt (r .kind)) ≡ false → Nameless r
-    pub strict : r .learned ≡ true → (e : Event Text) → fits (x .production) e ≡ true → Strict x e
+    pub strict : r .learned ≡ true → (e : Event Text) → fits (x .production) e ≡ true
+        → Strict s w store mode opened x e
     pub fixed : r .learned ≡ false → (e : Event Text) → kindNumber (kindOf e) ≡ r .kind
         → Fixed (r .kind) x e
 

@@ -1,20 +1,14 @@
-// An event code (EXI 6.2, 8.4.3), read to the production that it names; and whether a learned
-// production fits an event. Memory is not written, and every function is safe and ends on any
-// memory. What the functions ask and leave is in specs/.
+// An event code (EXI 6.2, 8.4.3), read to the production that it names. Memory is not written, and
+// every function is safe and ends on any memory. What the functions ask and leave is in specs/.
 ghost use mathlib.Core.Path.{_≡_};
-ghost use Prim.Native.Nat.{_<_};
 ghost use Rattle.read_field.specs.View.{alignmentOf, NumberIn};
 ghost use Rattle.settings.specs.Meant.{settingsFrom};
-ghost use Rattle.mem_layout.specs.Layout.{nameRows};
 ghost use Rattle.read_production.specs.Levels.{PartRead, LevelPre, LevelAt, LowerPre};
 ghost use Rattle.read_production.specs.Levels.{LowerRead};
-ghost use Rattle.read_production.specs.Learned.{SitePre, siteIn, CountedHere, LearnedPre};
-ghost use Rattle.read_production.specs.Learned.{LearnedRead};
+ghost use Rattle.read_production.specs.Learned.{LearnedPre, LearnedRead};
 ghost use Rattle.read_production.specs.Answers.{refusedAs, fixedAs, unnamedAs};
 ghost use Rattle.read_production.specs.Production.{ProductionPre, ProductionPost};
-ghost use Rattle.read_production.specs.Loose.{LoosePre, LoosePost};
 use event_code::CH;
-use event_code::IN_TAG;
 use event_code::SE;
 use read_field::Field;
 use refusal::CODE;
@@ -164,28 +158,6 @@ fn read_lower(o: Settings, stream: &[u8], at: usize, mode: u32) -> Level
     second
 }
 
-// The site of the innermost element's grammar, in its start tag or its content.
-pub fn site_in(mode: u32, top: u32) -> u32
-    requires { ⌜ top < nameRows ⌝ }
-    ensures { λ r. ⌜ r ≡ siteIn mode top ⌝ }
-{
-    if mode == IN_TAG {
-        return 2 * top + 1;
-    }
-    2 * top
-}
-
-// How many productions are learned there; outside an element, none.
-fn count_here(mode: u32, top: u32, work: &[u32]) -> u32
-    requires { ⌜ SitePre (now work) top ⌝ }
-    ensures { λ r. ⌜ CountedHere (now (work .entry)) mode top r ⌝ }
-{
-    if mode < IN_TAG {
-        return 0;
-    }
-    mem_learned::count_at(work, site_in(mode, top))
-}
-
 // The learned production of a site that has v newer ones, of count in all.
 fn read_learned(
     site: u32,
@@ -237,13 +209,13 @@ pub fn read_production(
         ProductionPost (settingsFrom o) (now (stream .entry)) at mode top learned
         (now (work .entry)) r ⌝ }
 {
-    let count = count_here(mode, top, work);
+    let count = grammar_match::count_here(mode, top, work);
     let first = read_level(o, stream, at, mode, 0, count);
     if first.number != 0 {
         return refused(first.number, at);
     }
     if first.value < count {
-        let site = site_in(mode, top);
+        let site = grammar_match::site_in(mode, top);
         return read_learned(site, count, first.value, learned, at, first.next, work);
     }
     if first.on {
@@ -254,22 +226,4 @@ pub fn read_production(
         return fixed(lower.kind, lower.next);
     }
     fixed(first.kind, first.next)
-}
-
-// Whether a learned production of the site fits an event of this kind whose name has this row, 0
-// where it has none.
-pub fn is_loose(mode: u32, top: u32, kind: u32, name: u32, learned: u32, work: &[u32]) -> bool
-    requires { ⌜ LoosePre (now work) top name learned ⌝ }
-    ensures { λ r. ⌜ LoosePost (now (work .entry)) mode top kind name learned r ⌝ }
-{
-    if mode < IN_TAG {
-        return false;
-    }
-    if kind < SE {
-        return false;
-    }
-    if CH < kind {
-        return false;
-    }
-    mem_learned::find(work, site_in(mode, top), kind, name, learned) != 0
 }

@@ -1,5 +1,5 @@
 -- An event that was read, over rows: the definitions' tests of it, and the context that it leaves.
-use Prim.Native.Nat.{ℕ, zero, suc, _+_, _*_, _/_, _%_, _≤_, _<_}
+use Prim.Native.Nat.{ℕ, suc, _-_, _/_, _≤_, _<_}
 use native.Mathlib.Omega.{arith}
 use mathlib.Core.Path.{_≡_, refl, sym, ap, subst, _∙_}
 use mathlib.Core.Bool.{Bool, true, false, cond, _&&_, not, true≢false}
@@ -7,7 +7,7 @@ use mathlib.Core.List.{List, [], _∷_, map}
 use mathlib.Core.Option.{Option, none, some, Option·map}
 use lib.ListN.{length, getD, take}
 use lib.Dec.{eqb, ltb}
-use borrow.Author.Tests.{eq-eqb, ltb-true, ltb-false}
+use borrow.Author.Tests.{eqb-true, eqb-false, eq-eqb, ltb-true, ltb-false, not-true, not-false}
 use Rattle.spec_fields.proofs.Tests.{split, T-is}
 use Rattle.text.specs.Text.{Text}
 use Rattle.spec_exi.specs.Sizes.{sizes, maxLearned}
@@ -45,18 +45,18 @@ use Rattle.mem_state.specs.Grows.{learntOf, entersIn, Grows}
 use Rattle.mem_state.proofs.Joins.{among-row}
 use Rattle.mem_state.proofs.Strung.{strings-ahead}
 use Rattle.mem_state.proofs.Taught.{ahead-kept}
+use Rattle.grammar_match.specs.Here.{siteIn, CodeRows, learnedHere}
+use Rattle.grammar_match.specs.Found.{NamedBy, Finds}
+use Rattle.grammar_match.proofs.Here.{site-half, site-low, site-here, tag-site}
+use Rattle.grammar_match.proofs.Unfit.{kind-number}
+use Rattle.grammar_match.proofs.Codes.{same-parts}
 use Rattle.read_production.specs.declared.ProductionRead.{ProductionRead}
-use Rattle.read_production.specs.Learned.{siteIn}
-use Rattle.read_production.specs.Production.{CodeRows, learnedHere, Strict, Unlearned, Fixed}
-use Rattle.read_production.specs.Production.{NameRows, IsCode, ProductionBounds}
-use Rattle.read_production.specs.Loose.{NamedBy, IsLoose, LoosePost}
-use Rattle.read_production.proofs.Here.{site-half, site-low, site-here}
+use Rattle.read_production.specs.Production.{IsCode, ProductionBounds}
 use Rattle.read_qname.specs.Qnames.{Carried, tablesAt}
 use Rattle.read_content.specs.declared.Content.{Content}
 use Rattle.read_content.specs.Contents.{ContentRows, ContentBounds, ContentMeans}
 use Rattle.read_step.specs.Judge.{growthOf, fitsIn, LooseHere}
 use Rattle.read_step.proofs.Rows.{code-rows, inner-state, kind-text, name-text, nameless}
-use Rattle.read_step.proofs.Rows.{kind-number}
 use Rattle.read_step.proofs.Tests.{fits-learned, fits-within}
 
 -- A name, by its texts.
@@ -120,6 +120,16 @@ in-element {mode = mode} {w = w} {opened = opened} r k e =
 
     none-some : {A : Type 0} {a : A} → none ≡ some a → ⊥
     none-some h = let z : _≡_ {A = ℕ} 0 1 = cc in omega arith
+
+-- AT teaches in a start tag alone.
+teaches-tag : (mode kind : ℕ) → teachesIn mode kind ≡ true → kind ≡ 3 → mode ≡ 4
+unfolding teachesIn
+teaches-tag mode kind t e =
+    split (eqb mode 4)
+    (λ a. eqb-true mode 4 a)
+    (λ a. split (eqb mode 5)
+    (λ b. absurd (true≢false (sym t ∙ rw (e, a, b))))
+    (λ b. absurd (true≢false (sym t ∙ rw (e, a, b)))))
 
 carries-start : (k : Kind) → kindNumber k ≡ 2 → carries k ≡ true
 unfolding kindNumber carries
@@ -213,17 +223,28 @@ module _ {work text : List ℕ} {c : Core} {w : Rows} {opened : List ℕ}
     -- ---- LOOSE
 
     module _ {l : Bool} (loose : LooseHere work c p (y .strings) l) where
-      is-loose : p .learned ≡ false → IsLoose w (c .mode) opened e l
-      is-loose f =
-          loose .fixed f .means w (m .rows) opened e (rep .valid) (m .joins .valid) ahead here
-          kind-is named-by
+      finds : (f : p .learned ≡ false)
+          → Finds w (c .mode) (c .top) row opened e (loose .fixed f .row)
+      finds f =
+          loose .fixed f .found .means w (m .rows) opened e (rep .valid) (m .joins .valid) ahead
+          here kind-is named-by
+
+      -- The row is 0 where it is not LOOSE.
+      no-row : (f : p .learned ≡ false) → l ≡ false → loose .fixed f .row ≡ 0
+      no-row f z = eqb-true (loose .fixed f .row) 0 (not-false _ (sym (loose .fixed f .is) ∙ z))
+
+      misses : p .learned ≡ false → l ≡ false
+          → firstFit (learnedHere w (c .mode) opened) e ≡ none
+      misses f z = finds f .miss (no-row f z)
 
       pub same-code : l ≡ false
           → sameCode (x .parts) (codeOf (levelsIn s (contextAt text c w opened)) e) ≡ true
       same-code z =
           split (p .learned)
-          (λ t. code .strict t e (learned-fits t) .same)
-          (λ f. code .fixed f e kind-is .strict (is-loose f .miss z) .same)
+          (λ t. same-parts (rep .valid) here s (take (c .stored) text) e
+          (code .strict t e (learned-fits t) .is))
+          (λ f. same-parts (rep .valid) here s (take (c .stored) text) e
+          (code .fixed f e kind-is .strict (misses f z) .is))
 
       pub other-code : l ≡ true
           → sameCode (x .parts) (codeOf (levelsIn s (contextAt text c w opened)) e) ≡ false
@@ -231,8 +252,10 @@ module _ {work text : List ℕ} {c : Core} {w : Rows} {opened : List ℕ}
           split (p .learned)
           (λ t. absurd (true≢false (sym z ∙ loose .learned t)))
           (λ f.
-          let (q, h) = is-loose f .hit z in
-          code .fixed f e kind-is .loose q h)
+          let g : ℕ = loose .fixed f .row in
+          let some-row : g ≡ 0 → ⊥ = eqb-false g 0 (not-true _ (sym (loose .fixed f .is) ∙ z)) in
+          let one : g ≡ suc (g - 1) = omega (arith, some-row) in
+          code .fixed f e kind-is .loose _ (finds f .hit (g - 1) one .first))
 
       -- ---- what the event leaves, where its code is the strict one
 
@@ -280,7 +303,7 @@ module _ {work text : List ℕ} {c : Core} {w : Rows} {opened : List ℕ}
         taught-yes h =
             let (f, t) = teaches-parts h in
             let d = teaches-in (c .mode) (p .kind) t in
-            let u = code .fixed f e kind-is .strict (is-loose f .miss strict) in (
+            let u = code .fixed f e kind-is .strict (misses f strict) in (
               site-is (d .0),
               u .taught-is (d .0) (nameOf (v .0))
                   ∙ ap (λ (z : Bool). cond z (some (record { kind = kindOf e; qname = nameOf (v .0) })) none) t
@@ -295,7 +318,7 @@ module _ {work text : List ℕ} {c : Core} {w : Rows} {opened : List ℕ}
             (λ f.
             let z : teachesIn (c .mode) (p .kind) ≡ false =
             sym (ap (λ (q : Bool). not q && teachesIn (c .mode) (p .kind)) f) ∙ h in
-            let u = code .fixed f e kind-is .strict (is-loose f .miss strict) in
+            let u = code .fixed f e kind-is .strict (misses f strict) in
             u .taught-is (in-element here k site) (nameOf (v .0))
             ∙ ap (λ (q : Bool). cond q (some (record { kind = kindOf e; qname = nameOf (v .0) }))
             none) z)
@@ -381,13 +404,17 @@ module _ {work text : List ℕ} {c : Core} {w : Rows} {opened : List ℕ}
                   site = omega (arith, site-half (c .mode) (c .top));
                   from = d .1;
                   upTo = d .2;
+                  tag = λ q.
+                      let e = sym (tag-site (c .top) (teaches-tag (c .mode) (p .kind) z q)) in
+                      omega (arith, e);
                   name = split (carries (kindAt (p .kind)))
                       (λ q. m .named (ap carries (m .kind-is) ∙ q) .row)
                       (λ q. omega (arith, m .unnamed (ap carries (m .kind-is) ∙ q) .row));
                   plain = λ q. m .unnamed (ap carries (m .kind-is) ∙ q) .row;
                 };
                 new = λ i h q.
-                    loose .fixed f .fresh w (here .hold) (d .0) (d .1) (d .2) strict i
+                    loose .fixed f .found .fresh w (here .hold) (d .0) (d .1) (d .2)
+                    (no-row f strict) i
                     (omega (arith, ap length (ahead .learned), h))
                     (ap (λ ls. learntAt ls i) (sym (ahead .learned)) ∙ q);
               }

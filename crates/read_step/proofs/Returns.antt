@@ -34,7 +34,7 @@ use Rattle.read_literal.specs.Literal.{laidAt}
 use Rattle.read_literal.proofs.Store.{laid-none}
 use Rattle.read_production.specs.declared.ProductionRead.{ProductionRead}
 use Rattle.read_production.specs.Production.{ProductionPre, ProductionPost, IsCode}
-use Rattle.read_production.proofs.Here.{site-low}
+use Rattle.grammar_match.proofs.Here.{site-low}
 use Rattle.read_qname.specs.Texts.{TextRead}
 use Rattle.read_qname.specs.Qnames.{tablesAt}
 use Rattle.read_qname.proofs.Texts.{text-size, text-cleared}

@@ -27,7 +27,7 @@ use Rattle.mem_learned.specs.Learned.{LearnedHold}
 use Rattle.mem_rows.specs.Rows.{Rows, placedAt, nameAt, kindAt, carries, stateOf, inTag, ModeFits}
 use Rattle.mem_state.specs.declared.Core.{Core}
 use Rattle.mem_state.specs.Holds.{taughtIn, inStore, Bounded, Topped, Represents}
-use Rattle.read_production.specs.Production.{CodeRows}
+use Rattle.grammar_match.specs.Here.{CodeRows}
 use Rattle.read_qname.specs.Qnames.{Prepared}
 
 -- ---- memory
@@ -105,19 +105,6 @@ nameless (attribute q v) e = absurd (true≢false e)
 nameless (characters v) e = refl
 nameless (comment x) e = refl
 nameless (instruction x y) e = refl
-
--- A kind by its number, and back.
-pub kind-number : (n : ℕ) → n < 8 → kindNumber (kindAt n) ≡ n
-unfolding kindAt kindNumber
-kind-number zero h = refl
-kind-number (suc zero) h = refl
-kind-number (suc (suc zero)) h = refl
-kind-number (suc (suc (suc zero))) h = refl
-kind-number (suc (suc (suc (suc zero)))) h = refl
-kind-number (suc (suc (suc (suc (suc zero))))) h = refl
-kind-number (suc (suc (suc (suc (suc (suc zero)))))) h = refl
-kind-number (suc (suc (suc (suc (suc (suc (suc zero))))))) h = refl
-kind-number (suc (suc (suc (suc (suc (suc (suc (suc n)))))))) h = absurd (omega arith)
 
 -- ---- a name that is carried is the event's
 

@@ -28,11 +28,11 @@ use Rattle.mem_state.specs.Commit.{counted, turned}
 use Rattle.mem_state.specs.Strung.{StringsJoin}
 use Rattle.mem_state.specs.Grows.{learntOf, Grows}
 use Rattle.grammar_codes.specs.Table.{Stands}
+use Rattle.grammar_match.specs.Here.{siteIn}
+use Rattle.grammar_match.specs.Found.{FoundHere}
 use Rattle.read_contract.specs.Outcome.{Outcome}
 use Rattle.read_literal.specs.Literal.{Cleared}
 use Rattle.read_production.specs.declared.ProductionRead.{ProductionRead}
-use Rattle.read_production.specs.Learned.{siteIn}
-use Rattle.read_production.specs.Loose.{LoosePost}
 use Rattle.read_qname.specs.Texts.{TextRead}
 use Rattle.read_qname.specs.Qnames.{noStrings}
 use Rattle.read_content.specs.Contents.{ContentBounds}
@@ -65,12 +65,18 @@ fitsIn c g =
     && not (g .enters && leb maxGrammars (c .grammars))
     && not (g .teaches && leb maxLearned (c .learned))
 
+-- A learned production that fits is in this row, counted from 1; 0 for none.
+pub record LooseBy (work : List ℕ) (c : Core) (p : ProductionRead) (s : Strings) (r : Bool) :
+    Type 0 where
+  pub row : ℕ
+  pub found : FoundHere work (c .mode) (c .top) (p .kind) (s .«name_row») (c .learned) row
+  pub is : r ≡ not (eqb row 0)
+
 -- Of a learned production the code is the strict one.
 pub record LooseHere (work : List ℕ) (c : Core) (p : ProductionRead) (s : Strings) (r : Bool) :
     Type 0 where
   pub learned : p .learned ≡ true → r ≡ false
-  pub fixed : p .learned ≡ false
-      → LoosePost work (c .mode) (c .top) (p .kind) (s .«name_row») (c .learned) r
+  pub fixed : p .learned ≡ false → LooseBy work c p s r
 
 unfoldable pub judgeNumber : Bool → Bool → ℕ
 judgeNumber l f = cond l (numberOf loose) (cond f 0 (numberOf limit))

@@ -52,7 +52,7 @@ fn growth(c: Core, p: ProductionRead, s: Strings, work: &[u32]) -> Growth
     let name = s.name_row;
     let has = mem_learned::has_grammar(work, name);
     let teaches = event_code::teaches(c.mode, kind);
-    let site = read_production::site_in(c.mode, c.top);
+    let site = grammar_match::site_in(c.mode, c.top);
     Growth {
         enters: (kind == SE) & !has,
         teaches: !p.learned & teaches,
@@ -87,7 +87,7 @@ fn loose(c: Core, p: ProductionRead, s: Strings, work: &[u32]) -> bool
     if p.learned {
         return false;
     }
-    read_production::is_loose(c.mode, c.top, p.kind, s.name_row, c.learned, work)
+    grammar_match::find_learned(c.mode, c.top, p.kind, s.name_row, c.learned, work) != 0
 }
 
 // Judges an event after its content: LOOSE, then the sizes.

@@ -7,7 +7,7 @@ use Rattle.read_step.proofs.growth.Reads as reads
 use Rattle.read_step.proofs.growth.Lts as lts
 use Rattle.event_code.proofs.teaches.Reads as teaches-reads
 use Rattle.mem_learned.proofs.has_grammar.Reads as has-grammar-reads
-use Rattle.read_production.proofs.site_in.Reads as site-in-reads
+use Rattle.grammar_match.proofs.site_in.Reads as site-in-reads
 
 -- src/lib.rt:53:9
 has-grammar-requires : tie.Need-has-grammar-requires

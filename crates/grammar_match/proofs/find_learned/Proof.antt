@@ -1,19 +1,19 @@
-use Rattle.read_production.proofs.Loose.{loose-found}
-use Rattle.read_production.proofs.Loose.{find-asks, loose-outside, loose-low, loose-high}
-use Rattle.read_production.proofs.is_loose.Statement.{statement}
-use Rattle.read_production.proofs.is_loose.Tie as tie
+use Rattle.grammar_match.proofs.Found.{found-row}
+use Rattle.grammar_match.proofs.Found.{find-asks, found-outside, found-low, found-high}
+use Rattle.grammar_match.proofs.find_learned.Statement.{statement}
+use Rattle.grammar_match.proofs.find_learned.Tie as tie
 
 returns : tie.Need-returns
-returns c = loose-outside _ _ _ _ (c .if1 .taken)
+returns c = found-outside _ _ _ _ (c .if1 .taken)
 
 returns-2 : tie.Need-returns-2
-returns-2 c = loose-low _ _ _ _ (c .before .if1 .left) (c .if2 .taken)
+returns-2 c = found-low _ _ _ _ (c .before .if1 .left) (c .if2 .taken)
 
 returns-3 : tie.Need-returns-3
 returns-3 c =
     let if1 = c .before .before .if1 in
     let if2 = c .before .if2 in
-    loose-high _ _ _ _ (if1 .left) (if2 .left) (c .if3 .taken)
+    found-high _ _ _ _ (if1 .left) (if2 .left) (c .if3 .taken)
 
 site-in-requires : tie.Need-site-in-requires
 site-in-requires c κs = c .before .before .before .before .pre .low
@@ -32,9 +32,9 @@ returns-4 c =
     let if2 = c .before .before .before .if2 in
     let if3 = c .before .before .if3 in
     let site-in = c .before .site-in in
-    loose-found (args .mode) (args .top) (if1 .left) (if2 .left) (if3 .left) (site-in .ensures)
+    found-row (args .mode) (args .top) (if1 .left) (if2 .left) (if3 .left) (site-in .ensures)
     (c .find .ensures)
 
-pub is-loose-spec : {M : Type 1} → statement M
-is-loose-spec =
+pub find-learned-spec : {M : Type 1} → statement M
+find-learned-spec =
     tie.close (tie.spec returns returns-2 returns-3 site-in-requires find-requires returns-4)

@@ -1,7 +1,7 @@
-use Rattle.read_production.proofs.Here.{count-asks, count-outside, count-inside}
+use Rattle.grammar_match.proofs.Here.{count-asks, count-outside, count-inside}
 use borrow.Author.Needs.{needs}
-use Rattle.read_production.proofs.count_here.Statement.{statement}
-use Rattle.read_production.proofs.count_here.Tie as tie
+use Rattle.grammar_match.proofs.count_here.Statement.{statement}
+use Rattle.grammar_match.proofs.count_here.Tie as tie
 
 returns : tie.Need-returns
 returns c = count-outside (c .if1 .taken)

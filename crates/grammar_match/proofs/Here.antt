@@ -22,8 +22,7 @@ use Rattle.mem_learned.specs.Learned.{Sited, CountedAt}
 use Rattle.mem_rows.specs.Rows.{Rows, nameAt, siteAt, learnedOf, stateOf, inTag}
 use Rattle.mem_rows.specs.Rows.{ModeFits, contextOf}
 use Rattle.mem_rows.proofs.States.{site-of, site-none}
-use Rattle.read_production.specs.Learned.{siteIn, SitePre, CountedHere}
-use Rattle.read_production.specs.Production.{CodeRows, learnedHere}
+use Rattle.grammar_match.specs.Here.{siteIn, SitePre, CountedHere, CodeRows, learnedHere}
 
 -- ---- the site's number
 

@@ -1,7 +1,7 @@
-use Rattle.read_production.proofs.Here.{tag-site, content-site}
+use Rattle.grammar_match.proofs.Here.{tag-site, content-site}
 use borrow.Author.Needs.{needs}
-use Rattle.read_production.proofs.site_in.Statement.{statement}
-use Rattle.read_production.proofs.site_in.Tie as tie
+use Rattle.grammar_match.proofs.site_in.Statement.{statement}
+use Rattle.grammar_match.proofs.site_in.Tie as tie
 
 mul-result : tie.Need-mul-result
 mul-result c = search needs
