@@ -19,8 +19,11 @@ words =
     ∷ text "--comments"
     ∷ text "--instructions"
     ∷ text "--help"
+    ∷ text "--ms"
     ∷ text "show"
     ∷ text "check"
+    ∷ text "readings"
+    ∷ text "write-readings"
     ∷ [])
 
 -- The place of a word among these; how many they are where it is none of them.
@@ -35,14 +38,17 @@ wordPlace w = placeAmong words w
 abbrev pub isOption : Text → Bool
 isOption w = eqb (getD w 0 0) 45 && not (eqb (getD w 1 0) 0)
 
--- With one word more: a flag is given, an option of another name or a second file is not understood, and anything else names the file.
+-- With one word more: a flag is given, an option of another name or a third file is not
+-- understood, and anything else names the file, then the file to write.
 unfoldable pub taken : Asked → ℕ → Bool → ℕ → Asked
 taken a place option at =
-    cond (ltb place 6)
-    (record { flags = set (a .flags) place 1; file = a .file; wrong = a .wrong })
-    (cond (option || not (eqb (a .file) 0))
-    (record { flags = a .flags; file = a .file; wrong = at })
-    (record { flags = a .flags; file = at; wrong = a .wrong }))
+    cond (ltb place 7)
+    (record { flags = set (a .flags) place 1; file = a .file; out = a .out; wrong = a .wrong })
+    (cond (option || not (eqb (a .out) 0))
+    (record { flags = a .flags; file = a .file; out = a .out; wrong = at })
+    (cond (not (eqb (a .file) 0))
+    (record { flags = a .flags; file = a .file; out = at; wrong = a .wrong })
+    (record { flags = a .flags; file = at; out = a .out; wrong = a .wrong })))
 
 -- Bit-packed unless byte-aligned is given. What has no flag is at its base.
 abbrev pub numbersOf : List ℕ → SettingNumbers

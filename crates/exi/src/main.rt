@@ -1,13 +1,20 @@
-// The command line: `exi show FILE` prints a stream's events, and `exi check FILE` says whether the reader accepts it. A program has no exit status, so
-// standard error tells how it went: it is empty where the stream is accepted, begins with `exi: refused:` where it is refused, and with anything else where
-// no stream was read. The script `exi` turns that into a status.
+// The command line: `exi show FILE` prints a stream's events, `exi check FILE` says whether the
+// reader accepts it, `exi readings FILE` prints its readings as CSV, and `exi write-readings CSV
+// OUT` writes the stream of such a table. A program has no exit status, so standard error tells how
+// it went: it is empty where the stream is accepted or written, begins with `exi: refused:` where
+// stream or table is refused, and with anything else where nothing was read or written. The script
+// `exi` turns that into a status.
+mod csv;
 mod input;
 mod say;
 mod show;
+mod table;
 mod words;
+mod writing;
 
 use libc::STDERR_FILENO;
 use libc::STDOUT_FILENO;
+use readings_from::MAX_READINGS;
 use settings::SettingNumbers;
 use sizes::EVENT_CELLS;
 use sizes::MAX_STORE;
@@ -42,8 +49,48 @@ fn judge_stream(shows: bool, s: SettingNumbers, stream: &[u8]) {
     judge(shows, s, stream, &mut cells, &mut store, &mut work);
 }
 
+// The readings of a stream, as a table.
+fn print_readings(
+    in_ms: bool,
+    s: SettingNumbers,
+    stream: &[u8],
+    stamps: &mut [u64],
+    movements: &mut [u32],
+) {
+    let mut cells = [0u32; EVENT_CELLS];
+    let mut store = [0u32; MAX_STORE];
+    let mut work = [0u32; READER_WORK];
+    let r = readings::from_stream(
+        s,
+        stream,
+        stamps,
+        movements,
+        &mut cells,
+        &mut store,
+        &mut work,
+    );
+    if r.number != 0 {
+        say::refused_readings(r.number, r.index);
+        return;
+    }
+    if !table::print(in_ms, stamps, movements, r.readings) {
+        say::unwritten(b"the readings");
+    }
+}
+
+// What the command says of a stream.
+fn answer(command: usize, in_ms: bool, s: SettingNumbers, stream: &[u8]) {
+    if command != words::READINGS {
+        judge_stream(command == words::SHOW, s, stream);
+        return;
+    }
+    let mut stamps = [0u64; MAX_READINGS];
+    let mut movements = [0u32; MAX_READINGS];
+    print_readings(in_ms, s, stream, &mut stamps, &mut movements);
+}
+
 // Takes one octet more than a stream may have, so that the reader itself refuses a longer one.
-fn judge_file(shows: bool, s: SettingNumbers, name: &[u8]) {
+fn answer_file(command: usize, in_ms: bool, s: SettingNumbers, name: &[u8]) {
     let fd = input::descriptor(name);
     if fd < 0 {
         say::unread(name);
@@ -57,18 +104,14 @@ fn judge_file(shows: bool, s: SettingNumbers, name: &[u8]) {
     }
     let n = got.octets;
     libc::close(fd);
-    judge_stream(shows, s, &stream[..n]);
+    answer(command, in_ms, s, &stream[..n]);
 }
 
-// The command on what the words behind it ask for.
-fn run(shows: bool, a: Asked) {
-    if a.wrong != 0 {
-        say::not_understood(a.wrong);
-        return;
-    }
+// A command on one file.
+fn run(command: usize, a: Asked) {
     let flags = a.flags;
-    if (flags[words::BIT_PACKED] == 1) & (flags[words::BYTE_ALIGNED] == 1) {
-        say::two_alignments();
+    if a.out != 0 {
+        say::not_understood(a.out);
         return;
     }
     if a.file == 0 {
@@ -81,7 +124,28 @@ fn run(shows: bool, a: Asked) {
         say::unread(b"the name of FILE");
         return;
     }
-    judge_file(shows, words::numbers(flags), &name[..n]);
+    answer_file(
+        command,
+        flags[words::MS] == 1,
+        words::numbers(flags),
+        &name[..n],
+    );
+}
+
+// The command on what the words after it ask for.
+fn ask(command: usize, a: Asked) {
+    let flags = a.flags;
+    if a.wrong != 0 {
+        say::not_understood(a.wrong);
+    } else if (flags[words::BIT_PACKED] == 1) & (flags[words::BYTE_ALIGNED] == 1) {
+        say::two_alignments();
+    } else if (flags[words::MS] == 1) & (command != words::READINGS) {
+        say::not_in_ms();
+    } else if command == words::WRITE_READINGS {
+        writing::run(a);
+    } else {
+        run(command, a);
+    }
 }
 
 fn main() {
@@ -92,10 +156,8 @@ fn main() {
         say::usage(STDERR_FILENO);
     } else if (command == words::HELP) | (a.flags[words::HELP] == 1) {
         say::usage(STDOUT_FILENO);
-    } else if command == words::SHOW {
-        run(true, a);
-    } else if command == words::CHECK {
-        run(false, a);
+    } else if (words::SHOW <= command) & (command <= words::WRITE_READINGS) {
+        ask(command, a);
     } else {
         say::not_understood(1);
     }

@@ -1,6 +1,7 @@
 // What the program says beside the events.
 use libc::STDERR_FILENO;
 use libc::STDOUT_FILENO;
+use readings_judge::STRUCTURE;
 
 fn tell(x: &[u8]) {
     io::write_all(STDERR_FILENO, x);
@@ -52,20 +53,75 @@ fn meaning(number: u32) {
         12 => tell(b"a table, a string or a count would pass its fixed size"),
         13 => tell(b"a pad bit is 1, or octets follow the end"),
         14 => tell(b"kinds or order of events break the rules of a list"),
-        _ => tell(b"a string lies outside its store"),
+        15 => tell(b"a string lies outside its store"),
+        16 => tell(b"not the root readings, its children r, and their attributes t and um alone"),
+        17 => tell(b"no stamp YYYY-MM-DDThh:mm:ss.mmmZ of the years 2000 to 2099"),
+        18 => tell(b"no movement of -20000 to 20000 micrometres"),
+        _ => tell(b"the stamp is not later than the one before"),
     }
 }
 
-pub(crate) fn refused(number: u32, index: u32) {
+// Number, name, where, and the reason. The readings' own refusals, from 16 on, have no names.
+fn refused_at(number: u32, what: &[u8], at: u64) {
     tell(b"exi: refused: ");
     io::print_decimal(STDERR_FILENO, number as u64);
-    tell(b" ");
-    name(number);
-    tell(b", event ");
-    io::print_decimal(STDERR_FILENO, index as u64);
+    if number < STRUCTURE {
+        tell(b" ");
+        name(number);
+    }
+    tell(what);
+    io::print_decimal(STDERR_FILENO, at);
     tell(b": ");
+}
+
+pub(crate) fn refused(number: u32, index: u32) {
+    refused_at(number, b", event ", index as u64);
     meaning(number);
     tell(b"\n");
+}
+
+// What the readings of a stream are refused for: from 16 on the index counts readings.
+pub(crate) fn refused_readings(number: u32, index: u32) {
+    if number < STRUCTURE {
+        refused(number, index);
+        return;
+    }
+    refused_at(number, b", reading ", index as u64);
+    meaning(number);
+    tell(b"\n");
+}
+
+// A line of CSV, by the readings before it. Lines are counted from 1, and the first has the names.
+pub(crate) fn refused_line(number: u32, index: u64) {
+    refused_at(number, b", line ", std::num::wrapping_add_u64(index, 2));
+    match number {
+        16 => tell(b"not two fields with a comma between them"),
+        17 => tell(
+            b"no stamp YYYY-MM-DDThh:mm:ss.mmmZ of 2000 to 2099, or milliseconds up to 3155759999999",
+        ),
+        _ => meaning(number),
+    }
+    tell(b"\n");
+}
+
+pub(crate) fn refused_names() {
+    refused_at(STRUCTURE, b", line ", 1);
+    tell(b"neither t,um nor ms,um\n");
+}
+
+pub(crate) fn written(readings: u64, octets: u64) {
+    io::write_all(STDOUT_FILENO, b"written: ");
+    count(readings, b" readings, ");
+    io::print_decimal(STDOUT_FILENO, octets);
+    if !io::write_all(STDOUT_FILENO, b" octets\n") {
+        os::fail(b"exi: cannot write");
+    }
+}
+
+// The reason is errno's.
+pub(crate) fn unwritten(what: &[u8]) {
+    tell(b"exi: cannot write ");
+    os::fail(what);
 }
 
 // The reason is errno's, which a write that succeeds leaves as it is.
@@ -76,6 +132,14 @@ pub(crate) fn unread(what: &[u8]) {
 
 pub(crate) fn no_file() {
     tell(b"exi: no FILE is named; exi --help tells the words\n");
+}
+
+pub(crate) fn no_files() {
+    tell(b"exi: CSV and OUT are not both named; exi --help tells the words\n");
+}
+
+pub(crate) fn not_in_ms() {
+    tell(b"exi: --ms goes with exi readings alone\n");
 }
 
 pub(crate) fn two_alignments() {
@@ -100,10 +164,16 @@ pub(crate) fn usage(fd: i32) {
 
   exi show [FLAG..] FILE    prints the events, one a line, and what the stream has
   exi check [FLAG..] FILE   says what the stream has, or why it is refused
+  exi readings [FLAG..] [--ms] FILE
+                            prints the readings as CSV, t,um: stamps and movements
+                            in micrometres; with --ms ms,um: milliseconds since
+                            2000-01-01T00:00:00.000Z in place of the stamps
+  exi write-readings [FLAG..] CSV OUT
+                            writes the stream of the readings in CSV, either form
   exi --help                prints this
 
-FILE is - for standard input. Flags stand before or after FILE, and say how the
-stream was written:
+FILE and CSV are - for standard input, OUT is - for standard output. Flags stand
+before or after them, and say how the stream is written:
 
   --bit-packed      fields follow each other bit by bit; the default
   --byte-aligned    each field is whole octets
@@ -111,8 +181,9 @@ stream was written:
   --comments        comments are kept
   --instructions    processing instructions are kept
 
-Status 0: the stream is accepted. 1: it is refused, and standard error has number,
-name, event and reason. 2: nothing was read, or a word is not understood.
+Status 0: the stream is accepted, or written. 1: stream or CSV is refused, and standard
+error has number, name, event, reading or line, and reason. 2: nothing was read or
+written, or a word is not understood.
 ",
     );
 }

@@ -7,23 +7,28 @@ use settings::SettingNumbers;
 // A word's first 16 octets, zeros behind it.
 type Word = [u8; 16];
 
-// Which flags are given, by their places in the table; which word names the file, and which is the first that is not understood, 0 for none.
+// Which flags are given, by their places in the table; which words name the file and the file to
+// write, and which is the first that is not understood, 0 for none.
 pub struct Asked {
-    pub flags: [u32; 6],
+    pub flags: [u32; 7],
     pub file: usize,
+    pub out: usize,
     pub wrong: usize,
 }
 
 // The flags, and then the commands.
-const WORDS: [Word; 8] = [
+const WORDS: [Word; 11] = [
     *b"--bit-packed\0\0\0\0",
     *b"--byte-aligned\0\0",
     *b"--cookie\0\0\0\0\0\0\0\0",
     *b"--comments\0\0\0\0\0\0",
     *b"--instructions\0\0",
     *b"--help\0\0\0\0\0\0\0\0\0\0",
+    *b"--ms\0\0\0\0\0\0\0\0\0\0\0\0",
     *b"show\0\0\0\0\0\0\0\0\0\0\0\0",
     *b"check\0\0\0\0\0\0\0\0\0\0\0",
+    *b"readings\0\0\0\0\0\0\0\0",
+    *b"write-readings\0\0",
 ];
 
 pub const BIT_PACKED: usize = 0;
@@ -38,16 +43,22 @@ const INSTRUCTIONS: usize = 4;
 
 pub const HELP: usize = 5;
 
-pub const SHOW: usize = 6;
+pub const MS: usize = 6;
 
-pub const CHECK: usize = 7;
+pub const SHOW: usize = 7;
 
-// The place of a word in the table, or 8.
+pub const CHECK: usize = 8;
+
+pub const READINGS: usize = 9;
+
+pub const WRITE_READINGS: usize = 10;
+
+// The place of a word in the table, or 11.
 fn place_of(word: Word) -> usize
     ensures { λ r. ⌜ r ≡ wordPlace word ⌝ }
 {
     let mut i = 0;
-    while i < 8 {
+    while i < 11 {
         if check::same(&word, &WORDS[i]) {
             return i;
         }
@@ -68,12 +79,16 @@ fn take(a: Asked, place: usize, option: bool, at: usize) -> Asked
     ensures { λ r. ⌜ r ≡ taken a place option at ⌝ }
 {
     let mut b = a;
-    if place < 6 {
+    if place < 7 {
         b.flags[place] = 1;
         return b;
     }
-    if option | (b.file != 0) {
+    if option | (b.out != 0) {
         b.wrong = at;
+        return b;
+    }
+    if b.file != 0 {
+        b.out = at;
         return b;
     }
     b.file = at;
@@ -97,8 +112,9 @@ pub(crate) fn place_at(i: usize) -> usize {
 // What the words from the second on ask for, up to the first that is not understood.
 pub(crate) fn read_words(count: usize) -> Asked {
     let mut a = Asked {
-        flags: [0; 6],
+        flags: [0; 7],
         file: 0,
+        out: 0,
         wrong: 0,
     };
     let mut i = 2;
@@ -114,7 +130,7 @@ pub(crate) fn read_words(count: usize) -> Asked {
 }
 
 // The settings that the flags mean. What has no flag is at its base.
-pub(crate) fn numbers(flags: [u32; 6]) -> SettingNumbers
+pub(crate) fn numbers(flags: [u32; 7]) -> SettingNumbers
     ensures { λ r. ⌜ r ≡ numbersOf flags ⌝ }
 {
     SettingNumbers {
