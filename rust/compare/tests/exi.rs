@@ -221,6 +221,36 @@ fn tables_that_are_refused() {
     }
 }
 
+/// As many readings as a stream holds, one more, and more than a list may have; whatever follows.
+#[test]
+fn tables_with_many_lines() {
+    let folder = folder("many");
+    let table = |count: u32| {
+        let lines = (0..count).map(|k| format!("{},0\r\n", 86_400_000 * u64::from(k)));
+        format!("ms,um\r\n{}", lines.collect::<String>())
+    };
+    let made = |table: String| {
+        fs::write(folder.join("many.csv"), table).unwrap();
+        exi_in(&folder, &["write-readings", "many.csv", "many.exi"], b"")
+    };
+    let (status, stdout, stderr) = made(table(606));
+    assert_eq!(stdout, "written: 606 readings, 16384 octets\n", "{stderr}");
+    assert_eq!(status, Some(0));
+    for (table, says) in [
+        (table(607), "3 LONG, event 0: "),
+        (table(678), "3 LONG, event 0: "),
+        (table(679), "12 LIMIT, line 680: "),
+        (table(2_000), "12 LIMIT, line 680: "),
+        (table(679) + "x", "12 LIMIT, line 680: "),
+        (table(678) + "x", "16, line 680: "),
+    ] {
+        let (status, stdout, stderr) = made(table);
+        let says = format!("exi: refused: {says}");
+        assert!(stderr.starts_with(&says), "{stderr}");
+        assert_eq!((status, stdout.as_str()), (Some(1), ""));
+    }
+}
+
 /// The pictures of the documents are those of the samples.
 #[test]
 fn plots() {
