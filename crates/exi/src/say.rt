@@ -96,9 +96,7 @@ pub(crate) fn refused_line(number: u32, index: u64) {
     refused_at(number, b", line ", std::num::wrapping_add_u64(index, 2));
     match number {
         16 => tell(b"not two fields with a comma between them"),
-        17 => tell(
-            b"no stamp YYYY-MM-DDThh:mm:ss.mmmZ of 2000 to 2099, or milliseconds up to 3155759999999",
-        ),
+        17 => tell(b"no stamp YYYY-MM-DDThh:mm:ss.mmmZ of 2000 to 2099, nor 0 to 3155759999999 ms"),
         _ => meaning(number),
     }
     tell(b"\n");

@@ -1,4 +1,5 @@
-// The words behind the program's name, and what they ask for. The definitions that the contracts cite are in specs/Words.antt.
+// The words after the program's name, and what they ask for. The definitions that the contracts
+// cite are in specs/Words.antt.
 ghost use mathlib.Core.Path.{_≡_};
 ghost use lib.ListN.{length};
 ghost use Rattle.exi.specs.Words.{wordPlace, taken, isOption, numbersOf};
@@ -95,7 +96,8 @@ fn take(a: Asked, place: usize, option: bool, at: usize) -> Asked
     b
 }
 
-// A word of the command line; zeros where there is none. One of more than 16 octets leaves its first 16, which none of the table has.
+// A word of the command line; zeros where there is none. One of more than 16 octets leaves its first
+// 16, which none of the table has.
 fn word_at(i: usize) -> Word
     ensures { λ r. ⌜ 16 ≡ length r ⌝ }
 {

@@ -1,5 +1,6 @@
 -- The claims of specs/Cells.antt: one line each, which points to its proof.
 use Rattle.event.proofs.Examples.{cell-examples}
+use Rattle.readings.proofs.Counted.{cells-mean}
 use Rattle.theorems.specs.Cells.{CellTheorems}
 use Rattle.theorems.proofs.Left as left
 use Rattle.theorems.proofs.Round as round
@@ -11,7 +12,7 @@ cell-theorems =
       k1-accepted = round.k1-accepted;
       demand-1-write = λ s events text m m′ r p. left.demand-1-write p;
       demand-2 = λ s. record {
-        cells-mean = left.cells-mean;
+        cells-mean = cells-mean;
         written = λ events text w stream. round.written w stream;
         read-back = λ events text w c l. round.read-back w c l;
         written-back = λ stream c w. round.written-back c w;

@@ -1,17 +1,16 @@
 -- What the contracts leave, by the definitions' answer: the reader's and the writer's.
 use mathlib.Core.Path.{_≡_, refl, sym, _∙_, ap, ap₂, subst}
 use mathlib.Core.Logic.{_↔_}
-use mathlib.Core.List.{List, [], _∷_, map}
-use mathlib.Core.Option.{some, Option·some-injective}
+use mathlib.Core.List.{List, map}
+use mathlib.Core.Option.{Option·some-injective}
 use Prim.Native.Nat.{ℕ, _*_, _-_, _<_}
 use native.Mathlib.Omega.{arith}
 use lib.ListN.{length, take, drop, replicate}
 use lib.Seq.{take-at, drop-at}
 use Rattle.spec_fields.specs.Refusal.{Answer, refused, accepted}
 use Rattle.text.specs.Text.{Text}
-use Rattle.spec_exi.specs.Event.{Event, mapEvent}
+use Rattle.spec_exi.specs.Event.{Event}
 use Rattle.spec_exi.specs.Sizes.{cellsPerEvent}
-use Rattle.spec_exi.specs.Tables.{Placed, spanOf}
 use Rattle.spec_exi.specs.Reader.{Reading, read, readReply}
 use Rattle.spec_exi.specs.Writer.{Stored, write, writeReply}
 use Rattle.spec_exi.specs.Meaning.{storedOf, meant, Accepts}
@@ -19,10 +18,10 @@ use Rattle.spec_exi.proofs.Demands as demands
 use Rattle.settings.specs.Meant.{numbersOf}
 use Rattle.settings.specs.declared.SettingNumbers.{SettingNumbers}
 use Rattle.event.specs.Cells.{eventsOf}
-use Rattle.event.proofs.Laws.{events-cells}
 use Rattle.read_body.specs.Reply.{replyOf, cellsOfAll, eventsFilled, textFilled}
 use Rattle.read_body.specs.declared.ReadReply.{ReadReply}
 use Rattle.read_body.proofs.Cells.{cells-size}
+use Rattle.readings.proofs.Counted.{cells-mean, no-less}
 use Rattle.reader.specs.Read.{ReaderLent, readerRoom, ReadPost}
 use Rattle.reader.specs.Read as reader
 use Rattle.writer.specs.declared.WriteReply.{WriteReply}
@@ -32,18 +31,7 @@ use Rattle.theorems.specs.Calls.{ReadCall, eventsLeft, textLeft, Leaves,
 use Rattle.theorems.specs.Cells.{Demand1Read, Demand1Write}
 use Rattle.theorems.proofs.Claims.{theorems}
 
--- The cells of events mean these events.
-pub cells-mean : (es : List (Event Placed)) → eventsOf (cellsOfAll es) ≡ map storedOf es
-unfolding cellsOfAll eventsOf storedOf
-cells-mean [] = refl
-cells-mean (e ∷ es) =
-    events-cells (mapEvent spanOf e) (cellsOfAll es)
-    ∙ ap (λ (l : List Stored). some (mapEvent spanOf e) ∷ l) (cells-mean es)
-
 -- ---- n cells, by an answer: past the counts they are zero, and all of them after a refusal
-
-no-less : (n : ℕ) → n - 0 ≡ n
-no-less n = omega arith
 
 module _ (n : ℕ) where
   past-events : (a : Answer Reading)

@@ -3,3 +3,7 @@ pub mod Pieces
 pub mod Left
 pub mod Round
 pub mod Cells
+pub mod Readings
+pub mod ReadingsLeft
+pub mod ReadingsRound
+pub mod ReadingsCells

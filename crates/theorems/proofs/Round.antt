@@ -52,12 +52,12 @@ same-sizes =
       store = omega arith;
     }
 
-elsewhere : (p r : ReaderRoom) (o : format.SettingNumbers) (stream : List ℕ) (x : Reading)
+pub elsewhere : (p r : ReaderRoom) (o : format.SettingNumbers) (stream : List ℕ) (x : Reading)
     → T (enoughToRead sizes r) → read p o stream ≡ accepted x → read r o stream ≡ accepted x
 unfolding read
 elsewhere = accepted-still sizes sizes same-sizes
 
-enough : (p : ReaderRoom) (o : format.SettingNumbers) (stream : List ℕ) (x : Reading)
+pub enough : (p : ReaderRoom) (o : format.SettingNumbers) (stream : List ℕ) (x : Reading)
     → read p o stream ≡ accepted x → T (enoughToRead sizes p)
 unfolding readReply numberOf
 enough p o stream x q =
