@@ -1,6 +1,6 @@
 -- The worked examples hold, by computation.
-use mathlib.Core.Path.{_≡_, refl}
-use mathlib.Core.List.{List, [], _∷_, map}
+use mathlib.Core.Path.{_≡_, refl, sym, _∙_, ap}
+use mathlib.Core.List.{List, [], _∷_, map, map-map}
 use lib.Dec.{T}
 use Rattle.spec_fields.proofs.Examples.{field-examples}
 use Rattle.spec_fields.proofs.Refusal.{numbered}
@@ -8,6 +8,7 @@ use Rattle.spec_fields.proofs.Tests.{left, right}
 use Rattle.text.specs.Text.{eqText}
 use Rattle.text.proofs.Equal.{eqText-eq}
 use Rattle.spec_exi.specs.Lists.{every}
+use Rattle.spec_exi.specs.Writer.{writeReply}
 use Rattle.spec_exi.specs.Examples.{Example, strictFor, Hold, Replied}
 use Rattle.spec_exi.specs.Examples.Scope.{K, KReplies}
 use Rattle.spec_exi.specs.Examples.Streams.{mistakes, kept}
@@ -93,9 +94,17 @@ writes-hold : Written writes
 unfolding definitions at inUri named writtenFor listed writes
 writes-hold = record { answers = refl }
 
+-- By the answers.
+answers-replied : map writeReply (map (λ x. x .answer) writes) ≡ writeReplies
+unfolding definitions at inUri named wrote listed writes writeReplies
+answers-replied = refl
+
 writes-replied : WriteReplied writes writeReplies
-unfolding definitions at inUri named writtenFor wrote listed writes writeReplies
-writes-replied = record { replies = refl }
+writes-replied =
+    record {
+      replies = sym (map-map writeReply writtenFor writes) ∙ ap (map writeReply) (writes-hold .answers)
+          ∙ answers-replied;
+    }
 
 writes-in-order : WrittenUnder writesInOrder
 unfolding definitions sizesAs only at inUri named listed writesInOrder

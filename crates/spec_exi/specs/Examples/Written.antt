@@ -125,17 +125,15 @@ withAttribute = upTo (λ i. nested 1 i ++ (some (attribute (named (100 + i) 1) (
 unfoldable pub aRow : Text
 aRow = upTo (λ i. i ∷ []) 200 1000
 
--- At each size, and one past it.
+-- At a size, and one past it. Where the latter stands alone, its index says that all before passed.
 unfoldable pub atSizes : List WriteExample
 atSizes =
     -- 100 and 101 open elements of one name
     listed (replicate 100 (some (startElement (named 0 1)))) aRow (refused shape 101)
     ∷ listed (replicate 101 (some (startElement (named 0 1)))) aRow (refused limit 101)
-    -- 64 and 65 element grammars
-    ∷ listed (nested 64 0) aRow (refused shape 65)
+    -- 64 element grammars, and a 65th
     ∷ listed (nested 65 0) aRow (refused limit 65)
-    -- 128 and 129 local names, the initial entries among them
-    ∷ listed (withAttribute 61 0) aRow (refused shape 123)
+    -- 128 local names, the initial entries among them, and a 129th
     ∷ listed (withAttribute 61 0 ++ nested 1 90) aRow (refused limit 123)
     -- 16 and 17 URIs
     ∷ listed (inUris 13 0) aRow (refused shape 14)
