@@ -26,7 +26,8 @@ use Rattle.read_contract.specs.Outcome.{Declined, Gotten}
 use Rattle.read_literal.specs.Literal.{laidAt}
 use Rattle.read_literal.proofs.Store.{laid-none}
 use Rattle.read_step.specs.declared.Stepped.{Stepped}
-use Rattle.read_step.specs.Step.{StepPre, StepRefused, StepLaid, StepMeans, StepPost, Turned}
+use Rattle.grammar_update.specs.After.{Turned}
+use Rattle.read_step.specs.Step.{StepPre, StepRefused, StepLaid, StepMeans, StepPost}
 use Rattle.read_run.specs.declared.State.{State}
 use Rattle.read_run.specs.Events.{Steps, none-read, cellsOfAll}
 use Rattle.read_run.specs.Run.{lastFirst, openedIn, innermostIn, AdvancePre}

@@ -1,7 +1,7 @@
 -- What reading one event asks and leaves.
 use Prim.Native.Nat.{ℕ, _+_, _*_, _≤_, _<_}
 use mathlib.Core.Path.{_≡_}
-use mathlib.Core.List.{List, _∷_, _++_}
+use mathlib.Core.List.{List, _++_}
 use lib.ListN.{length, take, drop}
 use Rattle.text.specs.Text.{Text}
 use Rattle.spec_exi.specs.Settings.{Settings}
@@ -18,10 +18,10 @@ use Rattle.mem_state.specs.declared.Strings.{Strings}
 use Rattle.mem_state.specs.declared.Growth.{Growth}
 use Rattle.mem_state.specs.Commit.{joinedStrings, grown, counted, turned}
 use Rattle.mem_state.specs.Holds.{inStore, Bounded, Topped, Represents, contextAt}
+use Rattle.grammar_update.specs.After.{movedTo, Turned}
 use Rattle.read_contract.specs.Outcome.{Outcome}
 use Rattle.read_literal.specs.Literal.{laidAt, Cleared}
 use Rattle.read_step.specs.declared.Stepped.{Stepped}
-use Rattle.read_step.specs.Judge.{movedTo}
 
 -- Bounds alone; the event's cells begin at this one.
 pub record StepPre (stream events text work : List ℕ) (c : Core) (cell : ℕ) : Type 0 where
@@ -61,13 +61,6 @@ pub record StepLaid (events text work : List ℕ) (c : Core) (cell : ℕ) (event
       (growth .name)
 
 -- ---- by the definitions
-
--- What an event leaves of the open elements. (After an end tag the top is the ended element's: only
--- who keeps them all knows the next.)
-pub record Turned (c d : Core) (opened opened′ : List ℕ) : Type 0 where
-  pub enters : c .depth < d .depth → (d .depth ≡ c .depth + 1) × (opened′ ≡ d .top ∷ opened)
-  pub stays : d .depth ≡ c .depth → opened′ ≡ opened
-  pub leaves : d .depth < c .depth → (d .depth + 1 ≡ c .depth) × (opened ≡ c .top ∷ opened′)
 
 -- v is the event and the context that memory represents after it.
 pub record StepMeans (events : List ℕ) (c : Core) (cell : ℕ) (opened events′ text′ work′ : List ℕ)
