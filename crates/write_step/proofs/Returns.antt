@@ -88,9 +88,9 @@ module _ (opening text : List ℕ) {work : List ℕ} {c : Core} (s : Settings) (
 
   module _ {kind : ℕ} (k : kind ≡ kindNumber (kindOf (meaning e))) {p : Place}
       (at : PlaceAt (s .comments) (s .instructions) (c .mode) kind p) where
-    pub judge-shape : p .level ≡ 3 → JudgePost s opening text e work c (refusedAs 14 c)
+    pub shape-stops : p .level ≡ 3 → JudgePost s opening text e work c (refusedAs 14 c)
     unfolding numberOf
-    judge-shape z =
+    shape-stops z =
         refused-post 14 (omega arith) (λ w opened stands top.
         shape-fault (prepared stands) (code-rows (stands .represents) (pre .bounded) top) s e k at z)
 
@@ -99,9 +99,9 @@ module _ (opening text : List ℕ) {work : List ℕ} {c : Core} (s : Settings) (
       low = omega (arith, at .few, ne)
 
       module _ {fit : Bool} (f : fit ≡ every (inside text) (stringsOf (meaning e))) where
-        pub judge-place : not fit ≡ true → JudgePost s opening text e work c (refusedAs 15 c)
+        pub place-stops : not fit ≡ true → JudgePost s opening text e work c (refusedAs 15 c)
         unfolding numberOf
-        judge-place n =
+        place-stops n =
             refused-post 15 (omega arith) (λ w opened stands top.
             place-fault (prepared stands) (code-rows (stands .represents) (pre .bounded) top) s e k
             at low (sym f ∙ not-true fit n))
@@ -127,9 +127,9 @@ module _ (opening text : List ℕ) {work : List ℕ} {c : Core} (s : Settings) (
                   (place-stands at low .inside (omega (arith, k, ap kindNumber z))
                   (omega (arith, k, ap kindNumber z))))
 
-            pub judge-content : 0 < x .number
+            pub content-stops : 0 < x .number
                 → JudgePost s opening text e work c (refusedAs (x .number) c)
-            judge-content l =
+            content-stops l =
                 refused-post (x .number) l (λ w opened stands top.
                 content-fault (prepared stands) (rows stands top) s e k at low (means stands top)
                 within l)
@@ -262,7 +262,7 @@ module _ (opening text : List ℕ) {work : List ℕ} {c : Core} (s : Settings) (
                 judged =
                     split (fitsIn c g) (λ f. rw f (accepted f)) (λ f. rw f (limited f))
 
-              pub judge-grammars : {r : EventJudged} → GrammarsPost work c kind p x r
+              pub event-judged : {r : EventJudged} → GrammarsPost work c kind p x r
                   → JudgePost s opening text e work c r
-              judge-grammars q =
+              event-judged q =
                   subst (JudgePost s opening text e work c) (sym (q .is)) (judged (q .code-is))

@@ -9,7 +9,7 @@ use Rattle.text.specs.Text.{Text, Span, part}
 use Rattle.spec_exi.specs.Settings.{Settings}
 use Rattle.spec_exi.specs.Sizes.{sizes, maxEvents, maxString}
 use Rattle.spec_exi.specs.Event.{Event, mapEvent}
-use Rattle.spec_exi.specs.Context.{Context, next}
+use Rattle.spec_exi.specs.Context.{next}
 use Rattle.spec_exi.specs.Strict.{eventBits}
 use Rattle.spec_exi.specs.Writer.{faultOf}
 use Rattle.spec_exi.specs.Alike.{Alike}

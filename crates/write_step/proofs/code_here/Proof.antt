@@ -11,13 +11,34 @@ find-learned-requires : tie.Need-find-learned-requires
 find-learned-requires c κs = search needs
 
 returns : tie.Need-returns
-returns c = record { counted = c .before .before .count-here .ensures; row = _; found = c .before .find-learned .ensures; fixed = λ _. (refl, refl); taken = λ h. absurd (omega (arith, h, c .if1 .taken)) }
+returns c =
+    let count-here = c .before .before .count-here in
+    let find-learned = c .before .find-learned in
+    record {
+      counted = count-here .ensures;
+      row = _;
+      found = find-learned .ensures;
+      fixed = λ _.
+          (refl, refl);
+      taken = λ h. absurd (omega (arith, h, c .if1 .taken));
+    }
 
 part-here-requires : tie.Need-part-here-requires
 part-here-requires c κs = search needs
 
 returns-2 : tie.Need-returns-2
-returns-2 c = record { counted = c .before .before .before .count-here .ensures; row = _; found = c .before .before .find-learned .ensures; fixed = λ z. absurd (c .before .if1 .left z); taken = λ _. (refl, c .part-here .ensures) }
+returns-2 c =
+    let count-here = c .before .before .before .count-here in
+    let find-learned = c .before .before .find-learned in
+    let if1 = c .before .if1 in
+    record {
+      counted = count-here .ensures;
+      row = _;
+      found = find-learned .ensures;
+      fixed = λ z.
+          absurd (if1 .left z);
+      taken = λ _. (refl, c .part-here .ensures);
+    }
 
 pub code-here-spec : {M : Type 1} → statement M
 code-here-spec =

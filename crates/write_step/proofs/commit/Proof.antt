@@ -7,7 +7,10 @@ join-strings-requires : tie.Need-join-strings-requires
 join-strings-requires c κs = join-asks (c .before .before .before .before .before .pre)
 
 grow-requires : tie.Need-grow-requires
-grow-requires c κs = grow-asks (c .before .before .before .before .before .before .before .before .before .pre) (c .before .before .before .join-strings .ensures)
+grow-requires c κs =
+    let pre = c .before .before .before .before .before .before .before .before .before .pre in
+    let join-strings = c .before .before .before .join-strings in
+    grow-asks pre (join-strings .ensures)
 
 after-requires : tie.Need-after-requires
 after-requires c κs = search needs
@@ -16,7 +19,12 @@ same-length : tie.Need-same-length
 same-length c = search needs
 
 returns : tie.Need-returns
-returns c = committed (c .before .before .before .before .before .before .before .before .before .before .before .before .before .pre) _ (c .before .before .before .before .before .before .before .join-strings .ensures) (c .before .before .before .grow .ensures) (c .after .ensures)
+returns c =
+    let pre = c .before .before .before .before .before .before .before .before .before .before
+    .before .before .before .pre in
+    let join-strings = c .before .before .before .before .before .before .before .join-strings in
+    let grow = c .before .before .before .grow in
+    committed pre _ (join-strings .ensures) (grow .ensures) (c .after .ensures)
 
 pub commit-spec : {M : Type 1} → statement M
 commit-spec =

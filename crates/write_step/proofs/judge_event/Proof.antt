@@ -1,4 +1,4 @@
-use Rattle.write_step.proofs.Returns.{grammars-asks, judge-shape, judge-place, judge-content, judge-grammars}
+use Rattle.write_step.proofs.Returns.{grammars-asks, shape-stops, place-stops, content-stops, event-judged}
 use Rattle.settings.specs.Meant.{settingsFrom}
 use native.Mathlib.Omega.{arith}
 use borrow.Author.Needs.{needs}
@@ -16,7 +16,13 @@ refused-requires c κs = search needs
 
 returns : tie.Need-returns
 unfolding settingsFrom
-returns c = rw (c .refused .ensures) (judge-shape _ _ _ _ (c .before .before .before .before .before .before .before .before .pre) (c .before .before .before .before .kind-of .ensures) (c .before .before .before .place-of .ensures) (c .before .if1 .taken))
+returns c =
+    let pre = c .before .before .before .before .before .before .before .before .pre in
+    let kind-of = c .before .before .before .before .kind-of in
+    let place-of = c .before .before .before .place-of in
+    let if1 = c .before .if1 in
+    rw (c .refused .ensures) (shape-stops _ _ _ _ pre (kind-of .ensures) (place-of .ensures)
+    (if1 .taken))
 
 places-fit-requires : tie.Need-places-fit-requires
 places-fit-requires c κs = search needs
@@ -26,7 +32,16 @@ refused-requires-2 c κs = search needs
 
 returns-2 : tie.Need-returns-2
 unfolding settingsFrom
-returns-2 c = rw (c .refused2 .ensures) (judge-place _ _ _ _ (c .before .before .before .before .before .before .before .before .before .before .pre) (c .before .before .before .before .before .before .kind-of .ensures) (c .before .before .before .before .before .place-of .ensures) (c .before .before .before .if1 .left) (c .before .before .places-fit .ensures) (c .before .if2 .taken))
+returns-2 c =
+    let pre = c .before .before .before .before .before .before .before .before .before .before .pre
+    in
+    let kind-of = c .before .before .before .before .before .before .kind-of in
+    let place-of = c .before .before .before .before .before .place-of in
+    let if1 = c .before .before .before .if1 in
+    let places-fit = c .before .before .places-fit in
+    let if2 = c .before .if2 in
+    rw (c .refused2 .ensures) (place-stops _ _ _ _ pre (kind-of .ensures) (place-of .ensures)
+    (if1 .left) (places-fit .ensures) (if2 .taken))
 
 judge-content-requires : tie.Need-judge-content-requires
 judge-content-requires c κs = search needs
@@ -36,14 +51,44 @@ refused-requires-3 c κs = search needs
 
 returns-3 : tie.Need-returns-3
 unfolding settingsFrom
-returns-3 c = rw (c .refused3 .ensures) (judge-content _ _ _ _ (c .before .before .before .before .before .before .before .before .before .before .before .before .before .pre) (c .before .before .before .before .before .before .before .before .before .kind-of .ensures) (c .before .before .before .before .before .before .before .before .place-of .ensures) (c .before .before .before .before .before .before .if1 .left) (c .before .before .before .before .before .places-fit .ensures) (c .before .before .before .before .if2 .left) (c .before .before .before .judge-content .ensures) (omega (arith, c .before .if3 .taken)))
+returns-3 c =
+    let pre = c .before .before .before .before .before .before .before .before .before .before
+    .before .before .before .pre in
+    let kind-of = c .before .before .before .before .before .before .before .before .before .kind-of
+    in
+    let place-of = c .before .before .before .before .before .before .before .before .place-of in
+    let if1 = c .before .before .before .before .before .before .if1 in
+    let places-fit = c .before .before .before .before .before .places-fit in
+    let judge-content = c .before .before .before .judge-content in
+    let if2 = c .before .before .before .before .if2 in
+    let if3 = c .before .if3 in
+    rw (c .refused3 .ensures) (content-stops _ _ _ _ pre (kind-of .ensures) (place-of .ensures)
+    (if1 .left) (places-fit .ensures) (if2 .left) (judge-content .ensures)
+    (omega (arith, if3 .taken)))
 
 judge-grammars-requires : tie.Need-judge-grammars-requires
-judge-grammars-requires c κs = grammars-asks (c .before .before .before .before .before .before .before .before .before .before .before .before .pre) (c .before .before .judge-content .ensures) (c .if3 .left)
+judge-grammars-requires c κs =
+    let pre = c .before .before .before .before .before .before .before .before .before .before
+    .before .before .pre in
+    let judge-content = c .before .before .judge-content in
+    grammars-asks pre (judge-content .ensures) (c .if3 .left)
 
 returns-4 : tie.Need-returns-4
 unfolding settingsFrom
-returns-4 c = judge-grammars _ _ _ _ (c .before .before .before .before .before .before .before .before .before .before .before .before .before .pre) (c .before .before .before .before .before .before .before .before .before .kind-of .ensures) (c .before .before .before .before .before .before .before .before .place-of .ensures) (c .before .before .before .before .before .before .if1 .left) (c .before .before .before .before .before .places-fit .ensures) (c .before .before .before .before .if2 .left) (c .before .before .before .judge-content .ensures) (c .before .if3 .left) (c .judge-grammars .ensures)
+returns-4 c =
+    let pre = c .before .before .before .before .before .before .before .before .before .before
+    .before .before .before .pre in
+    let kind-of = c .before .before .before .before .before .before .before .before .before .kind-of
+    in
+    let place-of = c .before .before .before .before .before .before .before .before .place-of in
+    let if1 = c .before .before .before .before .before .before .if1 in
+    let places-fit = c .before .before .before .before .before .places-fit in
+    let judge-content = c .before .before .before .judge-content in
+    let if2 = c .before .before .before .before .if2 in
+    let if3 = c .before .if3 in
+    event-judged _ _ _ _ pre (kind-of .ensures) (place-of .ensures) (if1 .left)
+    (places-fit .ensures) (if2 .left) (judge-content .ensures) (if3 .left)
+    (c .judge-grammars .ensures)
 
 pub judge-event-spec : {M : Type 1} → statement M
 judge-event-spec =

@@ -16,10 +16,20 @@ refused-requires : tie.Need-refused-requires
 refused-requires c κs = search needs
 
 returns : tie.Need-returns
-returns c = rw (c .refused .ensures) (grammars-limit _ _ (c .before .before .before .before .code-here .ensures) (c .before .before .before .growth .ensures) (c .before .before .fits2 .ensures) (c .before .if1 .taken))
+returns c =
+    let code-here = c .before .before .before .before .code-here in
+    let growth = c .before .before .before .growth in
+    let fits2 = c .before .before .fits2 in
+    let if1 = c .before .if1 in
+    rw (c .refused .ensures) (grammars-limit _ _ (code-here .ensures) (growth .ensures)
+    (fits2 .ensures) (if1 .taken))
 
 returns-2 : tie.Need-returns-2
-returns-2 c = grammars-pass _ _ (c .before .before .before .code-here .ensures) (c .before .before .growth .ensures) (c .before .fits2 .ensures) (c .if1 .left)
+returns-2 c =
+    let code-here = c .before .before .before .code-here in
+    let growth = c .before .before .growth in
+    let fits2 = c .before .fits2 in
+    grammars-pass _ _ (code-here .ensures) (growth .ensures) (fits2 .ensures) (c .if1 .left)
 
 pub judge-grammars-spec : {M : Type 1} → statement M
 judge-grammars-spec =

@@ -69,12 +69,18 @@ returns-2 c = rw (c .enum-told2 .given .1)
 
 returns-3 : tie.Need-returns-3
 unfolding meaning asName stringsOf every
-returns-3 c = rw (c .before .before .before .e .given .1, c .before .is-inside .ensures, c .is-inside2 .ensures) (every-two (inside _) _ _)
+returns-3 c =
+    let e = c .before .before .before .e in
+    let is-inside = c .before .is-inside in
+    rw (e .given .1, is-inside .ensures, c .is-inside2 .ensures) (every-two (inside _) _ _)
 
 returns-4 : tie.Need-returns-4
 unfolding meaning asName stringsOf every
 returns-4 c =
-    rw (c .before .before .before .before .e2 .given .1, c .before .before .is-inside3 .ensures, c .before .is-inside4 .ensures, c .is-inside5 .ensures)
+    let e2 = c .before .before .before .before .e2 in
+    let is-inside3 = c .before .before .is-inside3 in
+    let is-inside4 = c .before .is-inside4 in
+    rw (e2 .given .1, is-inside3 .ensures, is-inside4 .ensures, c .is-inside5 .ensures)
     (every-three (inside _) _ _ _)
 
 returns-5 : tie.Need-returns-5
@@ -91,7 +97,10 @@ returns-7 c = rw (c .before .before .e4 .given .1, c .is-inside7 .ensures) (ever
 
 returns-8 : tie.Need-returns-8
 unfolding meaning stringsOf every
-returns-8 c = rw (c .before .before .before .e5 .given .1, c .before .is-inside8 .ensures, c .is-inside9 .ensures) (every-two (inside _) _ _)
+returns-8 c =
+    let e5 = c .before .before .before .e5 in
+    let is-inside8 = c .before .is-inside8 in
+    rw (e5 .given .1, is-inside8 .ensures, c .is-inside9 .ensures) (every-two (inside _) _ _)
 
 pub places-fit-spec : {M : Type 1} → statement M
 places-fit-spec =

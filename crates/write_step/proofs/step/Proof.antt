@@ -11,13 +11,27 @@ same-length : tie.Need-same-length
 same-length c = search needs
 
 returns : tie.Need-returns
-returns c = step-refused (c .before .before .before .before .before .before .before .before .pre) (c .before .before .judge-event .ensures) (omega (arith, c .if1 .taken))
+returns c =
+    let pre = c .before .before .before .before .before .before .before .before .pre in
+    let judge-event = c .before .before .judge-event in
+    step-refused pre (judge-event .ensures) (omega (arith, c .if1 .taken))
 
 put-event-requires : tie.Need-put-event-requires
-put-event-requires c κs = put-asks (c .before .before .before .before .before .before .before .before .before .before .pre) (c .before .before .before .before .judge-event .ensures) (c .before .before .if1 .left)
+put-event-requires c κs =
+    let pre = c .before .before .before .before .before .before .before .before .before .before .pre
+    in
+    let judge-event = c .before .before .before .before .judge-event in
+    let if1 = c .before .before .if1 in
+    put-asks pre (judge-event .ensures) (if1 .left)
 
 commit-requires : tie.Need-commit-requires
-commit-requires c κs = commit-asks (c .before .before .before .before .before .before .before .before .before .before .before .before .before .before .pre) (c .before .before .before .before .before .before .before .before .judge-event .ensures) (c .before .before .before .before .before .before .if1 .left)
+commit-requires c κs =
+    let pre = c .before .before .before .before .before .before .before .before .before .before
+    .before .before .before .before .pre in
+    let judge-event = c .before .before .before .before .before .before .before .before .judge-event
+    in
+    let if1 = c .before .before .before .before .before .before .if1 in
+    commit-asks pre (judge-event .ensures) (if1 .left)
 
 same-length-2 : tie.Need-same-length-2
 same-length-2 c = search needs
@@ -26,7 +40,15 @@ same-length-3 : tie.Need-same-length-3
 same-length-3 c = search needs
 
 returns-2 : tie.Need-returns-2
-returns-2 c = step-done (c .before .before .before .before .before .before .before .before .before .before .before .before .before .before .before .before .before .pre) (c .before .before .before .before .before .before .before .before .before .before .before .judge-event .ensures) (c .before .before .before .before .before .before .before .before .before .if1 .left) (c .before .before .before .before .before .before .put-event .ensures) (c .before .before .commit .ensures)
+returns-2 c =
+    let pre = c .before .before .before .before .before .before .before .before .before .before
+    .before .before .before .before .before .before .before .pre in
+    let judge-event = c .before .before .before .before .before .before .before .before .before
+    .before .before .judge-event in
+    let if1 = c .before .before .before .before .before .before .before .before .before .if1 in
+    let put-event = c .before .before .before .before .before .before .put-event in
+    let commit = c .before .before .commit in
+    step-done pre (judge-event .ensures) (if1 .left) (put-event .ensures) (commit .ensures)
 
 pub step-spec : {M : Type 1} → statement M
 step-spec =
