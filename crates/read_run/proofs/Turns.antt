@@ -2,15 +2,14 @@
 use Prim.Native.Nat.{ℕ, _+_, _*_, _-_, _≤_, _<_}
 use native.Mathlib.Omega.{arith}
 use native.Mathlib.Nat.{le-refl}
-use native.Mathlib.Decide.{ℕ-discrete}
 use mathlib.Core.Path.{_≡_, refl, sym, ap, subst, _∙_}
 use mathlib.Core.List.{List, [], _∷_, _++_}
-use lib.ListN.{length, take, drop, getD, set, length-append, length-set}
+use lib.ListN.{length, take, drop, getD, set, length-append}
 use Rattle.text.specs.Text.{Text}
 use Rattle.spec_fields.specs.Bits.{unpack}
 use Rattle.spec_fields.specs.Refusal.{numberOf}
 use Rattle.spec_exi.specs.Settings.{Settings}
-use Rattle.spec_exi.specs.Sizes.{sizes, maxEvents, maxStore, maxOpen, maxNames, cellsPerEvent}
+use Rattle.spec_exi.specs.Sizes.{sizes, maxEvents, maxStore, maxNames, cellsPerEvent}
 use Rattle.spec_exi.specs.Sizes.{eventCells}
 use Rattle.spec_exi.specs.Event.{mapEvent}
 use Rattle.spec_exi.specs.Tables.{spanOf}
@@ -20,7 +19,7 @@ use Rattle.event.proofs.Laws.{cells-length}
 use Rattle.mem_layout.specs.Layout.{nameRows}
 use Rattle.mem_rows.specs.Rows.{Rows, isOver, contextOf}
 use Rattle.mem_state.specs.declared.Core.{Core}
-use Rattle.mem_state.specs.Holds.{Stores, inStore, Bounded, Topped, Represents, contextAt}
+use Rattle.mem_state.specs.Holds.{inStore, Topped, Represents, contextAt}
 use Rattle.mem_state.proofs.Joins.{holds-grown}
 use Rattle.read_contract.specs.Outcome.{Declined, Gotten}
 use Rattle.read_literal.specs.Literal.{laidAt}

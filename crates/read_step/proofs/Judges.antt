@@ -1,5 +1,5 @@
 -- The answers of `judge`.
-use mathlib.Core.Path.{_≡_, refl, sym, ap, _∙_}
+use mathlib.Core.Path.{_≡_, sym, ap, _∙_}
 use mathlib.Core.Bool.{Bool, true, false, not}
 use mathlib.Core.List.{List}
 use Prim.Native.Nat.{ℕ}
@@ -9,17 +9,18 @@ use Rattle.mem_state.specs.declared.Core.{Core}
 use Rattle.mem_state.specs.declared.Strings.{Strings}
 use Rattle.mem_state.specs.declared.Growth.{Growth}
 use Rattle.read_production.specs.declared.ProductionRead.{ProductionRead}
-use Rattle.read_step.specs.Judge.{growthOf, fitsIn, LooseHere, judgeNumber, JudgePost}
+use Rattle.grammar_update.specs.Growth.{growthOf, fitsIn}
+use Rattle.read_step.specs.Judge.{LooseHere, judgeNumber, JudgePost}
 
 module _ {work : List ℕ} {c : Core} {p : ProductionRead} {s : Strings} {g : Growth} {l : Bool}
-    (growth : g ≡ growthOf work c p s) (is : LooseHere work c p s l) where
+    (growth : g ≡ growthOf work c (p .kind) (p .learned) s) (is : LooseHere work c p s l) where
   pub judge-loose : l ≡ true
       → JudgePost work c p s (record { number = numberOf loose; growth = g })
   unfolding judgeNumber
   judge-loose e = record { growth-is = growth; l = l; l-is = is; number-is = rw e }
 
   module _ (e : l ≡ false) {f : Bool} (fit : f ≡ fitsIn c g) where
-    same-fit : fitsIn c (growthOf work c p s) ≡ f
+    same-fit : fitsIn c (growthOf work c (p .kind) (p .learned) s) ≡ f
     same-fit = ap (fitsIn c) (sym growth) ∙ sym fit
 
     pub judge-limit : not f ≡ true

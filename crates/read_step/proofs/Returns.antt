@@ -1,40 +1,38 @@
 -- The answers of `read_event`, with what they leave.
-use Prim.Native.Nat.{ℕ, zero, suc, _+_, _-_, _*_, _≤_, _<_}
+use Prim.Native.Nat.{ℕ, _+_, _-_, _*_, _≤_, _<_}
 use native.Mathlib.Omega.{arith}
 use mathlib.Core.Path.{_≡_, refl, sym, ap, subst, _∙_}
-use mathlib.Core.Bool.{Bool, true, false, cond, _&&_, not, true≢false}
+use mathlib.Core.Bool.{Bool, true, false}
 use mathlib.Core.List.{List, map}
-use mathlib.Core.Option.{Option, none, some}
+use mathlib.Core.Option.{some}
 use lib.ListN.{length, take, drop, replicate}
 use Rattle.spec_fields.specs.Bits.{unpack}
 use Rattle.spec_fields.specs.Refusal.{numberOf, loose, limit}
-use Rattle.spec_fields.specs.Parser.{Parser, got, return, need, _>>=_, _>>_}
-use Rattle.spec_fields.specs.Field.{Alignment}
-use Rattle.spec_fields.proofs.Tests.{split}
-use Rattle.text.specs.Text.{Text}
-use Rattle.spec_exi.specs.Sizes.{sizes, maxStore}
+use Rattle.spec_fields.specs.Parser.{Parser, return, need, _>>=_, _>>_}
+use Rattle.spec_exi.specs.Sizes.{sizes}
 use Rattle.spec_exi.specs.Settings.{Settings}
-use Rattle.spec_exi.specs.Event.{QName, Event, Kind, kindOf, nameOf}
+use Rattle.spec_exi.specs.Event.{Event, nameOf}
 use Rattle.spec_exi.specs.Tables.{Placed, Tables, eventText}
 use Rattle.spec_exi.specs.Grammar.{State, Production, Code, codeOf, sameCode}
 use Rattle.spec_exi.specs.Context.{Context, levelsIn, after}
 use Rattle.spec_exi.specs.Lists.{withinGrammars}
 use Rattle.spec_exi.specs.Reader.{readCode, readContent, step}
-use Rattle.mem_layout.specs.Layout.{sites}
-use Rattle.mem_rows.specs.Rows.{Rows, placedAt, nameAt, kindAt, carries, carriedAt, stateOf}
-use Rattle.mem_rows.specs.Rows.{contextOf, tablesOf}
+use Rattle.mem_rows.specs.Rows.{Rows, placedAt, nameAt, kindAt, carries, stateOf}
+use Rattle.mem_rows.specs.Rows.{contextOf}
 use Rattle.mem_state.specs.declared.Core.{Core}
 use Rattle.mem_state.specs.declared.Growth.{Growth}
-use Rattle.mem_state.specs.Holds.{inStore, Bounded, Topped, Represents, contextAt}
+use Rattle.mem_state.specs.Holds.{inStore, Topped, Represents, contextAt}
 use Rattle.read_contract.specs.Outcome.{Declined, Gotten, Outcome}
-use Rattle.read_contract.proofs.Outcome.{refused-outcome, declined-then, gotten-then}
-use Rattle.read_contract.proofs.Outcome.{gotten-declined, outcome-then, return-outcome}
+use Rattle.read_contract.proofs.Outcome.{refused-outcome, declined-then}
+use Rattle.read_contract.proofs.Outcome.{outcome-then, return-outcome}
 use Rattle.read_contract.proofs.Outcome.{need-passed, need-declined, declined-as, need-true}
 use Rattle.read_literal.specs.Literal.{laidAt}
 use Rattle.read_literal.proofs.Store.{laid-none}
 use Rattle.read_production.specs.declared.ProductionRead.{ProductionRead}
 use Rattle.read_production.specs.Production.{ProductionPre, ProductionPost, IsCode}
 use Rattle.grammar_match.proofs.Here.{site-low}
+use Rattle.grammar_update.specs.Growth.{GrowthPre, growthOf, fitsIn}
+use Rattle.grammar_update.proofs.Represented.{code-rows}
 use Rattle.read_qname.specs.Texts.{TextRead}
 use Rattle.read_qname.specs.Qnames.{tablesAt}
 use Rattle.read_qname.proofs.Texts.{text-size, text-cleared}
@@ -42,10 +40,9 @@ use Rattle.read_content.specs.declared.Content.{Content}
 use Rattle.read_content.specs.Contents.{ContentPre, ContentMeans, ContentPost, carriedBy}
 use Rattle.read_step.specs.declared.Judged.{Judged}
 use Rattle.read_step.specs.declared.EventRead.{EventRead}
-use Rattle.read_step.specs.Judge.{GrowthPre, growthOf, fitsIn, LooseHere, judgeNumber}
-use Rattle.read_step.specs.Judge.{JudgePost, EventPre, refusedAs, EventBounds, EventMeans}
+use Rattle.read_step.specs.Judge.{judgeNumber, JudgePost, EventPre, refusedAs, EventBounds}
 use Rattle.read_step.specs.Judge.{EventPost}
-use Rattle.read_step.proofs.Rows.{prepared, code-rows, content-name}
+use Rattle.read_step.proofs.Rows.{prepared, content-name}
 use Rattle.read_step.proofs.Events.{content-rows, same-code, other-code, fits-is, grows}
 use Rattle.read_step.proofs.Events.{left-valid, start-named, left-context, carried-some}
 
@@ -244,7 +241,7 @@ module _ {s : Settings} {stream text work : List ℕ} {c : Core}
 
         module _ {j : Judged} (judged : JudgePost work c p (y .strings) j) where
           abbrev g : Growth
-          g = growthOf work c p (y .strings)
+          g = growthOf work c (p .kind) (p .learned) (y .strings)
 
           module _ {w : Rows} {opened : List ℕ} (rep : Represents work (inStore text (c .stored)) c w opened)
               (top : Topped c opened) where
@@ -317,7 +314,7 @@ module _ {s : Settings} {stream text work : List ℕ} {c : Core}
                 stored = y .stored;
                 event = y .event;
                 strings = y .strings;
-                growth = growthOf work c p (y .strings);
+                growth = growthOf work c (p .kind) (p .learned) (y .strings);
               })
           unfolding growthOf
           event-bounds f =

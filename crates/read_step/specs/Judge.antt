@@ -1,13 +1,13 @@
 -- What is tested after an event's content, and what reading an event leaves before its rows join.
-use Prim.Native.Nat.{ℕ, _+_, _*_, _≤_, _<_}
+use Prim.Native.Nat.{ℕ, _*_, _≤_, _<_}
 use mathlib.Core.Path.{_≡_}
-use mathlib.Core.Bool.{Bool, true, false, cond, _&&_, not}
-use mathlib.Core.List.{List, map}
+use mathlib.Core.Bool.{Bool, true, false, cond, not}
+use mathlib.Core.List.{List}
 use lib.ListN.{length, take}
-use lib.Dec.{eqb, leb}
+use lib.Dec.{eqb}
 use Rattle.spec_fields.specs.Refusal.{numberOf, loose, limit}
 use Rattle.spec_exi.specs.Settings.{Settings}
-use Rattle.spec_exi.specs.Sizes.{sizes, maxStream, maxStore, maxOpen, maxGrammars, maxLearned}
+use Rattle.spec_exi.specs.Sizes.{sizes, maxStream, maxStore}
 use Rattle.spec_exi.specs.Event.{Event, mapEvent, SE}
 use Rattle.spec_exi.specs.Tables.{Placed, spanOf}
 use Rattle.spec_exi.specs.Grammar.{kindNumber}
@@ -15,21 +15,18 @@ use Rattle.spec_exi.specs.Context.{Context}
 use Rattle.spec_exi.specs.Reader.{step}
 use Rattle.event.specs.declared.Event.the-variants.{StartDocument}
 use Rattle.event.specs.Cells.{meaning}
-use Rattle.event_code.specs.Parts.{teachesIn}
-use Rattle.mem_layout.specs.Layout.{uriRows, nameRows, sites, workCells}
-use Rattle.mem_learned.specs.Grammars.{flagIn}
+use Rattle.mem_layout.specs.Layout.{sites, workCells}
 use Rattle.mem_rows.specs.Rows.{Rows, modeAfter, openedAfter, leaves, contextOf}
 use Rattle.mem_rows.specs.Valid.{Valid}
 use Rattle.mem_state.specs.declared.Core.{Core}
 use Rattle.mem_state.specs.declared.Strings.{Strings}
 use Rattle.mem_state.specs.declared.Growth.{Growth}
 use Rattle.mem_state.specs.Holds.{inStore, Bounded, Topped, Represents, contextAt}
-use Rattle.mem_state.specs.Commit.{counted, turned}
 use Rattle.mem_state.specs.Strung.{StringsJoin}
 use Rattle.mem_state.specs.Grows.{learntOf, Grows}
 use Rattle.grammar_codes.specs.Table.{Stands}
-use Rattle.grammar_match.specs.Here.{siteIn}
 use Rattle.grammar_match.specs.Found.{FoundHere}
+use Rattle.grammar_update.specs.Growth.{growthOf, fitsIn}
 use Rattle.read_contract.specs.Outcome.{Outcome}
 use Rattle.read_literal.specs.Literal.{Cleared}
 use Rattle.read_production.specs.declared.ProductionRead.{ProductionRead}
@@ -40,30 +37,6 @@ use Rattle.read_step.specs.declared.Judged.{Judged}
 use Rattle.read_step.specs.declared.EventRead.{EventRead}
 
 -- ---- the tests
-
-pub record GrowthPre (work : List ℕ) (c : Core) (s : Strings) : Type 0 where
-  pub room : workCells ≤ length work
-  pub name : s .«name_row» < nameRows
-  pub top : c .top < nameRows
-  pub few : c .learned ≤ maxLearned
-
-unfoldable pub growthOf : List ℕ → Core → ProductionRead → Strings → Growth
-growthOf work c p s =
-    record {
-      enters = eqb (p .kind) (kindNumber SE) && not (flagIn work (s .«name_row»));
-      teaches = not (p .learned) && teachesIn (c .mode) (p .kind);
-      site = siteIn (c .mode) (c .top);
-      kind = p .kind;
-      name = s .«name_row»;
-      uri = s .«uri_row»;
-    }
-
--- Open elements, element grammars and learned productions have room.
-unfoldable pub fitsIn : Core → Growth → Bool
-fitsIn c g =
-    not (eqb (g .kind) (kindNumber SE) && leb maxOpen (c .depth))
-    && not (g .enters && leb maxGrammars (c .grammars))
-    && not (g .teaches && leb maxLearned (c .learned))
 
 -- A learned production that fits is in this row, counted from 1; 0 for none.
 pub record LooseBy (work : List ℕ) (c : Core) (p : ProductionRead) (s : Strings) (r : Bool) :
@@ -83,10 +56,11 @@ judgeNumber l f = cond l (numberOf loose) (cond f 0 (numberOf limit))
 
 pub record JudgePost (work : List ℕ) (c : Core) (p : ProductionRead) (s : Strings) (r : Judged) :
     Type 0 where
-  pub growth-is : r .growth ≡ growthOf work c p s
+  pub growth-is : r .growth ≡ growthOf work c (p .kind) (p .learned) s
   pub l : Bool
   pub l-is : LooseHere work c p s l
-  pub number-is : r .number ≡ judgeNumber l (fitsIn c (growthOf work c p s))
+  pub number-is : r .number ≡ judgeNumber l
+      (fitsIn c (growthOf work c (p .kind) (p .learned) s))
 
 -- ---- an event
 
@@ -146,29 +120,3 @@ pub record EventPost (s : Settings) (stream text work : List ℕ) (c : Core) (te
       → Represents work (inStore text (c .stored)) c w opened → Topped c opened
       → Outcome (step sizes s (contextAt text c w opened)) stream (c .at) (r .number) (r .next)
       (EventMeans text′ c w opened r)
-
--- ---- the numbers after it
-
-abbrev pub movedTo : Core → ℕ → ℕ → Core
-movedTo c at stored =
-    record {
-      at = at;
-      stored = stored;
-      uris = c .uris;
-      names = c .names;
-      values = c .values;
-      learned = c .learned;
-      grammars = c .grammars;
-      mode = c .mode;
-      top = c .top;
-      depth = c .depth;
-    }
-
-abbrev pub coreAfter : Core → EventRead → Core
-coreAfter c r =
-    turned (counted (movedTo c (r .next) (r .stored)) (r .strings) (r .growth)) (r .growth .kind)
-    (r .growth .name)
-
-pub record AfterPre (c : Core) (r : EventRead) : Type 0 where
-  pub bounded : Bounded c
-  pub stands : Stands (c .mode) (r .growth .kind)

@@ -1,7 +1,7 @@
 -- What reading one event asks and leaves.
 use Prim.Native.Nat.{ℕ, _+_, _*_, _≤_, _<_}
 use mathlib.Core.Path.{_≡_}
-use mathlib.Core.List.{List, _∷_, _++_}
+use mathlib.Core.List.{List, _++_}
 use lib.ListN.{length, take, drop}
 use Rattle.text.specs.Text.{Text}
 use Rattle.spec_exi.specs.Settings.{Settings}
@@ -19,10 +19,10 @@ use Rattle.mem_state.specs.declared.Growth.{Growth}
 use Rattle.mem_state.specs.Commit.{joinedStrings, grown, counted, turned}
 use Rattle.mem_state.specs.Holds.{inStore, Bounded, Topped, Represents, contextAt}
 use Rattle.open_elements.specs.Opened.{Turned}
+use Rattle.grammar_update.specs.After.{movedTo}
 use Rattle.read_contract.specs.Outcome.{Outcome}
 use Rattle.read_literal.specs.Literal.{laidAt, Cleared}
 use Rattle.read_step.specs.declared.Stepped.{Stepped}
-use Rattle.read_step.specs.Judge.{movedTo}
 
 -- Bounds alone; the event's cells begin at this one.
 pub record StepPre (stream events text work : List ℕ) (c : Core) (cell : ℕ) : Type 0 where

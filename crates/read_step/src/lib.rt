@@ -2,11 +2,10 @@
 // place where its rows join memory. What the functions ask and leave is in specs/.
 ghost use mathlib.Core.Path.{_≡_};
 ghost use Rattle.settings.specs.Meant.{settingsFrom};
-ghost use Rattle.read_step.specs.Judge.{growthOf, fitsIn, GrowthPre, LooseHere, JudgePost};
-ghost use Rattle.read_step.specs.Judge.{refusedAs, EventPre, EventPost, coreAfter, AfterPre};
+ghost use Rattle.grammar_update.specs.Growth.{GrowthPre};
+ghost use Rattle.read_step.specs.Judge.{LooseHere, JudgePost, refusedAs, EventPre, EventPost};
 ghost use Rattle.read_step.specs.Step.{StepPre, StepPost};
 use event::Event;
-use event_code::SE;
 use mem_state::Core;
 use mem_state::Growth;
 use mem_state::Strings;
@@ -14,9 +13,6 @@ use read_production::ProductionRead;
 use refusal::LIMIT;
 use refusal::LOOSE;
 use settings::Settings;
-use sizes::MAX_GRAMMARS;
-use sizes::MAX_LEARNED;
-use sizes::MAX_OPEN;
 
 // The number of the event's refusal or 0, and the numbers after the event.
 pub struct Stepped {
@@ -30,8 +26,8 @@ struct Judged {
     growth: Growth,
 }
 
-// The number of a refusal or 0; the position after the event; the code points in the store; the event;
-// and what it adds to memory.
+// The number of a refusal or 0; the position after the event; the code points in the store; the
+// event; and what it adds to memory.
 struct EventRead {
     number: u32,
     next: usize,
@@ -42,42 +38,6 @@ struct EventRead {
 }
 
 // ---- the tests after the content
-
-// What an event leaves in the grammars (EXI 8.4.3).
-fn growth(c: Core, p: ProductionRead, s: Strings, work: &[u32]) -> Growth
-    requires { ⌜ GrowthPre (now work) c s ⌝ }
-    ensures { λ r. ⌜ r ≡ growthOf (now (work .entry)) c p s ⌝ }
-{
-    let kind = p.kind;
-    let name = s.name_row;
-    let has = mem_learned::has_grammar(work, name);
-    let teaches = event_code::teaches(c.mode, kind);
-    let site = grammar_match::site_in(c.mode, c.top);
-    Growth {
-        enters: (kind == SE) & !has,
-        teaches: !p.learned & teaches,
-        site,
-        kind,
-        name,
-        uri: s.uri_row,
-    }
-}
-
-// Whether open elements, element grammars and learned productions have room for it.
-fn fits(c: Core, g: Growth) -> bool
-    ensures { λ r. ⌜ r ≡ fitsIn c g ⌝ }
-{
-    if (g.kind == SE) & (MAX_OPEN <= c.depth) {
-        return false;
-    }
-    if g.enters & (MAX_GRAMMARS <= c.grammars as usize) {
-        return false;
-    }
-    if g.teaches & (MAX_LEARNED <= c.learned as usize) {
-        return false;
-    }
-    true
-}
 
 // Whether a learned production fits the event, and its code is not that one's.
 fn loose(c: Core, p: ProductionRead, s: Strings, work: &[u32]) -> bool
@@ -95,14 +55,14 @@ fn judge(c: Core, p: ProductionRead, s: Strings, work: &[u32]) -> Judged
     requires { ⌜ GrowthPre (now work) c s ⌝ }
     ensures { λ r. ⌜ JudgePost (now (work .entry)) c p s r ⌝ }
 {
-    let growth = growth(c, p, s, work);
+    let growth = grammar_update::growth(c, p.kind, p.learned, s, work);
     if loose(c, p, s, work) {
         return Judged {
             number: LOOSE,
             growth,
         };
     }
-    if !fits(c, growth) {
+    if !grammar_update::fits(c, growth) {
         return Judged {
             number: LIMIT,
             growth,
@@ -135,7 +95,8 @@ fn refused(number: u32, c: Core) -> EventRead
     }
 }
 
-// Reads one event and judges it; work memory is not written. A refusal clears the text that it laid.
+// Reads one event and judges it; work memory is not written. A refusal clears the text that it
+// laid.
 fn read_event(o: Settings, stream: &[u8], c: Core, text: &mut [u32], work: &[u32]) -> EventRead
     requires { ⌜ EventPre (now stream) (now text) (now work) c ⌝ }
     ensures { λ r. ⌜
@@ -170,19 +131,6 @@ fn read_event(o: Settings, stream: &[u8], c: Core, text: &mut [u32], work: &[u32
     }
 }
 
-// The numbers after an event.
-fn after(c: Core, r: EventRead) -> Core
-    requires { ⌜ AfterPre c r ⌝ }
-    ensures { λ d. ⌜ d ≡ coreAfter c r ⌝ }
-{
-    let mut d = c;
-    d.at = r.next;
-    d.stored = r.stored;
-    let s = r.strings;
-    let g = r.growth;
-    mem_state::turn(mem_state::count(d, s, g), g.kind, g.name)
-}
-
 // Reads one event after the core's position, and stores it in the nine cells from one on.
 pub fn step(
     o: Settings,
@@ -209,6 +157,6 @@ pub fn step(
     mem_state::grow(work, c, r.growth);
     let event = r.event;
     event::store(event, events, cell);
-    let core = after(c, r);
+    let core = grammar_update::after(c, r.next, r.stored, r.strings, r.growth);
     Stepped { number: 0, core }
 }

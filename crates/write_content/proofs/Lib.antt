@@ -3,3 +3,4 @@ pub mod Contents
 pub mod Named
 pub mod Unnamed
 pub mod Puts
+pub mod Lengths

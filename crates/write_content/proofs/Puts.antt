@@ -48,7 +48,7 @@ module _ {stream : List ℕ} {at : ℕ} {uri local : Part} {c : Core} {s : Strin
   unfolding namedBits
   written-put a e p = rw e p
 
-  named-length : (a : Alignment) (carried : Bool)
+  pub named-length : (a : Alignment) (carried : Bool)
       → length (namedBits work carried c s (partAt text uri) (partAt text local) a)
       ≤ 2 * stringMost
   unfolding namedBits

@@ -47,7 +47,7 @@ uri-length a uris row false x few new =
     omega (arith, choice-length a (suc uris) (suc row) (omega arith))
 
 -- A count of memory is small, whatever its cell holds.
-count-length : (a : Alignment) (work : List ℕ) (counts key k id : ℕ)
+pub count-length : (a : Alignment) (work : List ℕ) (counts key k id : ℕ)
     → length (hitBits a k (countIn work counts key) id) ≤ 56
 unfolding hitBits countIn
 count-length a work counts key k id =

@@ -1,66 +1,88 @@
 use Rattle.spec_exi.specs.Sizes.{cellsPerEvent}
 use native.Mathlib.Omega.{arith}
-use Rattle.read_step.proofs.Steps.{event-asks, step-refused, join-asks, grow-asks, after-asks, step-read}
+use Rattle.read_step.proofs.Steps.{event-asks, step-refused, join-asks, grow-asks}
+use Rattle.read_step.proofs.Steps.{after-asks, step-read}
 use borrow.Author.Needs.{needs}
 use Rattle.read_step.proofs.step.Statement.{statement}
 use Rattle.read_step.proofs.step.Tie as tie
-use Rattle.read_step.proofs.step.Reads as reads
-use Rattle.read_step.proofs.step.Lts as lts
-use Rattle.event.proofs.store.Reads as store-reads
-use Rattle.mem_state.proofs.grow.Reads as grow-reads
-use Rattle.mem_state.proofs.join_strings.Reads as join-strings-reads
-use Rattle.read_step.proofs.after.Reads as after-reads
-use Rattle.read_step.proofs.read_event.Reads as read-event-reads
 
--- src/lib.rt:206:9
 read-event-requires : tie.Need-read-event-requires
 read-event-requires c κs = event-asks (c .before .before .before .before .before .before .pre)
 
--- src/lib.rt:208:9
 same-length : tie.Need-same-length
 same-length c = search needs
 
--- src/lib.rt:208:9
 same-length-2 : tie.Need-same-length-2
 same-length-2 c = search needs
 
--- src/lib.rt:208:9
 returns : tie.Need-returns
-returns c = step-refused (c .before .before .before .before .before .before .before .before .before .before .before .pre) (c .before .before .before .before .read-event .ensures) (omega (arith, c .if1 .taken))
+returns c =
+    let pre = c .before .before .before .before .before .before .before .before .before .before
+    .before .pre in
+    let read-event = c .before .before .before .before .read-event in
+    step-refused (pre) (read-event .ensures) (omega (arith, c .if1 .taken))
 
--- src/lib.rt:213:5
 join-strings-requires : tie.Need-join-strings-requires
-join-strings-requires c κs = join-asks (c .before .before .before .before .before .before .before .before .before .before .before .before .pre) (c .before .before .before .before .before .read-event .ensures) (c .before .if1 .left)
+join-strings-requires c κs =
+    let pre = c .before .before .before .before .before .before .before .before .before .before
+    .before .before .pre in
+    let read-event = c .before .before .before .before .before .read-event in
+    let if1 = c .before .if1 in
+    join-asks (pre) (read-event .ensures) (if1 .left)
 
--- src/lib.rt:214:5
 grow-requires : tie.Need-grow-requires
-grow-requires c κs = grow-asks (c .before .before .before .before .before .before .before .before .before .before .before .before .before .before .before .before .pre) (c .before .before .before .before .before .before .before .before .before .read-event .ensures) (c .before .before .before .before .before .if1 .left) (c .before .before .before .join-strings .ensures)
+grow-requires c κs =
+    let pre = c .before .before .before .before .before .before .before .before .before .before
+    .before .before .before .before .before .before .pre in
+    let read-event = c .before .before .before .before .before .before .before .before .before
+    .read-event in
+    let if1 = c .before .before .before .before .before .if1 in
+    let join-strings = c .before .before .before .join-strings in
+    grow-asks (pre) (read-event .ensures) (if1 .left) (join-strings .ensures)
 
--- src/lib.rt:216:5
 store-requires : tie.Need-store-requires
 unfolding cellsPerEvent
-store-requires c κs = c .before .before .before .before .before .before .before .before .before .before .before .before .before .before .before .before .before .before .before .before .pre .cells
+store-requires c κs =
+    let pre = c .before .before .before .before .before .before .before .before .before .before
+    .before .before .before .before .before .before .before .before .before .before .pre in
+    pre .cells
 
--- src/lib.rt:217:9
 after-requires : tie.Need-after-requires
-after-requires c κs = after-asks (c .before .before .before .before .before .before .before .before .before .before .before .before .before .before .before .before .before .before .before .before .before .before .before .pre) (c .before .before .before .before .before .before .before .before .before .before .before .before .before .before .before .before .read-event .ensures) (c .before .before .before .before .before .before .before .before .before .before .before .before .if1 .left)
+after-requires c κs =
+    let pre = c .before .before .before .before .before .before .before .before .before .before
+    .before .before .before .before .before .before .before .before .before .before .before .before
+    .before .pre in
+    let read-event = c .before .before .before .before .before .before .before .before .before
+    .before .before .before .before .before .before .before .read-event in
+    let if1 = c .before .before .before .before .before .before .before .before .before .before
+    .before .before .if1 in
+    after-asks (pre) (read-event .ensures) (if1 .left)
 
--- src/lib.rt:192:1
 same-length-3 : tie.Need-same-length-3
 same-length-3 c = search needs
 
--- src/lib.rt:192:1
 same-length-4 : tie.Need-same-length-4
 same-length-4 c = search needs
 
--- src/lib.rt:192:1
 same-length-5 : tie.Need-same-length-5
 same-length-5 c = search needs
 
--- src/lib.rt:192:1
 returns-2 : tie.Need-returns-2
 unfolding cellsPerEvent
-returns-2 c = step-read (c .before .before .before .before .before .before .before .before .before .before .before .before .before .before .before .before .before .before .before .before .before .before .before .before .pre) (c .before .before .before .before .before .before .before .before .before .before .before .before .before .before .before .before .before .read-event .ensures) (c .before .before .before .before .before .before .before .before .before .before .before .before .before .if1 .left) (c .before .before .before .before .before .before .before .before .before .before .before .join-strings .ensures) (c .before .before .before .before .before .before .before .grow .ensures) (c .before .before .before .store .ensures) (c .after .ensures)
+returns-2 c =
+    let pre = c .before .before .before .before .before .before .before .before .before .before
+    .before .before .before .before .before .before .before .before .before .before .before .before
+    .before .before .pre in
+    let read-event = c .before .before .before .before .before .before .before .before .before
+    .before .before .before .before .before .before .before .before .read-event in
+    let if1 = c .before .before .before .before .before .before .before .before .before .before
+    .before .before .before .if1 in
+    let join-strings = c .before .before .before .before .before .before .before .before .before
+    .before .before .join-strings in
+    let grow = c .before .before .before .before .before .before .before .grow in
+    let store = c .before .before .before .store in
+    step-read (pre) (read-event .ensures) (if1 .left) (join-strings .ensures) (grow .ensures) (store
+    .ensures) (c .after .ensures)
 
 pub step-spec : {M : Type 1} → statement M
 step-spec =

@@ -1,41 +1,31 @@
 -- The tests after an event's content, over rows: they are the definitions'.
-use Prim.Native.Nat.{ℕ, zero, suc, _+_, _-_, _/_, _≤_, _<_}
+use Prim.Native.Nat.{ℕ, _+_, _-_, _≤_, _<_}
 use native.Mathlib.Omega.{arith}
-use mathlib.Core.Path.{_≡_, refl, sym, ap, subst, _∙_}
+use mathlib.Core.Path.{_≡_, refl, sym, ap, _∙_}
 use mathlib.Core.Bool.{Bool, true, false, cond, _&&_, not, true≢false}
-use mathlib.Core.List.{List, [], _∷_, _++_, map}
-use mathlib.Core.Option.{Option, none, some, Option·map}
-use lib.ListN.{length, getD, drop, length-append, length-map, length-drop}
+use mathlib.Core.List.{List, [], _∷_, map}
+use lib.ListN.{length, length-append, length-map, length-drop}
 use lib.Dec.{eqb, leb}
-use borrow.Author.Tests.{eqb-true, eqb-false, eq-eqb, ne-eqb, leb-true, leb-false, le-leb, lt-leb}
+use borrow.Author.Tests.{eq-eqb, leb-true, leb-false, le-leb, lt-leb}
 use borrow.Author.Tests.{not-true}
-use Rattle.spec_fields.proofs.Tests.{split, T-is}
+use Rattle.spec_fields.proofs.Tests.{split}
 use Rattle.text.specs.Text.{Text}
 use Rattle.spec_exi.specs.Sizes.{sizes, maxOpen, maxGrammars, maxLearned}
-use Rattle.spec_exi.specs.Settings.{Settings}
-use Rattle.spec_exi.specs.Event.{QName, Event, Kind, SE, EE, kindOf, nameOf, eqName}
-use Rattle.spec_exi.specs.Tables.{Placed, Tables, nameText, eventText}
-use Rattle.spec_exi.specs.Grammar.{kindNumber, Production, Code, fits, fitsName, Site, siteOf}
-use Rattle.spec_exi.specs.Grammar.{openElements, sameCode, taught, learnedAt}
-use Rattle.spec_exi.specs.Context.{Context}
+use Rattle.spec_exi.specs.Event.{SE, EE}
+use Rattle.spec_exi.specs.Grammar.{kindNumber}
+use Rattle.spec_exi.specs.Grammar.{openElements}
 use Rattle.spec_exi.specs.Lists.{withinGrammars}
-use Rattle.spec_exi.proofs.Codes.{eqName-refl}
-use Rattle.event_code.specs.Parts.{teachesIn}
-use Rattle.event_code.proofs.Parts.{teaches-in}
-use Rattle.grammar_codes.specs.Table.{Stands}
-use Rattle.mem_learned.specs.Grammars.{flagIn}
-use Rattle.mem_rows.specs.Rows.{Learnt, Rows, placedAt, nameAt, kindAt, carries, carriedAt, siteAt}
-use Rattle.mem_rows.specs.Rows.{productionOf, stateOf, inTag, ModeFits, isAmong, modeAfter}
+use Rattle.mem_rows.specs.Rows.{Learnt, Rows, nameAt}
+use Rattle.mem_rows.specs.Rows.{stateOf, isAmong}
 use Rattle.mem_rows.specs.Rows.{openedAfter, afterGrammar, afterLearned, leaves, learnedOf}
 use Rattle.mem_rows.specs.Rows.{grammarsOf, contextOf, backward, withGrammar, withLearned}
-use Rattle.mem_rows.specs.Valid.{Valid}
 use Rattle.mem_rows.proofs.States.{open-of}
 use Rattle.mem_state.specs.declared.Core.{Core}
 use Rattle.mem_state.specs.declared.Growth.{Growth}
 use Rattle.mem_state.specs.Holds.{Bounded}
 use Rattle.mem_state.specs.Commit.{depthAfter}
 use Rattle.mem_state.specs.Grows.{learntOf, entersIn}
-use Rattle.read_step.specs.Judge.{fitsIn}
+use Rattle.grammar_update.specs.Growth.{fitsIn}
 
 -- ---- how many of each there are after the event
 

@@ -1,0 +1,83 @@
+-- Memory after an event: it represents the rows that the event leaves.
+use Prim.Native.Nat.{ℕ, _+_, _<_}
+use native.Mathlib.Omega.{arith}
+use mathlib.Core.Path.{_≡_, refl, sym, ap, _∙_}
+use mathlib.Core.Bool.{cond}
+use mathlib.Core.List.{List}
+use lib.ListN.{length}
+use Rattle.spec_exi.specs.Event.{SE}
+use Rattle.spec_exi.specs.Grammar.{kindNumber}
+use Rattle.mem_rows.specs.Rows.{Rows, openedAfter, leaves}
+use Rattle.mem_rows.specs.Valid.{Valid}
+use Rattle.mem_rows.proofs.Events.{leaves-lists}
+use Rattle.mem_state.specs.declared.Core.{Core}
+use Rattle.mem_state.specs.declared.Strings.{Strings}
+use Rattle.mem_state.specs.declared.Growth.{Growth}
+use Rattle.mem_state.specs.Holds.{Stores, Holds, Counts, Opens, Topped, Represents}
+use Rattle.mem_state.specs.Commit.{joinedStrings, grown, turned, counted, depthAfter, StringsPre}
+use Rattle.mem_state.specs.Strung.{StringsJoin}
+use Rattle.mem_state.specs.Grows.{learntOf, Grows}
+use Rattle.mem_state.proofs.Strung.{strings-ahead, uris-counted, names-counted, values-counted}
+use Rattle.mem_state.proofs.Strung.{strings-hold}
+use Rattle.mem_state.proofs.Grows.{grown-holds}
+use Rattle.open_elements.specs.Opened.{Turned}
+use Rattle.open_elements.proofs.Turns.{opened-turned, opened-rows}
+use Rattle.grammar_update.specs.After.{coreAfter, AfterPre}
+use Rattle.grammar_update.proofs.Tests.{opened-after, learned-after, grammars-after}
+
+module _ {from : Stores} {c : Core} {s : Strings} {g : Growth} {w v : Rows} {opened : List ℕ}
+    (joins : StringsJoin from s w v) (grows : Grows v c g) (counts : Counts c w)
+    (opens : Opens c w opened) where
+  abbrev left : Rows
+  left = leaves (g .kind) (g .name) (g .teaches) (learntOf g) v
+
+  left-counts : (at stored : ℕ) → Counts (coreAfter c at stored s g) left
+  unfolding turned counted
+  left-counts at stored =
+      let ls = leaves-lists (g .kind) (g .name) (g .teaches) (learntOf g) v in
+      let a = strings-ahead joins in
+      record {
+        uris = uris-counted joins counts ∙ sym (ap length (ls .0));
+        names = names-counted joins counts ∙ sym (ap length (ls .1));
+        values = values-counted joins counts ∙ sym (ap length (ls .2));
+        learned = ap (λ n. n + cond (g .teaches) 1 0)
+            (counts .learned ∙ sym (ap length (a .learned)))
+            ∙ sym (learned-after v (g .kind) (g .name) (g .teaches) (learntOf g));
+        grammars = ap (λ n. n + cond (g .enters) 1 0)
+            (counts .grammars ∙ sym (ap length (a .grammars)))
+            ∙ ap (λ b. length (v .grammars) + cond b 1 0) (grows .enters)
+            ∙ sym (grammars-after v (g .kind) (g .name) (g .teaches) (learntOf g));
+      }
+
+  pub left-represents : {work : List ℕ} → StringsPre work c s → Holds work from w
+      → Valid (leaves (g .kind) (g .name) (g .teaches) (learntOf g) v)
+      → (g .kind ≡ kindNumber SE → g .name < length (v .names)) → (at stored : ℕ)
+      → Represents (grown c g (joinedStrings c s work)) from (coreAfter c at stored s g)
+      (leaves (g .kind) (g .name) (g .teaches) (learntOf g) v)
+      (openedAfter (g .kind) (g .name) opened)
+  unfolding turned counted
+  left-represents asks holds valid named at stored =
+      let ls = leaves-lists (g .kind) (g .name) (g .teaches) (learntOf g) v in
+      let n = ap length (ls .1) in
+      record {
+        valid = valid;
+        holds = grown-holds grows (strings-hold joins counts asks holds);
+        counts = left-counts at stored;
+        opens = record {
+          size = opened-after (g .kind) (g .name) opened
+              ∙ ap (depthAfter (g .kind)) (opens .size);
+          rows = opened-rows (g .kind) (g .name) opened
+              (omega (arith, n, strings-ahead joins .fewerNames)) (opens .rows)
+              (λ k. omega (arith, n, named k));
+        };
+      }
+
+-- The open elements after it.
+pub left-turned : {c : Core} (s : Strings) {g : Growth} {w : Rows} {opened : List ℕ} → AfterPre c g
+    → Opens c w opened → Topped c opened → (at stored : ℕ)
+    → Turned c (coreAfter c at stored s g) opened (openedAfter (g .kind) (g .name) opened)
+unfolding turned counted kindNumber
+left-turned s {g} {opened = opened} a opens top at stored =
+    opened-turned (g .kind) (g .name) opened (opens .size)
+    (λ k. a .bounded .fits .inner (a .stands .inside (omega (arith, k)) (omega (arith, k)))) top
+    refl refl

@@ -1,0 +1,5 @@
+pub mod Tests
+pub mod Turns
+pub mod Represented
+pub mod Events
+pub mod Left

@@ -1,0 +1,20 @@
+use mathlib.Core.Path.{ap, _∙_}
+use Rattle.mem_state.specs.declared.Core.{Core}
+use Rattle.mem_state.specs.Commit.{turned}
+use Rattle.grammar_update.proofs.Turns.{count-asks, turn-asks}
+use Rattle.grammar_update.proofs.after.Statement.{statement}
+use Rattle.grammar_update.proofs.after.Tie as tie
+
+count-requires : tie.Need-count-requires
+count-requires c κs = count-asks _ _ (c .pre)
+
+turn-requires : tie.Need-turn-requires
+turn-requires c κs = turn-asks _ _ _ (c .before .pre) (c .count .ensures)
+
+returns : tie.Need-returns
+returns c =
+    let g = c .before .before .args .g in
+    c .turn .ensures ∙ ap (λ (d : Core). turned d (g .kind) (g .name)) (c .before .count .ensures)
+
+pub after-spec : {M : Type 1} → statement M
+after-spec = tie.close (tie.spec count-requires turn-requires returns)

@@ -1,0 +1,30 @@
+-- The numbers after an event.
+use Prim.Native.Nat.{ℕ}
+use Rattle.grammar_codes.specs.Table.{Stands}
+use Rattle.mem_state.specs.declared.Core.{Core}
+use Rattle.mem_state.specs.declared.Strings.{Strings}
+use Rattle.mem_state.specs.declared.Growth.{Growth}
+use Rattle.mem_state.specs.Holds.{Bounded}
+use Rattle.mem_state.specs.Commit.{counted, turned}
+
+abbrev pub movedTo : Core → ℕ → ℕ → Core
+movedTo c at stored =
+    record {
+      at = at;
+      stored = stored;
+      uris = c .uris;
+      names = c .names;
+      values = c .values;
+      learned = c .learned;
+      grammars = c .grammars;
+      mode = c .mode;
+      top = c .top;
+      depth = c .depth;
+    }
+
+abbrev pub coreAfter : Core → ℕ → ℕ → Strings → Growth → Core
+coreAfter c at stored s g = turned (counted (movedTo c at stored) s g) (g .kind) (g .name)
+
+pub record AfterPre (c : Core) (g : Growth) : Type 0 where
+  pub bounded : Bounded c
+  pub stands : Stands (c .mode) (g .kind)

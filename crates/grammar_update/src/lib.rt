@@ -1,0 +1,59 @@
+// What an event leaves in the grammars and in the numbers that go from event to event (EXI 8.4.3),
+// and whether the sizes have room for it. Memory is not written. What the functions ask and leave
+// is in specs/.
+ghost use mathlib.Core.Path.{_≡_};
+ghost use Rattle.grammar_update.specs.Growth.{growthOf, fitsIn, GrowthPre};
+ghost use Rattle.grammar_update.specs.After.{coreAfter, AfterPre};
+use event_code::SE;
+use mem_state::Core;
+use mem_state::Growth;
+use mem_state::Strings;
+use sizes::MAX_GRAMMARS;
+use sizes::MAX_LEARNED;
+use sizes::MAX_OPEN;
+
+// What an event of this kind, by a code that is learned or not, leaves in the grammars.
+pub fn growth(c: Core, kind: u32, learned: bool, s: Strings, work: &[u32]) -> Growth
+    requires { ⌜ GrowthPre (now work) c s ⌝ }
+    ensures { λ r. ⌜ r ≡ growthOf (now (work .entry)) c kind learned s ⌝ }
+{
+    let name = s.name_row;
+    let has = mem_learned::has_grammar(work, name);
+    let teaches = event_code::teaches(c.mode, kind);
+    let site = grammar_match::site_in(c.mode, c.top);
+    Growth {
+        enters: (kind == SE) & !has,
+        teaches: !learned & teaches,
+        site,
+        kind,
+        name,
+        uri: s.uri_row,
+    }
+}
+
+// Whether open elements, element grammars and learned productions have room for it.
+pub fn fits(c: Core, g: Growth) -> bool
+    ensures { λ r. ⌜ r ≡ fitsIn c g ⌝ }
+{
+    if (g.kind == SE) & (MAX_OPEN <= c.depth) {
+        return false;
+    }
+    if g.enters & (MAX_GRAMMARS <= c.grammars as usize) {
+        return false;
+    }
+    if g.teaches & (MAX_LEARNED <= c.learned as usize) {
+        return false;
+    }
+    true
+}
+
+// The numbers after an event, at this position and with so many code points in the store.
+pub fn after(c: Core, at: usize, stored: usize, s: Strings, g: Growth) -> Core
+    requires { ⌜ AfterPre c g ⌝ }
+    ensures { λ d. ⌜ d ≡ coreAfter c at stored s g ⌝ }
+{
+    let mut d = c;
+    d.at = at;
+    d.stored = stored;
+    mem_state::turn(mem_state::count(d, s, g), g.kind, g.name)
+}
