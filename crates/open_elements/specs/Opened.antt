@@ -2,7 +2,7 @@
 use Prim.Native.Nat.{ℕ, zero, suc, _+_, _%_, _<_}
 use mathlib.Core.Path.{_≡_}
 use mathlib.Core.List.{List, [], _∷_}
-use lib.ListN.{length, getD}
+use lib.ListN.{length, getD, replicate}
 use Rattle.spec_exi.specs.Sizes.{maxOpen}
 use Rattle.mem_layout.specs.Layout.{nameRows}
 use Rattle.mem_state.specs.declared.Core.{Core}
@@ -16,6 +16,10 @@ lastFirst (suc n) l = getD l n 0 ∷ lastFirst n l
 -- The open elements, the innermost first.
 abbrev pub openedIn : State → List ℕ
 openedIn t = lastFirst (t .core .depth) (t .opened)
+
+-- None is open.
+unfoldable pub noneOpen : Core → State
+noneOpen c = record { core = c; opened = replicate maxOpen 0 }
 
 -- The innermost of so many, or 0. (Rows of names are below `nameRows`: nothing is taken from
 -- them.)

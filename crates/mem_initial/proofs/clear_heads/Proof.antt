@@ -4,10 +4,10 @@ use Prim.Native.Nat.{ℕ}
 use lib.ListN.{drop}
 use mathlib.Core.List.{List, _++_}
 use mathlib.Core.Path.{ap}
-use Rattle.reader.specs.Read.{zeroed}
+use Rattle.mem_initial.specs.Initial.{zeroed}
 use borrow.Author.Needs.{needs}
-use Rattle.reader.proofs.clear_heads.Statement.{statement}
-use Rattle.reader.proofs.clear_heads.Tie as tie
+use Rattle.mem_initial.proofs.clear_heads.Statement.{statement}
+use Rattle.mem_initial.proofs.clear_heads.Tie as tie
 
 sub-cells : tie.Need-sub-cells
 sub-cells c = search needs
