@@ -27,6 +27,22 @@ unfoldable pub innermostIn : List ℕ → ℕ → ℕ
 innermostIn opened zero = 0
 innermostIn opened (suc n) = getD opened n 0 % nameRows
 
+-- The numbers with another top.
+abbrev pub withTop : Core → ℕ → Core
+withTop c top =
+    record {
+      at = c .at;
+      stored = c .stored;
+      uris = c .uris;
+      names = c .names;
+      values = c .values;
+      learned = c .learned;
+      grammars = c .grammars;
+      mode = c .mode;
+      top = top;
+      depth = c .depth;
+    }
+
 -- What an event leaves of the open elements. (After an end tag the top is the ended element's: only
 -- who keeps them all knows the next.)
 pub record Turned (c d : Core) (opened opened′ : List ℕ) : Type 0 where
