@@ -52,7 +52,7 @@ extern "C" {
 #define PLUMETHRIFT_TEXT_CELLS 16384        /* reader: text store, one code point a cell */
 #define PLUMETHRIFT_STREAM_OCTETS 16384     /* writer: octets; the reader takes no longer stream */
 #define PLUMETHRIFT_READER_WORK_CELLS 18432 /* reader: work memory */
-#define PLUMETHRIFT_WRITER_WORK_CELLS 34816 /* writer: work memory */
+#define PLUMETHRIFT_WRITER_WORK_CELLS 18432 /* writer: work memory */
 
 /* The most readings that there are in one list: stamps to lend, at least, and as many movements. */
 #define PLUMETHRIFT_MAX_READINGS 678

@@ -17,7 +17,7 @@ use Rattle.spec_exi.specs.Grammar.{Production, Code, unnamed, kindNumber, fitsN
 use Rattle.spec_exi.specs.Grammar.{document, docContent, docEnd, finished, startTag, elementContent}
 use Rattle.spec_exi.specs.Grammar.{Learned, siteOf, learnedAt, kept, levelsWith, levels, atLevel}
 use Rattle.spec_exi.specs.Grammar.{below, raised, firstFit, codeOr, codeOf, sameCode}
-use Rattle.event_code.specs.Parts.{modeOf}
+use Rattle.event_code.specs.Numbers.{modeOf}
 use Rattle.grammar_codes.specs.Table.{keptKinds, tables, tableOf, leveled, withLearned}
 use Rattle.grammar_codes.specs.Table.{Reaches, at-level, in-next, raisedBy, afterLearned}
 use Rattle.grammar_codes.proofs.Table.{hasIn, inTable, once, allOnce}

@@ -11,7 +11,7 @@ use Rattle.spec_fields.proofs.Tests.{split, T-is, is-T, left, right}
 use Rattle.spec_exi.specs.Event.{Kind, SD, ED, SE, AT, EE, CH, CM, PI}
 use Rattle.spec_exi.specs.Grammar.{Production, Code, unnamed, kindNumber, isWildcard, atLevel, below}
 use Rattle.spec_exi.specs.Grammar.{hasKind, teaches}
-use Rattle.event_code.specs.Parts.{teachesIn}
+use Rattle.event_code.specs.Numbers.{teachesIn}
 use Rattle.grammar_codes.specs.Table.{keptKinds, tables, tableOf, Reaches, at-level, in-next}
 use Rattle.grammar_codes.specs.Table.{FixedCode, raisedBy, afterLearned}
 use Rattle.grammar_codes.proofs.Table.{every, every-at}

@@ -14,7 +14,7 @@ use Rattle.spec_fields.specs.Bits.{Bits}
 use Rattle.spec_fields.specs.Field.{Alignment, choiceBits}
 use Rattle.spec_exi.specs.Event.{Kind, SD, ED, SE, AT, EE, CH, CM, PI}
 use Rattle.spec_exi.specs.Grammar.{Production, unnamed, kindNumber, Code, atLevel, below}
-use Rattle.event_code.specs.Parts.{inTag, numberED, numberEE, numberCH}
+use Rattle.event_code.specs.Numbers.{inTag, numberED, numberEE, numberCH}
 use Rattle.grammar_codes.specs.declared.Place.{Place}
 
 -- ---- the table

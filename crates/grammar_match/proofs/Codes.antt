@@ -21,7 +21,7 @@ use Rattle.spec_exi.specs.Grammar.{Production, Code, kindNumber, isWildcard, at
 use Rattle.spec_exi.specs.Grammar.{codeOf, sameCode, codeBits, hasKind, teaches, taught}
 use Rattle.spec_exi.specs.Context.{levelsIn}
 use Rattle.spec_exi.proofs.Codes.{code-same}
-use Rattle.event_code.specs.Parts.{teachesIn}
+use Rattle.event_code.specs.Numbers.{teachesIn}
 use Rattle.grammar_codes.specs.declared.Place.{Place}
 use Rattle.grammar_codes.specs.Table.{tableOf, valuesAt, placeIn, withLearned, FixedCode, codeAt}
 use Rattle.grammar_codes.specs.Table.{afterLearned, fixedBits, PlaceAt}

@@ -14,7 +14,7 @@ use Rattle.spec_exi.specs.Event.{QName}
 use Rattle.spec_exi.specs.Settings.{Settings}
 use Rattle.spec_exi.specs.Grammar.{learnedIn, learnedAt, siteOf}
 use Rattle.spec_exi.specs.Context.{levelsIn}
-use Rattle.event_code.specs.Parts.{modeOf}
+use Rattle.event_code.specs.Numbers.{modeOf}
 use Rattle.grammar_codes.specs.Table.{tables, tableOf, withLearned}
 use Rattle.grammar_codes.proofs.Codes.{levels-table}
 use Rattle.mem_layout.specs.Layout.{nameRows, sites}

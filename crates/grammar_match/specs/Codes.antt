@@ -9,7 +9,7 @@ use Rattle.spec_exi.specs.Event.{QName, Event, kindOf}
 use Rattle.spec_exi.specs.Settings.{Settings}
 use Rattle.spec_exi.specs.Tables.{Placed}
 use Rattle.spec_exi.specs.Grammar.{Code, taught}
-use Rattle.event_code.specs.Parts.{teachesIn}
+use Rattle.event_code.specs.Numbers.{teachesIn}
 use Rattle.mem_rows.specs.Rows.{Rows, inTag}
 use Rattle.grammar_match.specs.Here.{learnedHere, codeHere}
 

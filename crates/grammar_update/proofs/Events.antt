@@ -21,8 +21,8 @@ use Rattle.spec_exi.specs.Grammar.{kindNumber, Production, Code, Site, siteOf, 
 use Rattle.spec_exi.specs.Context.{levelsIn, items, afterItems, after, next}
 use Rattle.spec_exi.specs.Lists.{withinGrammars}
 use Rattle.spec_exi.specs.Alike.{Alike, AlikeTables}
-use Rattle.event_code.specs.Parts.{teachesIn}
-use Rattle.event_code.proofs.Parts.{teaches-in}
+use Rattle.event_code.specs.Numbers.{teachesIn}
+use Rattle.event_code.proofs.Numbers.{teaches-in}
 use Rattle.grammar_codes.specs.Table.{Stands}
 use Rattle.mem_layout.specs.Layout.{uriRows, nameRows}
 use Rattle.mem_entries.specs.Entries.{keyAt}

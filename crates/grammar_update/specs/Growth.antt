@@ -7,7 +7,7 @@ use lib.Dec.{eqb, leb}
 use Rattle.spec_exi.specs.Sizes.{maxOpen, maxGrammars, maxLearned}
 use Rattle.spec_exi.specs.Event.{SE}
 use Rattle.spec_exi.specs.Grammar.{kindNumber}
-use Rattle.event_code.specs.Parts.{teachesIn}
+use Rattle.event_code.specs.Numbers.{teachesIn}
 use Rattle.mem_layout.specs.Layout.{nameRows, workCells}
 use Rattle.mem_learned.specs.Grammars.{flagIn}
 use Rattle.mem_state.specs.declared.Core.{Core}

@@ -1,12 +1,13 @@
 -- Lent memory with the initial entries is the definitions' start.
 use Prim.Native.Nat.{ℕ, _+_, _≤_, _<_}
 use native.Mathlib.Omega.{arith}
-use mathlib.Core.Path.{_≡_, refl, sym, ap, _∙_}
-use mathlib.Core.List.{List, [], _++_}
-use lib.ListN.{length, getD, take, drop}
-use lib.Seq.{take-at}
+use native.Mathlib.Nat.{le-refl}
+use mathlib.Core.Path.{_≡_, refl, sym, ap, subst, _∙_}
+use mathlib.Core.List.{List, [], _++_, append-nil}
+use lib.ListN.{length, getD, take, drop, replicate, length-replicate, getD-replicate}
+use lib.Seq.{length-take-le, take-at, getD-take}
 use lib.Dec.{T}
-use Rattle.text.specs.Text.{text, eqText, isEmpty}
+use Rattle.text.specs.Text.{Text, text, eqText, isEmpty}
 use Rattle.spec_exi.specs.Sizes.{maxStore, maxUris, maxNames, maxValues, maxLearned, maxGrammars}
 use Rattle.spec_exi.specs.Sizes.{maxOpen}
 use Rattle.spec_exi.specs.Settings.{Settings}
@@ -14,8 +15,10 @@ use Rattle.spec_exi.specs.Event.{eqName}
 use Rattle.spec_exi.specs.Tables.{nameAllowed, newUri, newName, newEntry, newValue, laid, added}
 use Rattle.spec_exi.specs.Tables.{xmlUri, xsiUri, initialEntries, addedAll, startTables}
 use Rattle.spec_exi.specs.Context.{start}
-use Rattle.mem_layout.specs.Layout.{zeroCells, workCells}
-use Rattle.mem_entries.specs.Texts.{throughout}
+use Rattle.spec_exi.specs.Alike.{Alike}
+use Rattle.spec_exi.proofs.Alike.{alike-same}
+use Rattle.mem_layout.specs.Layout.{zeroCells, workCells, openingUris, openingNames}
+use Rattle.mem_entries.specs.Texts.{upTo}
 use Rattle.mem_chain.specs.Chain.{firstThat}
 use Rattle.mem_entries.specs.Entries.{entryAt, named}
 use Rattle.mem_names.specs.Uris.{uriAt}
@@ -26,10 +29,12 @@ use Rattle.mem_values.proofs.Joined.{values-none}
 use Rattle.mem_learned.proofs.Joined.{learned-none}
 use Rattle.mem_learned.proofs.Grammars.{grammars-none}
 use Rattle.mem_rows.specs.Rows.{placedAt, nameAt, tablesOf, backward, learnedOf, grammarsOf}
-use Rattle.mem_rows.specs.Rows.{stateOf, contextOf, withUri, withName}
+use Rattle.mem_rows.specs.Rows.{inDocument, stateOf, contextOf, withUri, withName}
 use Rattle.mem_rows.specs.Valid.{Valid}
-use Rattle.mem_state.specs.Holds.{taughtIn, inStore, Holds, Bounded, Topped, Represents, contextAt}
-use Rattle.mem_initial.specs.Initial.{initialUris, initialNames, together, urisText}
+use Rattle.mem_rows.proofs.Alike.{rows-context}
+use Rattle.mem_state.specs.Holds.{taughtIn, Stores, inStore, Holds, Bounded, Topped, Represents}
+use Rattle.mem_state.specs.Holds.{contextAt}
+use Rattle.mem_initial.specs.Initial.{zeroed, initialUris, initialNames, together, urisText}
 use Rattle.mem_initial.specs.Initial.{namesText, initialText, withText, urisLaid, namesLaid}
 use Rattle.mem_initial.specs.Initial.{withRows, plusUris, plusNames, noRows, initialRows}
 use Rattle.mem_initial.specs.Initial.{startRows, startAt}
@@ -61,15 +66,16 @@ none-valid =
 
 module _ (work : List ℕ) (room : workCells ≤ length work)
     (zeros : (j : ℕ) → j < zeroCells → getD work j 0 ≡ 0) where
-  none-holds : (store : List ℕ) (stored : ℕ) → stored ≤ length store
-      → Holds work (inStore store stored) noRows
+  none-holds : (from : Stores) → from .values .stored ≤ length (from .values .store)
+      → Holds work from noRows
   unfolding taughtIn replaced globalNumber
-  none-holds store stored inside =
+  none-holds from inside =
       record {
-        uris = uris-none work (throughout store stored) room;
-        names = names-none work (throughout store stored) room (λ j h. zeros j (omega arith));
+        uris = uris-none work (from .uris) room;
+        names = names-none work (from .names) room (λ j h. zeros j (omega arith));
         values = record {
-          holds = values-none work store stored room inside (λ j h. zeros j (omega arith));
+          holds = values-none work (from .values .store) (from .values .stored) room inside
+              (λ j h. zeros j (omega arith));
           differ = record { texts = λ i j _ h k e. absurd (omega arith) };
           capacity = unbounded;
           gone = refl;
@@ -98,32 +104,85 @@ names-fresh origin = tt
 
 -- ---- memory with them
 
-module _ (work : List ℕ) (room : workCells ≤ length work)
-    (zeros : (j : ℕ) → j < zeroCells → getD work j 0 ≡ 0) where
-  pub initial-stands : (text : List ℕ) (origin stored : ℕ) → origin + 99 ≤ stored
-      → stored ≤ length text
-      → Stands (withRows work origin) (withText text origin) stored (initialRows origin)
-  unfolding withRows urisLaid namesLaid initialRows initialText urisText namesText
-  initial-stands text origin stored h k =
-      let fits : origin + 99 ≤ length text = omega arith in
-      let same : length (withText text origin) ≡ length text = text-same-length text origin fits in
-      let has : Has (withText text origin) stored origin (urisText ++ namesText) =
-      text-has text origin fits stored h k in
-      names-stand (withText text origin) stored origin initialNames (length urisText) 0
-      (uris-stand (withText text origin) stored origin initialUris 0 0
-      (record {
-        valid = none-valid;
-        holds = none-holds work room zeros (withText text origin) stored (omega arith);
-      })
-      refl (first-has urisText namesText has (origin + 0) (omega arith)) (uris-fresh origin))
-      (sym (uris-counted origin))
-      (rest-has urisText namesText has (origin + length urisText) refl) (names-fresh origin)
+-- The first rows lie in a store that has the initial texts at the origin.
+pub record Sourced (from : Stores) (origin : ℕ) : Type 0 where
+  pub store : List ℕ
+  pub stored : ℕ
+  pub has : Has store stored origin initialText
+  pub uris : (i : ℕ) → i < openingUris → from .uris i ≡ upTo store stored
+  pub names : (i : ℕ) → i < openingNames → from .names i ≡ upTo store stored
+  pub values : from .values .stored ≤ length (from .values .store)
 
-  pub start-represents : (text : List ℕ) → 99 ≤ length text → (at : ℕ)
-      → Represents (withRows work 0) (inStore (withText text 0) 99) (startAt at) startRows []
+-- All rows lie in a store that begins with them.
+pub store-sourced : (text : List ℕ) → 99 ≤ length text
+    → Sourced (inStore (withText text 0) 99) 0
+store-sourced text fits =
+    record {
+      store = withText text 0;
+      stored = 99;
+      has = text-has text 0 fits 99 (omega arith) fits;
+      uris = λ i l. refl;
+      names = λ i l. refl;
+      values = omega (arith, text-same-length text 0 fits);
+    }
+
+-- The first rows lie in a store of their own.
+pub opening-sourced : {from : Stores}
+    → ((i : ℕ) → i < openingUris → from .uris i ≡ upTo initialText (length initialText))
+    → ((i : ℕ) → i < openingNames → from .names i ≡ upTo initialText (length initialText))
+    → from .values .stored ≤ length (from .values .store) → Sourced from 0
+opening-sourced uris names values =
+    record {
+      store = initialText;
+      stored = length initialText;
+      has =
+          record {
+            before = [];
+            after = [];
+            is = sym (append-nil initialText);
+            starts = refl;
+            ends = omega arith;
+            inside = le-refl (length initialText);
+          };
+      uris = uris;
+      names = names;
+      values = values;
+    }
+
+-- Heads and counts are cleared.
+pub heads-zero : (work : List ℕ) → workCells ≤ length work → (j : ℕ) → j < zeroCells
+    → getD (zeroed zeroCells work) j 0 ≡ 0
+unfolding zeroed
+heads-zero work room j h =
+    let n : length (take zeroCells work) ≡ zeroCells = length-take-le zeroCells work (omega arith) in
+    let zeros : List ℕ = replicate (length (take zeroCells work)) 0 in
+    let first : take zeroCells (zeros ++ drop zeroCells work) ≡ zeros =
+    take-at zeros (drop zeroCells work) zeroCells
+    (length-replicate {A = ℕ} (length (take zeroCells work)) 0 ∙ n) in
+    sym (getD-take zeroCells (zeros ++ drop zeroCells work) j 0 h)
+    ∙ ap (λ (m : List ℕ). getD m j 0) first
+    ∙ getD-replicate (length (take zeroCells work)) j 0 0 (omega (arith, n))
+
+module _ (work : List ℕ) (room : workCells ≤ length work)
+    (zeros : (j : ℕ) → j < zeroCells → getD work j 0 ≡ 0) {from : Stores} where
+  pub initial-stands : (origin : ℕ) → Sourced from origin
+      → Stands (withRows work origin) from (initialRows origin)
+  unfolding withRows urisLaid namesLaid initialRows initialText urisText namesText initialUris
+      initialNames
+  initial-stands origin f =
+      names-stand from (f .store) (f .stored) origin initialNames (length urisText) 0
+      (uris-stand from (f .store) (f .stored) origin initialUris 0 0
+      (record { valid = none-valid; holds = none-holds work room zeros from (f .values) })
+      refl (f .uris) (first-has urisText namesText (f .has) (origin + 0) (omega arith))
+      (uris-fresh origin))
+      (sym (uris-counted origin)) (f .names)
+      (rest-has urisText namesText (f .has) (origin + length urisText) refl) (names-fresh origin)
+
+  pub start-represents : Sourced from 0 → (at : ℕ)
+      → Represents (withRows work 0) from (startAt at) startRows []
   unfolding startAt initialRows plusUris plusNames withUri withName initialUris initialNames
-  start-represents text fits at =
-      let s = initial-stands text 0 99 (omega arith) fits in
+  start-represents f at =
+      let s = initial-stands 0 f in
       record {
         valid = s .valid;
         holds = s .holds;
@@ -178,3 +237,10 @@ pub start-means : (text : List ℕ) (at : ℕ) (s : Settings)
 unfolding startAt
 start-means text at s =
     ap (λ l. contextOf startRows l 0 []) (text-first text) ∙ rows-mean s
+
+-- And with any store of that length, up to the places of strings.
+pub start-alike : (store : Text) → length store ≡ 99 → (s : Settings)
+    → Alike (contextOf startRows store inDocument []) (start s)
+start-alike store e s =
+    subst (Alike (contextOf startRows store inDocument [])) (rows-mean s)
+    (rows-context (alike-same startRows) store initialText (e ∙ sym text-length) inDocument [])

@@ -15,22 +15,22 @@ use Rattle.mem_layout.specs.Layout.{uriRows, nameRows}
 use Rattle.mem_chain.specs.Chain.{firstThat}
 use Rattle.mem_chain.proofs.First.{first-none}
 use Rattle.mem_entries.proofs.Texts.{is-text}
-use Rattle.mem_entries.specs.Texts.{hashOf, Lies}
+use Rattle.mem_entries.specs.Texts.{Source, upTo, hashOf, Lies}
 use Rattle.mem_names.specs.Uris.{uriText, hasUri}
 use Rattle.mem_names.specs.Uris as cells
 use Rattle.mem_names.specs.Names as names
 use Rattle.mem_rows.specs.Rows.{Rows, nameAt, withUri, withName}
 use Rattle.mem_rows.specs.Valid.{Valid}
 use Rattle.mem_rows.proofs.Grown.{uri-grows, name-grows}
-use Rattle.mem_state.specs.Holds.{inStore, Holds}
+use Rattle.mem_state.specs.Holds.{Stores, Holds}
 use Rattle.mem_state.proofs.Joins.{holds-uri, holds-name}
 use Rattle.mem_initial.specs.Initial.{Local, together, withUris, withNames, plusUris}
 use Rattle.mem_initial.specs.Initial.{plusNames}
 use Rattle.mem_initial.proofs.Texts.{Has, first-lies, rest-has}
 
-pub record Stands (work store : List ℕ) (stored : ℕ) (w : Rows) : Type 0 where
+pub record Stands (work : List ℕ) (from : Stores) (w : Rows) : Type 0 where
   pub valid : Valid w
-  pub holds : Holds work (inStore store stored) w
+  pub holds : Holds work from w
 
 -- ---- tests of what joins: there is room, and it is not there yet
 
@@ -82,7 +82,11 @@ is-true false t = absurd t
 
 -- ---- one entry
 
-module _ {work store : List ℕ} {stored : ℕ} {w : Rows} (h : Stands work store stored w) where
+-- The string of a row that lies in this store.
+abbrev LiesIn : Source → Placed → Type 0
+LiesIn s x = Lies (s .store) (s .stored) (x .place) (length (x .text)) (x .text)
+
+module _ {work : List ℕ} {from : Stores} {w : Rows} (h : Stands work from w) where
   module _ (x : Placed) (t : T (freshUri w (x .text))) where
     uri-new : (u : ℕ) → u < length (w .uris) → uriText (w .uris) u ≡ x .text → ⊥
     unfolding freshUri
@@ -91,16 +95,16 @@ module _ {work store : List ℕ} {stored : ℕ} {w : Rows} (h : Stands work stor
         ∙ first-none (hasUri (w .uris) (x .text)) (length (w .uris)) u
         (eqb→eq _ _ (right (uriRoom w) (uriNew w (x .text)) t)) l)
 
-    uri-stands : (n : ℕ) → n ≡ length (w .uris)
-        → Lies store stored (x .place) (length (x .text)) (x .text)
-        → Stands (cells.withUri work n (x .place) (length (x .text)) n) store stored (withUri w x)
+    uri-stands : (n : ℕ) → n ≡ length (w .uris) → LiesIn (from .uris n) x
+        → Stands (cells.withUri work n (x .place) (length (x .text)) n) from (withUri w x)
     unfolding freshUri
     uri-stands n e lies =
         let v : Valid (withUri w x) = uri-grows (h .valid) x uri-new in
         record {
           valid = v;
           holds = rw e (holds-uri w x v (h .holds)
-              (ltb→lt _ _ (left (uriRoom w) (uriNew w (x .text)) t)) lies);
+              (ltb→lt _ _ (left (uriRoom w) (uriNew w (x .text)) t))
+              (subst (λ m. LiesIn (from .uris m) x) e lies));
         }
 
   module _ (u : ℕ) (x : Placed) (t : T (freshName w u (x .text))) where
@@ -121,10 +125,9 @@ module _ {work store : List ℕ} {stored : ℕ} {w : Rows} (h : Stands work stor
         (eqb→eq _ _ (left (nameNew w u (x .text)) (allowed w u (x .text)) good)) l)
         (subst (λ p. T (eqName (nameAt w n) p)) e (eqName-refl (nameAt w n)))
 
-    name-stands : (n : ℕ) → n ≡ length (w .names)
-        → Lies store stored (x .place) (length (x .text)) (x .text)
-        → Stands (names.withName work n u (x .place) (length (x .text)) (hashOf (x .text))) store
-        stored (withName w u x)
+    name-stands : (n : ℕ) → n ≡ length (w .names) → LiesIn (from .names n) x
+        → Stands (names.withName work n u (x .place) (length (x .text)) (hashOf (x .text))) from
+        (withName w u x)
     name-stands n e lies =
         let room : length (w .names) < nameRows =
         ltb→lt _ _ (left (nameRoom w) (uriThere w u) fits) in
@@ -137,41 +140,50 @@ module _ {work store : List ℕ} {stored : ℕ} {w : Rows} (h : Stands work stor
         record {
           valid = v;
           holds = rw e (holds-name w (h .valid .refers) u x v (h .holds) room
-              (omega (arith, below, h .holds .uris .few)) lies);
+              (omega (arith, below, h .holds .uris .few))
+              (subst (λ m. LiesIn (from .names m) x) e lies));
         }
 
--- ---- lists of them
+-- ---- lists of them, whose rows lie in one store
 
-module _ (store : List ℕ) (stored origin : ℕ) where
+module _ (from : Stores) (store : List ℕ) (stored origin : ℕ) where
+  abbrev here : Source
+  here = upTo store stored
+
   pub uris-stand : (xs : List Text) (k n : ℕ) {work : List ℕ} {w : Rows}
-      → Stands work store stored w → n ≡ length (w .uris)
+      → Stands work from w → n ≡ length (w .uris)
+      → ((i : ℕ) → i < n + length xs → from .uris i ≡ here)
       → Has store stored (origin + k) (together xs) → T (freshUris w origin k xs)
-      → Stands (withUris work origin n k xs) store stored (plusUris w origin k xs)
+      → Stands (withUris work origin n k xs) from (plusUris w origin k xs)
   unfolding withUris plusUris together freshUris withUri
-  uris-stand [] k n h e has t = h
-  uris-stand (x ∷ xs) k n {w = w} h e has t =
+  uris-stand [] k n h e same has t = h
+  uris-stand (x ∷ xs) k n {w = w} h e same has t =
       let p : Placed = placed origin k x in
       let later : Bool = freshUris (withUri w p) origin (k + length x) xs in
       uris-stand xs (k + length x) (suc n)
-      (uri-stands h p (left (freshUri w x) later t) n e (first-lies x (together xs) has))
-      (omega (arith, length-append (w .uris) (p ∷ [])))
+      (uri-stands h p (left (freshUri w x) later t) n e
+      (subst (λ s. LiesIn s p) (sym (same n (omega arith))) (first-lies x (together xs) has)))
+      (omega (arith, length-append (w .uris) (p ∷ []))) (λ i l. same i (omega arith))
       (rest-has x (together xs) has (origin + (k + length x)) (omega arith))
       (right (freshUri w x) later t)
 
   pub names-stand : (ls : List Local) (k n : ℕ) {work : List ℕ} {w : Rows}
-      → Stands work store stored w → n ≡ length (w .names)
+      → Stands work from w → n ≡ length (w .names)
+      → ((i : ℕ) → i < n + length ls → from .names i ≡ here)
       → Has store stored (origin + k) (together (map (λ l. l .name) ls))
       → T (freshNames w origin k ls)
-      → Stands (withNames work origin n k ls) store stored (plusNames w origin k ls)
+      → Stands (withNames work origin n k ls) from (plusNames w origin k ls)
   unfolding withNames plusNames together freshNames withName
-  names-stand [] k n h e has t = h
-  names-stand (l ∷ ls) k n {w = w} h e has t =
+  names-stand [] k n h e same has t = h
+  names-stand (l ∷ ls) k n {w = w} h e same has t =
       let x : Text = l .name in
       let p : Placed = placed origin k x in
       let others : Text = together (map (λ m. m .name) ls) in
       let now : Bool = freshName w (l .uri) x in
       let later : Bool = freshNames (withName w (l .uri) p) origin (k + length x) ls in
       names-stand ls (k + length x) (suc n)
-      (name-stands h (l .uri) p (left now later t) n e (first-lies x others has))
+      (name-stands h (l .uri) p (left now later t) n e
+      (subst (λ s. LiesIn s p) (sym (same n (omega arith))) (first-lies x others has)))
       (omega (arith, length-append (w .names) (record { key = l .uri; string = p } ∷ [])))
+      (λ i l. same i (omega arith))
       (rest-has x others has (origin + (k + length x)) (omega arith)) (right now later t)

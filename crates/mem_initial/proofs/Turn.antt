@@ -3,8 +3,8 @@ use Prim.Native.Nat.{ℕ, _+_, _≤_, _<_}
 use native.Mathlib.Numerals.{add-one}
 use native.Mathlib.Omega.{arith}
 use mathlib.Core.Path.{_≡_, refl, _∙_}
-use mathlib.Core.List.{List}
-use lib.ListN.{length, getD, take, set, length-set}
+use mathlib.Core.List.{List, append-nil}
+use lib.ListN.{length, getD, take, set, replicate, length-set}
 use lib.Seq.{take-all, paste, paste-zero, paste-suc}
 use Rattle.text.specs.Text.{text}
 use Rattle.spec_exi.specs.Tables.{xmlUri, xsiUri}
@@ -51,3 +51,8 @@ module _ (old : List ℕ) (origin : ℕ) where
         let e : i ≡ 99 = omega arith in
         let t : take 99 initialText ≡ initialText = take-all 99 initialText (omega arith) in
         c .written ∙ rw (e, t)
+
+-- A store of that text alone.
+pub text-alone : withText (replicate 99 0) 0 ≡ initialText
+unfolding withText
+text-alone = append-nil initialText

@@ -1,7 +1,7 @@
 -- The initial entries (EXI, appendix D.1 and D.3) in lent memory, and the rows that it then holds.
 use Prim.Native.Nat.{ℕ, suc, _+_, _≤_}
 use mathlib.Core.List.{List, [], _∷_, _++_, map}
-use lib.ListN.{length, take, drop}
+use lib.ListN.{length, take, drop, replicate}
 use Rattle.text.specs.Text.{Text, text}
 use Rattle.spec_exi.specs.Tables.{xmlUri, xsiUri}
 use Rattle.mem_layout.specs.Layout.{workCells}
@@ -48,6 +48,10 @@ unfoldable pub initialText : Text
 initialText = urisText ++ namesText
 
 -- ---- cells
+
+-- The first n cells, cleared.
+unfoldable pub zeroed : ℕ → List ℕ → List ℕ
+zeroed n cells = replicate (length (take n cells)) 0 ++ drop n cells
 
 -- The cells with that text at the origin.
 unfoldable pub withText : List ℕ → ℕ → List ℕ

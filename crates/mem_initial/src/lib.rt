@@ -4,8 +4,11 @@
 ghost use mathlib.Core.Path.{_≡_};
 ghost use Prim.Native.Nat.{_+_, _≤_};
 ghost use lib.ListN.{length};
+ghost use Rattle.mem_layout.specs.Layout.{workCells, zeroCells};
+ghost use Rattle.mem_initial.specs.Initial.{zeroed, initialText};
 ghost use Rattle.mem_initial.specs.Initial.{withText, urisLaid, namesLaid, withRows};
 ghost use Rattle.mem_initial.specs.Initial.{startAt, Layable};
+use mem_layout::ZERO_CELLS;
 use mem_state::Core;
 
 // code points of the initial entries
@@ -38,6 +41,14 @@ const NIL: u32 = 3188801237;
 
 const TYPE: u32 = 3887450706;
 
+// Clears heads and counts: they have to be zero before the first row is added.
+pub fn clear_heads(work: &mut [u32])
+    requires { ⌜ workCells ≤ length (now work) ⌝ }
+    ensures { λ _. ⌜ now (work .exit) ≡ zeroed zeroCells (now (work .entry)) ⌝ }
+{
+    clear::cells(&mut work[0..ZERO_CELLS]);
+}
+
 fn wide(x: u8) -> u32
     ensures { λ r. ⌜ r ≡ x ⌝ }
 {
@@ -55,6 +66,15 @@ pub fn lay_text(cells: &mut [u32], origin: usize)
         cells[origin + i] = wide(text[i]);
         i += 1;
     }
+}
+
+// The texts in a store of their own.
+pub fn opening_text() -> [u32; INITIAL_TEXT]
+    ensures { λ r. ⌜ r ≡ initialText ⌝ }
+{
+    let mut cells = [0u32; INITIAL_TEXT];
+    lay_text(&mut cells, 0);
+    cells
 }
 
 fn lay_uris(work: &mut [u32], origin: u32)

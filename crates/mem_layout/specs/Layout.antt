@@ -137,16 +137,11 @@ valueCodeNexts = 15570
 abbrev pub prefixes : ℕ
 prefixes = 17618
 
--- ---- the writer's initial texts
-
-abbrev pub openingText : ℕ
-openingText = 17746
-
 -- ---- in all
 
 -- the layout's end
 abbrev pub layoutCells : ℕ
-layoutCells = 18255
+layoutCells = 17746
 
 -- lent
 abbrev pub workCells : ℕ

@@ -101,14 +101,10 @@ pub const VALUE_CODE_NEXTS: usize = 15570;
 
 pub const PREFIXES: usize = 17618;
 
-// ---- the writer's initial texts
-
-pub const OPENING_TEXT: usize = 17746;
-
 // ---- in all
 
 // the layout's end
-pub const LAYOUT_CELLS: usize = 18255;
+pub const LAYOUT_CELLS: usize = 17746;
 
 // lent
 pub const WORK_CELLS: usize = 18432;

@@ -1,3 +1,4 @@
 pub mod Opened
 pub mod Tops
 pub mod Turns
+pub mod Over

@@ -1,9 +1,9 @@
 -- Another top, and the array after an event.
-use Prim.Native.Nat.{ℕ, _+_, _≤_, _<_}
+use Prim.Native.Nat.{ℕ, _≤_, _<_}
 use native.Mathlib.Omega.{arith}
 use native.Mathlib.Decide.{ℕ-discrete}
 use mathlib.Core.Path.{_≡_, sym, ap, _∙_}
-use mathlib.Core.List.{List, _∷_}
+use mathlib.Core.List.{List}
 use lib.ListN.{length, set, length-set}
 use Rattle.spec_exi.specs.Sizes.{maxOpen}
 use Rattle.mem_layout.specs.Layout.{nameRows}
@@ -11,25 +11,10 @@ use Rattle.mem_rows.specs.Rows.{Rows}
 use Rattle.mem_state.specs.declared.Core.{Core}
 use Rattle.mem_state.specs.Holds.{Stores, Bounded, Represents}
 use Rattle.open_elements.specs.declared.State.{State}
-use Rattle.open_elements.specs.Opened.{lastFirst, openedIn, Turned, Kept}
+use Rattle.open_elements.specs.Opened.{lastFirst, openedIn, withTop, Kept}
 use Rattle.open_elements.proofs.Opened.{last-pushed, last-popped}
 
 -- ---- another top
-
-abbrev pub withTop : Core → ℕ → Core
-withTop c top =
-    record {
-      at = c .at;
-      stored = c .stored;
-      uris = c .uris;
-      names = c .names;
-      values = c .values;
-      learned = c .learned;
-      grammars = c .grammars;
-      mode = c .mode;
-      top = top;
-      depth = c .depth;
-    }
 
 pub represents-top : {work : List ℕ} {from : Stores} {c : Core} {w : Rows} {opened : List ℕ}
     (top : ℕ) → Represents work from c w opened → Represents work from (withTop c top) w opened

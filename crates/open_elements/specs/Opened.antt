@@ -2,7 +2,7 @@
 use Prim.Native.Nat.{ℕ, zero, suc, _+_, _%_, _<_}
 use mathlib.Core.Path.{_≡_}
 use mathlib.Core.List.{List, [], _∷_}
-use lib.ListN.{length, getD}
+use lib.ListN.{length, getD, replicate}
 use Rattle.spec_exi.specs.Sizes.{maxOpen}
 use Rattle.mem_layout.specs.Layout.{nameRows}
 use Rattle.mem_state.specs.declared.Core.{Core}
@@ -17,11 +17,31 @@ lastFirst (suc n) l = getD l n 0 ∷ lastFirst n l
 abbrev pub openedIn : State → List ℕ
 openedIn t = lastFirst (t .core .depth) (t .opened)
 
+-- None is open.
+unfoldable pub noneOpen : Core → State
+noneOpen c = record { core = c; opened = replicate maxOpen 0 }
+
 -- The innermost of so many, or 0. (Rows of names are below `nameRows`: nothing is taken from
 -- them.)
 unfoldable pub innermostIn : List ℕ → ℕ → ℕ
 innermostIn opened zero = 0
 innermostIn opened (suc n) = getD opened n 0 % nameRows
+
+-- The numbers with another top.
+abbrev pub withTop : Core → ℕ → Core
+withTop c top =
+    record {
+      at = c .at;
+      stored = c .stored;
+      uris = c .uris;
+      names = c .names;
+      values = c .values;
+      learned = c .learned;
+      grammars = c .grammars;
+      mode = c .mode;
+      top = top;
+      depth = c .depth;
+    }
 
 -- What an event leaves of the open elements. (After an end tag the top is the ended element's: only
 -- who keeps them all knows the next.)

@@ -1,5 +1,5 @@
 -- The reply to what was read, and to the padding.
-use Prim.Native.Nat.{ℕ, _+_, _-_, _<_}
+use Prim.Native.Nat.{ℕ, _+_, _<_}
 use native.Mathlib.Omega.{arith}
 use mathlib.Core.Path.{_≡_, refl, ap, _∙_}
 use mathlib.Core.Bool.{Bool, true, false}
@@ -22,7 +22,8 @@ use Rattle.open_elements.specs.Opened.{openedIn}
 use Rattle.read_run.specs.Run.{Running, AdvancePre, AdvancePost}
 use Rattle.read_run.proofs.Laid.{text-same}
 use Rattle.read_run.proofs.Events.{shifted}
-use Rattle.read_run.proofs.Answers.{context-going, Answers, running-answers}
+use Rattle.open_elements.proofs.Over.{context-going}
+use Rattle.read_run.proofs.Answers.{Answers, running-answers}
 use Rattle.read_body.specs.declared.ReadReply as declared
 use Rattle.read_body.specs.Reply.{replyOf, eventsFilled, textFilled, Attempted}
 use Rattle.read_body.specs.Reply.{cellsOfAll, refusalOf}
@@ -66,7 +67,7 @@ module _ {s : Settings} {stream events text work : List ℕ} {st : State}
         (drop (r .state .core .at) (unpack stream)) (r .number)
     answers =
         running-answers p (h .represents) (h .topped) none-read refl
-        (context-going (pre .bounded) (h .represents) (h .going))
+        (context-going (pre .bounded) (h .represents) _ (h .going))
 
   pub run-refused : (r .number ≡ 0 → ⊥) → {reply : declared.ReadReply}
       → reply ≡ refusalOf (r .number) (r .index)

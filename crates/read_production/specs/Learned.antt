@@ -13,7 +13,7 @@ use Rattle.spec_exi.specs.Grammar.{learnedIn, fits, firstFit}
 use Rattle.mem_layout.specs.Layout.{uriRows, nameRows, sites, workCells}
 use Rattle.mem_entries.specs.Entries.{keyAt}
 use Rattle.mem_learned.specs.Learned.{LearnedHold, CountedAt}
-use Rattle.event_code.specs.Parts.{numberSE, numberCH}
+use Rattle.event_code.specs.Numbers.{numberSE, numberCH}
 use Rattle.mem_rows.specs.Rows.{Learnt, Rows, kindAt, carries, siteAt, productionOf}
 use Rattle.mem_rows.specs.Rows.{learnedOf}
 use Rattle.mem_rows.specs.Valid.{LearntFits, Valid}

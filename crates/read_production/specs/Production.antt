@@ -13,7 +13,7 @@ use Rattle.spec_exi.specs.Grammar.{Production, Code, kindNumber, fits, firstFit
 use Rattle.spec_exi.specs.Grammar.{sameCode}
 use Rattle.spec_exi.specs.Context.{levelsIn}
 use Rattle.spec_exi.specs.Reader.{readCode}
-use Rattle.event_code.specs.Parts.{numberSE, numberCH}
+use Rattle.event_code.specs.Numbers.{numberSE, numberCH}
 use Rattle.grammar_codes.specs.Table.{Stands}
 use Rattle.mem_layout.specs.Layout.{uriRows, nameRows, workCells}
 use Rattle.mem_entries.specs.Entries.{keyAt}

@@ -5,69 +5,30 @@ use native.Mathlib.Omega.{arith}
 use native.Mathlib.Decide.{ℕ-discrete}
 use mathlib.Core.Path.{_≡_, refl, ap, _∙_}
 use mathlib.Core.Bool.{true, false}
-use mathlib.Core.List.{List, [], _∷_, _++_, map}
-use lib.ListN.{length, drop, length-append, length-map}
-use lib.Dec.{eqb}
-use borrow.Author.Tests.{ne-eqb}
+use mathlib.Core.List.{List, _++_}
+use lib.ListN.{length, drop, length-append}
 use Rattle.spec_fields.specs.Bits.{Bits, unpack}
 use Rattle.spec_fields.specs.Refusal.{Refusal, numberOf, limit, Answer, refused}
 use Rattle.spec_fields.specs.Parser.{bad}
-use Rattle.spec_fields.proofs.Tests.{split}
-use Rattle.text.specs.Text.{Text}
 use Rattle.spec_exi.specs.Settings.{Settings}
 use Rattle.spec_exi.specs.Sizes.{sizes, maxEvents}
-use Rattle.spec_exi.specs.Event.{Event, QName}
+use Rattle.spec_exi.specs.Event.{Event}
 use Rattle.spec_exi.specs.Tables.{Placed}
 use Rattle.spec_exi.specs.Grammar.{isFinished}
 use Rattle.spec_exi.specs.Context.{Context}
 use Rattle.spec_exi.specs.Reader.{Reading, step, ending, onward, readEvents}
 use Rattle.spec_exi.specs.Packets.{nothingYet, firstThen, firstEvents}
-use Rattle.mem_rows.specs.Rows.{Rows, nameAt, inTag, isOver, stateOf, ModeFits, contextOf}
-use Rattle.mem_state.specs.declared.Core.{Core}
-use Rattle.mem_state.specs.Holds.{inStore, Bounded, Topped, Represents, contextAt}
+use Rattle.mem_rows.specs.Rows.{Rows}
+use Rattle.mem_state.specs.Holds.{inStore, Topped, Represents, contextAt}
 use Rattle.read_contract.specs.Outcome.{Declined}
 use Rattle.open_elements.specs.declared.State.{State}
 use Rattle.read_run.specs.declared.Advanced.{Advanced}
 use Rattle.read_run.specs.Events.{Steps}
 use Rattle.open_elements.specs.Opened.{openedIn}
+use Rattle.open_elements.proofs.Over.{context-over, context-going}
 use Rattle.read_run.specs.Run.{Running, AdvancePost}
 use Rattle.read_run.proofs.Events.{steps-then, no-step, shifted, onFrom, steps-answer}
 use Rattle.read_run.proofs.Events.{steps-first}
-
--- ---- the end document, by the number of the grammar's state
-
-finished-mode : (mode : ℕ) (qs : List (QName Text)) → ModeFits mode (length qs)
-    → isFinished (stateOf mode qs) ≡ eqb mode isOver
-unfolding isFinished stateOf
-finished-mode mode (q ∷ outer) f =
-    let other : mode ≡ isOver → ⊥ = λ e. omega (arith, f .outer (omega arith)) in
-    rw (ne-eqb mode isOver other) (split (eqb mode inTag) (λ e. rw e) (λ e. rw e))
-finished-mode zero [] f = refl
-finished-mode (suc zero) [] f = refl
-finished-mode (suc (suc zero)) [] f = refl
-finished-mode (suc (suc (suc zero))) [] f = refl
-finished-mode (suc (suc (suc (suc m)))) [] f = absurd (omega (arith, f .inner (omega arith)))
-
-module _ {work text : List ℕ} {c : Core} {w : Rows} {opened : List ℕ} (b : Bounded c)
-    (h : Represents work (inStore text (c .stored)) c w opened) where
-  context-mode : isFinished (contextAt text c w opened .state) ≡ eqb (c .mode) isOver
-  unfolding contextOf
-  context-mode =
-      let n : length (map (nameAt w) opened) ≡ c .depth =
-      length-map opened (nameAt w) ∙ h .opens .size in
-      finished-mode (c .mode) (map (nameAt w) opened)
-      (record {
-        known = b .fits .known;
-        outer = λ l. n ∙ b .fits .outer l;
-        inner = λ l. omega (arith, n, b .fits .inner l);
-      })
-
-  pub context-over : c .mode ≡ isOver → isFinished (contextAt text c w opened .state) ≡ true
-  context-over e = context-mode ∙ ap (λ m. eqb m isOver) e
-
-  pub context-going : (c .mode ≡ isOver → ⊥)
-      → isFinished (contextAt text c w opened .state) ≡ false
-  context-going e = context-mode ∙ ne-eqb (c .mode) isOver e
 
 -- ---- where it stops
 
@@ -120,10 +81,10 @@ module _ {s : Settings} {stream events text work : List ℕ} {st : State} {first
   rest = drop (r .state .core .at) (unpack stream)
 
   is-over : r .number ≡ 0 → isFinished (reached .state) ≡ true
-  is-over z = context-over (p .progress .bounded) (run .after) (p .over z)
+  is-over z = context-over (p .progress .bounded) (run .after) _ (p .over z)
 
   is-going : 0 < r .number → isFinished (reached .state) ≡ false
-  is-going l = context-going (p .progress .bounded) (run .after) (p .going l)
+  is-going l = context-going (p .progress .bounded) (run .after) _ (p .going l)
 
   next-refused : 0 < r .number → r .index < maxEvents
       → Declined (step sizes s reached) stream (r .state .core .at) (r .number)

@@ -27,9 +27,9 @@ use Rattle.read_literal.proofs.Store.{laid-none}
 use Rattle.read_step.specs.declared.Stepped.{Stepped}
 use Rattle.read_step.specs.Step.{StepPre, StepRefused, StepLaid, StepMeans, StepPost}
 use Rattle.open_elements.specs.declared.State.{State}
-use Rattle.open_elements.specs.Opened.{openedIn, innermostIn, Kept}
+use Rattle.open_elements.specs.Opened.{openedIn, innermostIn, withTop, Kept}
 use Rattle.open_elements.proofs.Opened.{last-top, innermost-is, innermost-small}
-use Rattle.open_elements.proofs.Tops.{withTop, represents-top, bounded-top, stored-row, same-rows}
+use Rattle.open_elements.proofs.Tops.{represents-top, bounded-top, stored-row, same-rows}
 use Rattle.read_run.specs.Events.{Steps, none-read, cellsOfAll}
 use Rattle.read_run.specs.Run.{AdvancePre}
 use Rattle.read_run.specs.Run.{TextLaid, Running, Progress, Refuses, AdvancePost}

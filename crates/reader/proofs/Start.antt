@@ -4,36 +4,26 @@ use Prim.Native.Nat.{ℕ, zero, suc, _+_, _*_, _-_, _≤_, _<_}
 use native.Mathlib.Omega.{arith}
 use mathlib.Core.Path.{_≡_, refl, sym, ap, _∙_}
 use mathlib.Core.List.{List, _++_}
-use lib.ListN.{length, getD, take, drop, replicate, length-append, length-drop, length-replicate}
-use lib.ListN.{getD-replicate}
-use lib.Seq.{length-take-le, take-at, getD-take, getD-drop, getD-append-add}
+use lib.ListN.{length, getD, drop, replicate, length-append, length-drop, length-replicate}
+use lib.Seq.{getD-drop, getD-append-add}
 use Rattle.spec_fields.specs.Bits.{unpack}
 use Rattle.spec_exi.specs.Settings.{Settings}
 use Rattle.spec_exi.specs.Sizes.{sizes, maxEvents, maxStore, maxOpen, readerWork}
 use Rattle.spec_exi.specs.Context.{start}
 use Rattle.spec_exi.specs.Reader.{readEvents}
 use Rattle.mem_layout.specs.Layout.{workCells, zeroCells}
-use Rattle.mem_initial.specs.Initial.{initialText, withText, withRows, startRows, startAt, Layable}
-use Rattle.mem_initial.proofs.Initial.{start-represents, start-topped, start-bounded, start-means}
+use Rattle.mem_initial.specs.Initial.{zeroed, initialText, withText, withRows, startRows, startAt}
+use Rattle.mem_initial.specs.Initial.{Layable}
+use Rattle.mem_initial.proofs.Initial.{store-sourced, heads-zero, start-represents, start-topped}
+use Rattle.mem_initial.proofs.Initial.{start-bounded, start-means}
 use Rattle.read_literal.specs.Literal.{ZeroFrom}
 use Rattle.open_elements.specs.declared.State.{State}
-use Rattle.open_elements.specs.Opened.{lastFirst}
+use Rattle.open_elements.specs.Opened.{lastFirst, noneOpen}
 use Rattle.read_run.specs.Run.{AdvancePre}
 use Rattle.read_body.specs.Body.{BodyReady, answerFrom}
-use Rattle.reader.specs.Read.{StreamReady, zeroed, initialState}
+use Rattle.reader.specs.Read.{StreamReady}
 
 -- ---- zeros
-
-zeroed-at : (n : ℕ) (l : List ℕ) → n ≤ length l → (j : ℕ) → j < n → getD (zeroed n l) j 0 ≡ 0
-unfolding zeroed
-zeroed-at n l h j k =
-    let e : length (take n l) ≡ n = length-take-le n l h in
-    let a : take n (replicate (length (take n l)) 0 ++ drop n l) ≡ replicate (length (take n l)) 0 =
-    take-at (replicate (length (take n l)) 0) (drop n l) n
-    (length-replicate {A = ℕ} (length (take n l)) 0 ∙ e) in
-    sym (getD-take n (replicate (length (take n l)) 0 ++ drop n l) j 0 k)
-    ∙ ap (λ (m : List ℕ). getD m j 0) a
-    ∙ getD-replicate (length (take n l)) j 0 0 (omega (arith, e))
 
 zeros-at : (n k : ℕ) → getD {A = ℕ} (replicate n 0) k 0 ≡ 0
 zeros-at zero k = refl
@@ -76,11 +66,11 @@ module _ {stream events text work : List ℕ} (h : StreamReady stream events tex
   module _ (at : ℕ) {work₁ work₂ text₁ : List ℕ} {st : State}
       (heads : work₁ ≡ zeroed zeroCells work)
       (rows : work₂ ≡ withRows work₁ 0) (laid : text₁ ≡ withText text 0)
-      (begins : st ≡ initialState at)
+      (begins : st ≡ noneOpen (startAt at))
       (same₁ : length work₁ ≡ length work) (same₂ : length work₂ ≡ length work₁)
       (same : length text₁ ≡ length text) where
     pub events-ask : at ≤ 8 * length stream → AdvancePre stream events text₁ work₂ st 0
-    unfolding initialState startAt readerWork
+    unfolding noneOpen startAt readerWork
     events-ask l =
         rw begins
         (record {
@@ -95,18 +85,15 @@ module _ {stream events text work : List ℕ} (h : StreamReady stream events tex
         })
 
     zeros : (j : ℕ) → j < zeroCells → getD work₁ j 0 ≡ 0
-    unfolding readerWork
-    zeros j k =
-        ap (λ (m : List ℕ). getD m j 0) heads
-        ∙ zeroed-at zeroCells work (omega (arith, h .rows)) j k
+    zeros j k = ap (λ (m : List ℕ). getD m j 0) heads ∙ heads-zero work heads-ask j k
 
     pub body-ready : BodyReady events text₁ work₂ st startRows
-    unfolding initialState lastFirst startAt readerWork
+    unfolding noneOpen lastFirst startAt readerWork
     body-ready =
         rw (begins, rows, laid)
         (record {
-          represents = start-represents work₁ (omega (arith, h .rows, same₁)) zeros text text-asks
-              at;
+          represents = start-represents work₁ (omega (arith, h .rows, same₁)) zeros
+              (store-sourced text text-asks) at;
           topped = start-topped at;
           going = λ e. omega arith;
           none = h .cleared .noEvents;
@@ -116,7 +103,7 @@ module _ {stream events text work : List ℕ} (h : StreamReady stream events tex
     pub body-answer : (s : Settings)
         → answerFrom s stream text₁ st startRows
         ≡ readEvents maxEvents sizes s (start s) (drop at (unpack stream))
-    unfolding initialState lastFirst startAt
+    unfolding noneOpen lastFirst startAt
     body-answer s =
         rw (begins, laid)
         (ap (λ c. readEvents maxEvents sizes s c (drop at (unpack stream))) (start-means text at s))

@@ -1,16 +1,14 @@
 -- What the reader's functions ask and leave.
 use Prim.Native.Nat.{ℕ, _≤_}
 use mathlib.Core.Path.{_≡_}
-use mathlib.Core.List.{List, _++_}
-use lib.ListN.{length, take, drop, replicate}
+use mathlib.Core.List.{List}
+use lib.ListN.{length, replicate}
 use Rattle.spec_fields.specs.Refusal.{Answer}
-use Rattle.spec_exi.specs.Sizes.{maxStream, maxStore, maxOpen, eventCells, readerWork}
+use Rattle.spec_exi.specs.Sizes.{maxStream, maxStore, eventCells, readerWork}
 use Rattle.spec_exi.specs.Reader.{Reading, ReaderRoom, readReply}
 use Rattle.spec_exi.specs.Reader as format
 use Rattle.settings.specs.Meant.{numbersOf}
 use Rattle.settings.specs.declared.SettingNumbers.{SettingNumbers}
-use Rattle.mem_initial.specs.Initial.{startAt}
-use Rattle.open_elements.specs.declared.State.{State}
 use Rattle.read_body.specs.Reply.{replyOf, eventsFilled, textFilled}
 use Rattle.read_body.specs.declared.ReadReply as declared
 
@@ -59,11 +57,3 @@ pub record StreamReady (stream events text work : List ℕ) : Type 0 where
   pub room : maxStore ≤ length text
   pub rows : readerWork ≤ length work
   pub cleared : Cleared events text
-
--- The first n cells, cleared.
-unfoldable pub zeroed : ℕ → List ℕ → List ℕ
-zeroed n cells = replicate (length (take n cells)) 0 ++ drop n cells
-
--- The state before the first event, where the header ends at a position.
-unfoldable pub initialState : ℕ → State
-initialState at = record { core = startAt at; opened = replicate maxOpen 0 }

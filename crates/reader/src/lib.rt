@@ -1,18 +1,11 @@
 // The reader: octets to the event list whose strict form they are, or a refusal with its number
 // and index. The definitions that the contracts cite are in specs/Read.antt and
 // crates/read_body/specs/Reply.antt and, for the answer, in crates/spec_exi/specs/Reader.antt.
-ghost use mathlib.Core.Path.{_≡_};
-ghost use Prim.Native.Nat.{_≤_};
-ghost use lib.ListN.{length};
 ghost use Rattle.spec_exi.specs.Sizes.{sizes};
 ghost use Rattle.spec_exi.specs.Reader.{readStream};
 ghost use Rattle.settings.specs.Meant.{settingsFrom};
-ghost use Rattle.mem_layout.specs.Layout.{workCells, zeroCells};
 ghost use Rattle.read_body.specs.Reply.{Filled};
-ghost use Rattle.reader.specs.Read.{ReadPost, lent, answerOf, initialState};
-ghost use Rattle.reader.specs.Read.{Cleared, StreamReady, zeroed};
-use mem_layout::ZERO_CELLS;
-use open_elements::State;
+ghost use Rattle.reader.specs.Read.{ReadPost, lent, answerOf, Cleared, StreamReady};
 use read_body::ReadReply;
 use refusal::LONG;
 use refusal::ROOM;
@@ -20,28 +13,9 @@ use refusal::SETTINGS;
 use settings::SettingNumbers;
 use settings::Settings;
 use sizes::EVENT_CELLS;
-use sizes::MAX_OPEN;
 use sizes::MAX_STORE;
 use sizes::MAX_STREAM;
 use sizes::READER_WORK;
-
-// Clears heads and counts: they have to be zero at the start.
-fn clear_heads(work: &mut [u32])
-    requires { ⌜ workCells ≤ length (now work) ⌝ }
-    ensures { λ _. ⌜ now (work .exit) ≡ zeroed zeroCells (now (work .entry)) ⌝ }
-{
-    clear::cells(&mut work[0..ZERO_CELLS]);
-}
-
-// The state before the first event, with no element open.
-fn initial_state(at: usize) -> State
-    ensures { λ r. ⌜ r ≡ initialState at ⌝ }
-{
-    State {
-        core: mem_initial::start(at),
-        opened: [0u16; MAX_OPEN],
-    }
-}
 
 // The header and the events, with the initial entries in tables and store.
 fn read_stream(
@@ -59,10 +33,11 @@ fn read_stream(
     if h.number != 0 {
         return read_body::refused(h.number, 0);
     }
-    clear_heads(work);
+    mem_initial::clear_heads(work);
     mem_initial::lay_rows(work, 0);
     mem_initial::lay_text(text, 0);
-    read_body::read_events(o, stream, initial_state(h.at), events, text, work)
+    let st = open_elements::none_open(mem_initial::start(h.at));
+    read_body::read_events(o, stream, st, events, text, work)
 }
 
 // The tests of what is lent, of the settings' numbers and of the stream's length; then the stream.

@@ -27,7 +27,7 @@ pub const MAX_STORE: usize = 16384;
 pub const CELLS_PER_EVENT: usize = 9;
 
 pub const EVENT_CELLS: usize = CELLS_PER_EVENT * MAX_EVENTS;
-// Work memory of the reader, and of the writer, which has a text store after it.
+// Work memory of the reader, and of the writer.
 pub const READER_WORK: usize = 18432;
 
-pub const WRITER_WORK: usize = READER_WORK + MAX_STORE;
+pub const WRITER_WORK: usize = READER_WORK;

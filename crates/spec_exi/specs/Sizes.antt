@@ -119,6 +119,6 @@ pub record NoLarger (y z : Sizes) : Type 0 where
 unfoldable pub eventCells : ℕ
 eventCells = cellsPerEvent * maxEvents
 
--- Cells of the writer's work memory, which has a text store at its end.
+-- Cells of the writer's work memory: as many as the reader's.
 unfoldable pub writerWork : ℕ
-writerWork = readerWork + maxStore
+writerWork = readerWork

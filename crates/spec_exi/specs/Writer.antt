@@ -108,9 +108,9 @@ pub record WriterRoom : Type 0 where
   pub octets : ℕ
   pub work : ℕ
 
--- Octets for the longest stream, and work memory with a text store at its end (scope, "Sizes").
+-- Octets for the longest stream, and work memory (scope, "Sizes").
 unfoldable pub enoughToWrite : Sizes → WriterRoom → Bool
-enoughToWrite z r = leb (z .stream) (r .octets) && leb (z .work + z .store) (r .work)
+enoughToWrite z r = leb (z .stream) (r .octets) && leb (z .work) (r .work)
 
 -- The writer's answer for the events xs over this text store: ROOM, SETTINGS, then the list (scope,
 -- "Refusal numbers", "Order").

@@ -1,72 +1,172 @@
--- Work memory with the initial entries, behind the header: the events can be written, and the context is the definitions' start.
-use mathlib.Core.Path.{_≡_, refl}
-use mathlib.Core.List.{List}
-use Prim.Native.Nat.{ℕ, _+_, _≤_}
+-- Work memory with the initial entries, after the header: the events can be written, and the context
+-- is the definitions' start, up to the places of strings.
+use Prim.Native.Nat.{ℕ, zero, suc, _≤_, _<_}
 use native.Mathlib.Omega.{arith}
-use lib.ListN.{length}
+use native.Mathlib.Nat.{le-refl}
+use mathlib.Core.Path.{_≡_, refl, ap, subst, _∙_}
+use mathlib.Core.Bool.{true, _&&_, and-eq-true-iff}
+use mathlib.Core.List.{List}
+use lib.ListN.{length, getD, replicate, length-replicate}
+use lib.Dec.{leb}
+use borrow.Author.Tests.{leb-true, lt-ltb}
 use Rattle.spec_fields.proofs.Tests.{split}
 use Rattle.spec_fields.proofs.Pack.{length-unpack}
+use Rattle.text.specs.Text.{Text, text, allChars, isChar}
 use Rattle.spec_exi.specs.Settings.{Settings, headerOf}
-use Rattle.spec_exi.specs.Sizes.{maxUris, maxNames, maxValues, maxLearned, maxGrammars, writerWork, readerWork, maxStore}
+use Rattle.spec_exi.specs.Sizes.{sizes, maxEvents, maxString, maxOpen, readerWork, writerWork}
+use Rattle.spec_exi.specs.Tables.{xmlUri, xsiUri}
 use Rattle.spec_exi.specs.Context.{start}
-use Rattle.layout.specs.Layout.{urisAt, namesAt, valuesAt, learnedAt, grammarsAt, tableCells}
-use Rattle.layout.specs.Writer.{storeAt, writerMemory}
-use Rattle.initial.specs.Initial.{withText, withTables, startCounts}
-use Rattle.initial.proofs.Laws.{Begun, start-tables, start-tidy, withTables-length, withText-length, begun-inside}
-use Rattle.state.specs.declared.State.{State}
-use Rattle.state.specs.Stack.{started}
-use Rattle.standing.specs.Standing.{contextOf}
-use Rattle.standing.proofs.Laws.{start-standing, start-context}
+use Rattle.spec_exi.specs.Writer.{Stored, writeEvents}
+use Rattle.spec_exi.proofs.Alike.{write-alike}
+use Rattle.mem_layout.specs.Layout.{workCells, zeroCells}
+use Rattle.mem_entries.specs.Texts.{upTo}
+use Rattle.mem_entries.specs.Entries.{entryAt, textAt}
+use Rattle.mem_names.specs.Uris.{uriAt, uriText}
+use Rattle.mem_rows.specs.Rows.{withUri, withName}
+use Rattle.mem_state.specs.Holds.{Topped}
+use Rattle.mem_initial.specs.Initial.{zeroed, initialUris, initialNames, together, urisText}
+use Rattle.mem_initial.specs.Initial.{initialText, withRows, plusUris, plusNames, initialRows}
+use Rattle.mem_initial.specs.Initial.{startRows, startAt, Layable}
+use Rattle.mem_initial.proofs.Initial.{opening-sourced, heads-zero, start-represents, start-topped}
+use Rattle.mem_initial.proofs.Initial.{start-bounded, start-alike}
+use Rattle.open_elements.specs.declared.State.{State}
+use Rattle.open_elements.specs.Opened.{lastFirst, openedIn, noneOpen}
+use Rattle.write_field.specs.Written.{Put}
 use Rattle.write_field.proofs.Written.{put-blank}
 use Rattle.write_header.specs.Header.{HeaderPut}
-use Rattle.write_body.specs.Body.{RunFits}
+use Rattle.write_partition.specs.Writable.{Written, Writable, sourceOf}
+use Rattle.write_qname.specs.Premise.{Begun, contextIn}
+use Rattle.write_step.specs.Step.{Stands}
+use Rattle.write_run.specs.declared.Run.{Run}
+use Rattle.write_run.specs.Run.{RunPre, RunPost}
+use Rattle.writer.specs.Write.{BodyPre, BodyPost}
 
-tables-before : tableCells ≤ 18432
-unfolding tableCells grammarsAt learnedAt valuesAt namesAt urisAt maxUris maxNames maxValues maxLearned maxGrammars
-tables-before = omega arith
+-- ---- the header
 
 short-header : (s : Settings) → length (headerOf s) ≤ 5
 unfolding headerOf
 short-header s = split (s .cookie) (λ e. rw e (omega arith)) (λ e. rw e (omega arith))
 
--- The state at this position, over this memory, is that before the first event.
-pub record Begins (s : Settings) (at : ℕ) (w : List ℕ) (st : State) : Type 0 where
-  pub there : st .at ≡ at
-  pub context : contextOf (writerMemory w) st ≡ start s
+pub body-asks : (s : Settings) {stream mid work : List ℕ} {at : ℕ} → HeaderPut s stream mid at
+    → writerWork ≤ length work → BodyPre mid at work
+body-asks s put room =
+    record {
+      blank = put-blank put;
+      near = omega (arith, put .next, length-unpack (headerOf s), short-header s);
+      rows = room;
+    }
 
-module _ (w : List ℕ) (room : writerWork ≤ length w) where
-  pub tables-fit : tableCells ≤ length w
-  unfolding writerWork readerWork maxStore
-  tables-fit = omega (arith, tables-before)
+-- ---- the rows of the initial entries
 
-  pub text-fits : 18432 + 99 ≤ length (withTables w 18432)
-  unfolding writerWork readerWork maxStore
-  text-fits = rw (withTables-length w 18432) (omega arith)
+written : (x : Text) → (leb (length x) maxString && allChars x) ≡ true → Written x
+written x e =
+    let (a, b) = and-eq-true-iff (leb (length x) maxString) (allChars x) .0 e in
+    record { short = leb-true (length x) maxString a; chars = b }
 
-  begun : Begun (writerMemory (withText (withTables w 18432) 18432))
-  unfolding storeAt writerWork readerWork maxStore
-  begun = begun-inside w 18432 tables-before (omega arith)
+-- Each was judged, by computation.
+start-writable : Writable startRows
+unfolding initialRows plusUris plusNames withUri withName initialUris initialNames together urisText
+    xmlUri xsiUri text uriAt entryAt allChars isChar maxString
+start-writable = record { uris = uris; names = names; values = λ i l. absurd (omega arith) }
+  where
+    uris : (i : ℕ) → i < length (startRows .uris) → Written (uriText (startRows .uris) i)
+    uris zero l = written _ refl
+    uris (suc zero) l = written _ refl
+    uris (suc (suc zero)) l = written _ refl
+    uris (suc (suc (suc i))) l = absurd (omega arith)
 
-  -- The rows are laid, then the text.
-  module _ (at : ℕ) {tables w′ : List ℕ} {st : State} (rows : tables ≡ withTables w 18432) (text : w′ ≡ withText tables 18432)
-      (begins : st ≡ started at 99 3 6) where
-    pub events-ask : (s : Settings) {stream mid : List ℕ} → HeaderPut s stream mid at → RunFits mid w′ st
-    unfolding startCounts started
-    events-ask s put =
-        rw (text, rows, begins)
+    names : (i : ℕ) → i < length (startRows .names) → Written (textAt (startRows .names) i)
+    names zero l = written _ refl
+    names (suc zero) l = written _ refl
+    names (suc (suc zero)) l = written _ refl
+    names (suc (suc (suc zero))) l = written _ refl
+    names (suc (suc (suc (suc zero)))) l = written _ refl
+    names (suc (suc (suc (suc (suc zero))))) l = written _ refl
+    names (suc (suc (suc (suc (suc (suc i)))))) l = absurd (omega arith)
+
+start-begun : Begun startRows
+unfolding initialRows plusUris plusNames withUri withName initialUris initialNames
+start-begun = record { uris = le-refl 3; names = le-refl 6 }
+
+-- ---- the start
+
+-- The first rows lie in the opening text.
+opening-source : (first : ℕ) (store : List ℕ) (i : ℕ) → i < first
+    → sourceOf first initialText store i ≡ upTo initialText (length initialText)
+unfolding sourceOf
+opening-source first store i l = rw (lt-ltb i first l)
+
+module _ {stream : List ℕ} {at : ℕ} {work : List ℕ} (h : BodyPre stream at work) where
+  pub heads-ask : workCells ≤ length work
+  unfolding writerWork readerWork
+  heads-ask = omega (arith, h .rows)
+
+  pub rows-ask : {work₁ : List ℕ} → length work₁ ≡ length work → Layable work₁ 0
+  rows-ask e = record { room = omega (arith, heads-ask); near = omega arith }
+
+  -- Heads and counts are cleared, and the rows are laid.
+  module _ {work₁ work₂ opening : List ℕ} {st : State} (opens : opening ≡ initialText)
+      (heads : work₁ ≡ zeroed zeroCells work) (rows : work₂ ≡ withRows work₁ 0)
+      (begins : st ≡ noneOpen (startAt at)) (same₁ : length work₁ ≡ length work)
+      (same₂ : length work₂ ≡ length work₁) where
+    room₁ : workCells ≤ length work₁
+    room₁ = omega (arith, heads-ask)
+
+    pub events-ask : RunPre stream work₂ st
+    unfolding noneOpen startAt
+    events-ask =
+        rw begins
         (record {
-          blank = put-blank put;
-          near = omega (arith, put .next, length-unpack (headerOf s), short-header s);
-          standing = start-standing (writerMemory (withText (withTables w 18432) 18432)) at 99 3 6 (start-tidy _ begun);
-          room = rw (withText-length (withTables w 18432) 18432 text-fits, withTables-length w 18432) room;
-          first = refl;
+          blank = h .blank;
+          near = h .near;
+          rows = omega (arith, room₁, same₂);
+          bounded = start-bounded at;
+          array = length-replicate {A = ℕ} maxOpen 0;
         })
 
-    pub list-begins : (s : Settings) → Begins s at w′ st
-    unfolding start startCounts started
-    list-begins s =
-        rw (text, rows, begins)
+    zeros : (j : ℕ) → j < zeroCells → getD work₁ j 0 ≡ 0
+    zeros j l = ap (λ (m : List ℕ). getD m j 0) heads ∙ heads-zero work heads-ask j l
+
+    start-stands : (store : List ℕ) → Stands opening store work₂ (st .core) startRows (openedIn st)
+    unfolding noneOpen startAt lastFirst
+    start-stands store =
+        rw (begins, rows, opens)
         (record {
-          there = refl;
-          context = rw (start-context (writerMemory (withText (withTables w 18432) 18432)) at 99 3 6, start-tables _ begun s);
+          represents = start-represents work₁ room₁ zeros
+              (opening-sourced (opening-source 3 store) (opening-source 6 store)
+              (le-refl (length store))) at;
+          writable = start-writable;
+          begun = start-begun;
         })
+
+    topped : Topped (st .core) (openedIn st)
+    unfolding noneOpen startAt lastFirst
+    topped = rw begins (start-topped at)
+
+    there : st .core .at ≡ at
+    unfolding noneOpen startAt
+    there = ap (λ (x : State). x .core .at) begins
+
+    answer-is : (s : Settings) (store : Text) (xs : List Stored)
+        → writeEvents maxEvents sizes s (contextIn (st .core) startRows (openedIn st)) store xs
+        ≡ writeEvents maxEvents sizes s (start s) store xs
+    unfolding noneOpen startAt lastFirst
+    answer-is s store xs =
+        rw begins (write-alike maxEvents sizes s (start-alike (replicate 99 0) refl s) store xs)
+
+    pub body-put : {s : Settings} {xs : List Stored} {store : Text} {stream′ work′ : List ℕ}
+        {r : Run} → RunPost s opening xs store stream work₂ st stream′ work′ r
+        → BodyPost s xs store stream at stream′ r
+    body-put {s} {xs} {store} {stream′} {r = r} p =
+        let m = p .meant startRows (start-stands store) topped in
+        record {
+          bits = p .bits;
+          put = subst (λ k. Put stream k (p .bits) stream′ (r .at)) there (p .put);
+          near = p .near;
+          few = p .few;
+          means =
+              record {
+                refused-as = λ k i e. m .refused-as k i (answer-is s store xs ∙ e);
+                accepted-as = λ bs e. m .accepted-as bs (answer-is s store xs ∙ e);
+              };
+        }

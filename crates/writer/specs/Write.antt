@@ -4,16 +4,21 @@ use mathlib.Core.Path.{_≡_}
 use mathlib.Core.List.{List, _++_}
 use lib.ListN.{length, replicate}
 use lib.Dec.{T}
+use Rattle.spec_fields.specs.Bits.{Bits}
 use Rattle.spec_fields.specs.Refusal.{Refusal, numberOf, Answer, refused, accepted}
 use Rattle.text.specs.Text.{Text}
-use Rattle.spec_exi.specs.Sizes.{sizes, maxStream, writerWork}
+use Rattle.spec_exi.specs.Sizes.{sizes, maxStream, maxEvents, writerWork}
 use Rattle.spec_exi.specs.Settings as format
+use Rattle.spec_exi.specs.Context.{start}
 use Rattle.spec_exi.specs.Writer.{Stored, WriterRoom, writeList, WriteReply, writeReply}
 use Rattle.spec_exi.specs.Writer as format-writer
 use Rattle.settings.specs.Meant.{numbersOf}
 use Rattle.settings.specs.declared.SettingNumbers.{SettingNumbers}
 use Rattle.event.specs.Cells.{eventsOf}
-use Rattle.write_field.specs.Written.{blankFrom}
+use Rattle.write_field.specs.Written.{blankFrom, Put}
+use Rattle.write_step.specs.Step.{maxListBits}
+use Rattle.write_run.specs.declared.Run.{Run}
+use Rattle.write_run.specs.Run.{RunMeans}
 use Rattle.writer.specs.declared.WriteReply as declared
 
 -- ---- the public function
@@ -55,11 +60,14 @@ pub record WritePost (s : SettingNumbers) (events : List ℕ) (store : Text) (m 
 
 -- ---- before the clearing: after a refusal nothing is said of the octets
 
+abbrev pub refusedAs : ℕ → ℕ → declared.WriteReply
+refusedAs number index = record { number = number; index = index; octets = 0 }
+
 -- The reply to an answer, and the octets where it is accepted.
 pub record Attempted (x : Answer (List ℕ)) (stream stream′ : List ℕ) (r : declared.WriteReply)
     : Type 0 where
   pub refused-as : (k : Refusal) (i : ℕ) → x ≡ refused k i
-      → r ≡ record { number = numberOf k; index = i; octets = 0 }
+      → r ≡ refusedAs (numberOf k) i
   pub accepted-as : (os : List ℕ) → x ≡ accepted os
       → (r ≡ record { number = 0; index = 0; octets = length os })
       × (stream′ ≡ os ++ replicate (length stream - length os) 0)
@@ -67,11 +75,27 @@ pub record Attempted (x : Answer (List ℕ)) (stream stream′ : List ℕ) (r : 
 -- ---- the list
 
 -- The octets are zeros; octets and work memory are long enough.
-pub record ListFits (stream w : List ℕ) : Type 0 where
+pub record ListFits (stream work : List ℕ) : Type 0 where
   pub blank : T (blankFrom stream 0)
   pub octets : maxStream ≤ length stream
-  pub room : writerWork ≤ length w
+  pub rows : writerWork ≤ length work
 
 abbrev pub ListPut :
     format.Settings → List Stored → Text → List ℕ → List ℕ → declared.WriteReply → Type 0
 ListPut s xs store stream stream′ r = Attempted (writeList sizes s xs store) stream stream′ r
+
+-- ---- the events, after a header that ends at a position
+
+pub record BodyPre (stream : List ℕ) (at : ℕ) (work : List ℕ) : Type 0 where
+  pub blank : T (blankFrom stream at)
+  pub near : at ≤ 64
+  pub rows : writerWork ≤ length work
+
+-- The bits of the events before the refused one, and no others.
+pub record BodyPost (s : format.Settings) (xs : List Stored) (store : Text) (stream : List ℕ)
+    (at : ℕ) (stream′ : List ℕ) (r : Run) : Type 0 where
+  pub bits : Bits
+  pub put : Put stream at bits stream′ (r .at)
+  pub near : r .at ≤ maxListBits
+  pub few : r .index ≤ maxEvents
+  pub means : RunMeans s (start s) xs store bits r

@@ -1,11 +1,11 @@
 // The writer: an event list to the octets of its strict form, or a refusal with its number and
 // index. The definitions that the contracts cite are in specs/Write.antt and, for the answer, in
 // crates/spec_exi/specs/Writer.antt.
+ghost use mathlib.Core.Path.{_≡_};
 ghost use Rattle.settings.specs.Meant.{settingsFrom};
 ghost use Rattle.event.specs.Cells.{eventsOf};
-ghost use Rattle.writer.specs.Write.{ListFits, ListPut, Attempted};
-ghost use Rattle.writer.specs.Write.{answerOf, WritePost, lent};
-use layout::STORE;
+ghost use Rattle.writer.specs.Write.{BodyPre, BodyPost, ListFits, ListPut, Attempted};
+ghost use Rattle.writer.specs.Write.{answerOf, WritePost, lent, refusedAs};
 use refusal::LONG;
 use refusal::ROOM;
 use refusal::SETTINGS;
@@ -13,6 +13,7 @@ use settings::SettingNumbers;
 use settings::Settings;
 use sizes::MAX_STREAM;
 use sizes::WRITER_WORK;
+use write_run::Run;
 
 // The number of the refusal or 0, the index of the event concerned, and the count of octets.
 #[repr(C)]
@@ -22,7 +23,37 @@ pub struct WriteReply {
     pub octets: u32,
 }
 
-// The header and the events, with the initial entries in tables and store. LONG comes last.
+// The events, with the initial entries in tables and opening text.
+fn put_body(
+    o: Settings,
+    stream: &mut [u8],
+    at: usize,
+    events: &[u32],
+    text: &[u32],
+    work: &mut [u32],
+) -> Run
+    requires { ⌜ BodyPre (now stream) at (now work) ⌝ }
+    ensures { λ r. ⌜ BodyPost (settingsFrom o) (eventsOf (now (events .entry)))
+        (now (text .entry)) (now (stream .entry)) at (now (stream .exit)) r ⌝ }
+{
+    let opening = mem_initial::opening_text();
+    mem_initial::clear_heads(work);
+    mem_initial::lay_rows(work, 0);
+    let st = open_elements::none_open(mem_initial::start(at));
+    write_run::put_events(o, stream, st, &opening, events, text, work)
+}
+
+fn refused(number: u32, index: u32) -> WriteReply
+    ensures { λ r. ⌜ r ≡ refusedAs number index ⌝ }
+{
+    WriteReply {
+        number,
+        index,
+        octets: 0,
+    }
+}
+
+// The header and the events. LONG comes last.
 fn put_list(
     o: Settings,
     stream: &mut [u8],
@@ -35,23 +66,13 @@ fn put_list(
         (now (stream .entry)) (now (stream .exit)) r ⌝ }
 {
     let at = write_header::put_header(o, stream);
-    initial::lay_rows(work, STORE as u32);
-    initial::lay_text(work, STORE);
-    let run = write_body::put_events(o, stream, state::start(at, 99, 3, 6), events, text, work);
+    let run = put_body(o, stream, at, events, text, work);
     if run.number != 0 {
-        return WriteReply {
-            number: run.number,
-            index: run.index as u32,
-            octets: 0,
-        };
+        return refused(run.number, run.index as u32);
     }
     let octets = (run.at + 7) / 8;
     if MAX_STREAM < octets {
-        return WriteReply {
-            number: LONG,
-            index: 0,
-            octets: 0,
-        };
+        return refused(LONG, 0);
     }
     WriteReply {
         number: 0,
@@ -73,18 +94,10 @@ fn attempt(
         (now (stream .entry)) (now (stream .exit)) r ⌝ }
 {
     if (stream.len() < MAX_STREAM) | (work.len() < WRITER_WORK) {
-        return WriteReply {
-            number: ROOM,
-            index: 0,
-            octets: 0,
-        };
+        return refused(ROOM, 0);
     }
     if !settings::are_meaningful(s) {
-        return WriteReply {
-            number: SETTINGS,
-            index: 0,
-            octets: 0,
-        };
+        return refused(SETTINGS, 0);
     }
     clear::octets(stream);
     put_list(settings::settings_of(s), stream, events, text, work)

@@ -47,7 +47,7 @@ pub const STREAM_OCTETS: usize = 16_384;
 pub const READER_WORK_CELLS: usize = 18_432;
 
 /// Work memory to lend to the writer, at least, in cells.
-pub const WRITER_WORK_CELLS: usize = 34_816;
+pub const WRITER_WORK_CELLS: usize = 18_432;
 
 /// Stamps, and as many movements, to lend where readings are taken out, at least; also the most
 /// readings that there are in one list.

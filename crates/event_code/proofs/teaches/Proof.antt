@@ -2,7 +2,7 @@
 use mathlib.Core.Path.{sym}
 use mathlib.Core.Bool.{or-false}
 use borrow.Author.Tests.{ne-eqb}
-use Rattle.event_code.specs.Parts.{teachesIn}
+use Rattle.event_code.specs.Numbers.{teachesIn}
 use Rattle.event_code.proofs.teaches.Statement.{statement}
 use Rattle.event_code.proofs.teaches.Tie as tie
 

@@ -1,11 +1,12 @@
 -- `read_stream` meets its contract.
-use mathlib.Core.Path.{refl, _∙_}
+use mathlib.Core.Path.{refl, ap, _∙_}
+use borrow.Author.Needs.{needs}
 use Rattle.settings.specs.Meant.{settingsFrom}
 use Rattle.mem_initial.specs.Initial.{startRows}
+use Rattle.open_elements.specs.Opened.{noneOpen}
 use Rattle.reader.proofs.Stream.{header-refused, header-inside, header-passed, filled-as}
 use Rattle.reader.proofs.Start.{heads-ask, rows-ask, text-asks, events-ask, body-ready}
 use Rattle.reader.proofs.Start.{body-answer}
-use borrow.Author.Needs.{needs}
 use Rattle.reader.proofs.read_stream.Statement.{statement}
 use Rattle.reader.proofs.read_stream.Tie as tie
 
@@ -41,13 +42,17 @@ lay-text-requires c κs =
     .before .before .before .before .before .before in
     text-asks (start .pre)
 
-initial-state-requires : tie.Need-initial-state-requires
-initial-state-requires c κs = search needs
+start-requires : tie.Need-start-requires
+start-requires c κs = search needs
+
+none-open-requires : tie.Need-none-open-requires
+none-open-requires c κs = search needs
 
 read-events-requires : tie.Need-read-events-requires
 read-events-requires c κs =
-    let initial-state = c .before .before .before in
-    let text = initial-state .before .before in
+    let none-open = c .before .before .before in
+    let start = none-open .before in
+    let text = start .before .before in
     let lay-text = text .before in
     let work2 = lay-text .before .before .before in
     let lay-rows = work2 .before in
@@ -55,27 +60,38 @@ read-events-requires c κs =
     let clear-heads = work .before in
     let if1 = clear-heads .before .before in
     let read-header = if1 .before .before in
-    let start = read-header .before .before .before .before .before in
-    events-ask (start .pre) (read-header .read-header .result .at) (clear-heads .clear-heads
-    .ensures) (lay-rows .lay-rows .ensures) (lay-text .lay-text .ensures) (initial-state
-    .initial-state .ensures) (work .work .given) (work2 .work2 .given) (text .text .given)
-    (header-inside (settingsFrom (start .args .o)) (read-header .read-header .ensures) (if1 .if1
-    .left))
+    let start′ = read-header .before .before .before .before .before in
+    let begins = (none-open .none-open .ensures ∙ ap noneOpen (start .start .ensures)) in
+    events-ask (start′ .pre) (read-header .read-header .result .at) (clear-heads .clear-heads
+    .ensures) (lay-rows .lay-rows .ensures) (lay-text .lay-text .ensures) begins (work .work .given)
+    (work2 .work2 .given) (text .text .given) (header-inside (settingsFrom (start′ .args .o))
+    (read-header .read-header .ensures) (if1 .if1 .left))
 
 same-length : tie.Need-same-length
-same-length c = search needs
+same-length c =
+    let events = c .before .before .before .before .before in
+    events .events .given
 
 same-length-2 : tie.Need-same-length-2
-same-length-2 c = search needs
+same-length-2 c =
+    let text2 = c .before .before .before in
+    let text = text2 .before .before .before .before .before .before .before .before .before .before in
+    text2 .text2 .given ∙ text .text .given
 
 same-length-3 : tie.Need-same-length-3
-same-length-3 c = search needs
+same-length-3 c =
+    let work3 = c .before in
+    let work2 = work3 .before .before .before .before .before .before .before .before .before
+    .before .before .before .before .before .before .before in
+    let work = work2 .before .before .before .before in
+    work3 .work3 .given ∙ work2 .work2 .given ∙ work .work .given
 
 returns-2 : tie.Need-returns-2
 returns-2 c =
     let read-events = c .before .before .before .before .before .before in
-    let initial-state = read-events .before .before .before .before in
-    let text = initial-state .before .before in
+    let none-open = read-events .before .before .before .before in
+    let start = none-open .before in
+    let text = start .before .before in
     let lay-text = text .before in
     let work2 = lay-text .before .before .before in
     let lay-rows = work2 .before in
@@ -83,16 +99,17 @@ returns-2 c =
     let clear-heads = work .before in
     let if1 = clear-heads .before .before in
     let read-header = if1 .before .before in
-    let start = read-header .before .before .before .before .before in
-    filled-as (body-answer (start .pre) (read-header .read-header .result .at) (clear-heads
-    .clear-heads .ensures) (lay-rows .lay-rows .ensures) (lay-text .lay-text .ensures)
-    (initial-state .initial-state .ensures) (work .work .given) (work2 .work2 .given) (text .text
-    .given) (settingsFrom (start .args .o)) ∙ header-passed (settingsFrom (start .args .o))
-    (read-header .read-header .ensures) (if1 .if1 .left)) refl (text .text .given) (read-events
-    .read-events .ensures .meant startRows (body-ready (start .pre) (read-header .read-header
-    .result .at) (clear-heads .clear-heads .ensures) (lay-rows .lay-rows .ensures) (lay-text
-    .lay-text .ensures) (initial-state .initial-state .ensures) (work .work .given) (work2 .work2
-    .given) (text .text .given)))
+    let start′ = read-header .before .before .before .before .before in
+    let begins = (none-open .none-open .ensures ∙ ap noneOpen (start .start .ensures)) in
+    filled-as (body-answer (start′ .pre) (read-header .read-header .result .at) (clear-heads
+    .clear-heads .ensures) (lay-rows .lay-rows .ensures) (lay-text .lay-text .ensures) begins (work
+    .work .given) (work2 .work2 .given) (text .text .given) (settingsFrom (start′ .args .o)) ∙
+    header-passed (settingsFrom (start′ .args .o)) (read-header .read-header .ensures) (if1 .if1
+    .left)) refl (text .text .given)
+    (read-events .read-events .ensures .meant startRows (body-ready (start′ .pre) (read-header
+    .read-header .result .at) (clear-heads .clear-heads .ensures) (lay-rows .lay-rows .ensures)
+    (lay-text .lay-text .ensures) begins (work .work .given) (work2 .work2 .given) (text .text
+    .given)))
 
 pub read-stream-spec : {M : Type 1} → statement M
 read-stream-spec =
@@ -104,7 +121,8 @@ read-stream-spec =
     clear-heads-requires
     lay-rows-requires
     lay-text-requires
-    initial-state-requires
+    start-requires
+    none-open-requires
     read-events-requires
     same-length
     same-length-2

@@ -34,7 +34,7 @@ readerRooms =
     ∷ readerRoom 36864 16384 18431 ∷ []
 
 unfoldable pub writerRooms : List WriterRoom
-writerRooms = writerRoom 16384 34816 ∷ writerRoom 16383 34816 ∷ writerRoom 16384 34815 ∷ []
+writerRooms = writerRoom 16384 18432 ∷ writerRoom 16383 18432 ∷ writerRoom 16384 18431 ∷ []
 
 -- What the scope says in numbers.
 pub record Pinned : Type 0 where

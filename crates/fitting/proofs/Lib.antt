@@ -1,2 +1,0 @@
-pub mod Sought
-pub mod Fitting

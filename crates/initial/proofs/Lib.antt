@@ -1,4 +1,0 @@
-pub mod Laws
-mod Table
-mod Turn
-pub mod Written

@@ -1,8 +1,0 @@
-pub mod Adding
-pub mod Entries
-pub mod Grown
-pub mod Kept
-pub mod Productions
-pub mod Sizes
-pub mod Strings
-pub mod Writer

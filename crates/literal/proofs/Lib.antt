@@ -1,3 +1,0 @@
-pub mod Answers
-pub mod Turn
-pub mod Laws

@@ -1,0 +1,37 @@
+-- `clear_heads` meets its contract.
+use denote.Ref.{now}
+use Prim.Native.Nat.{ℕ}
+use lib.ListN.{drop}
+use mathlib.Core.List.{List, _++_}
+use mathlib.Core.Path.{ap}
+use Rattle.mem_initial.specs.Initial.{zeroed}
+use borrow.Author.Needs.{needs}
+use Rattle.mem_initial.proofs.clear_heads.Statement.{statement}
+use Rattle.mem_initial.proofs.clear_heads.Tie as tie
+
+sub-cells : tie.Need-sub-cells
+sub-cells c = search needs
+
+part-cells-start : tie.Need-part-cells-start
+part-cells-start c = search needs
+
+part-cells-end : tie.Need-part-cells-end
+part-cells-end c = search needs
+
+cells-requires : tie.Need-cells-requires
+cells-requires c κs = search needs
+
+same-length : tie.Need-same-length
+same-length c = search needs
+
+returns : tie.Need-returns
+unfolding zeroed
+returns c =
+    let cells = c .before .before in
+    let start = cells .before .before .before in
+    ap (λ (l : List ℕ). l ++ drop 3490 (now (start .args .work))) (cells .cells .ensures)
+
+pub clear-heads-spec : {M : Type 1} → statement M
+clear-heads-spec =
+    tie.close
+    (tie.spec sub-cells part-cells-start part-cells-end cells-requires same-length returns)

@@ -1,2 +1,0 @@
-pub mod Locate
-pub mod Numbered

@@ -1,5 +1,0 @@
-pub mod Items
-pub mod Memory
-pub mod Forms
-pub mod Hits
-pub mod Entries

@@ -1,4 +1,0 @@
-pub mod Assembly
-pub mod Back
-pub mod Events
-pub mod Fault

@@ -1,0 +1,289 @@
+-- `put_events` meets its contract: the loop keeps `Progress`.
+use Prim.Native.Nat.{_-_}
+use native.Mathlib.Omega.{arith}
+use mathlib.Core.Logic.{⊎-elim}
+use mathlib.Core.Path.{sym, ap, subst, _∙_}
+use lib.ListN.{length}
+use borrow.Author.Needs.{needs}
+use Rattle.spec_exi.specs.Sizes.{maxEvents, maxOpen}
+use Rattle.settings.specs.Meant.{settingsFrom}
+use Rattle.event.specs.Cells.{judged}
+use Rattle.event.proofs.Laws.{whole-means, shape-means}
+use Rattle.open_elements.specs.declared.State.{State}
+use Rattle.write_field.proofs.Written.{put-length}
+use Rattle.write_run.proofs.Turns.{Progress, progress-start, ended-early, ended, too-many}
+use Rattle.write_run.proofs.Turns.{cut-short, no-event, turn-asks, turn-refused}
+use Rattle.write_run.proofs.Turns.{KeptAfter, turn-stored, turn-same, turn-more}
+use Rattle.write_run.proofs.put_events.Statement.{statement}
+use Rattle.write_run.proofs.put_events.Tie as tie
+
+abbrev Inv-loop : tie.InvT-loop
+Inv-loop o stream₀ opening events text work₀ t₀ n₀ cell₀ stream work t n cell =
+    Progress (settingsFrom o) opening events text stream₀ work₀ t₀ stream work t n cell
+
+abbrev μ-loop : tie.MeasureT-loop
+μ-loop o stream₀ opening events text work₀ t₀ n₀ cell₀ stream work t n cell = length events - cell
+
+loop-holds : tie.Need-loop-holds Inv-loop μ-loop
+loop-holds c =
+    let slice-known = c .before .before .before .before in
+    let start = slice-known .before in
+    progress-start (slice-known .slice-known .given) (start .pre)
+
+stopped-requires : tie.Need-stopped-requires Inv-loop μ-loop
+stopped-requires c κs = search needs
+
+same-length : tie.Need-same-length Inv-loop μ-loop
+same-length c = put-length ((c .before .before .before .loop .inv) .put)
+
+same-length-2 : tie.Need-same-length-2 Inv-loop μ-loop
+same-length-2 c = (c .before .before .before .loop .inv) .work-size
+
+returns : tie.Need-returns Inv-loop μ-loop
+returns c =
+    let if1 = c .before in
+    let loop-test = if1 .before in
+    let loop = loop-test .before in
+    rw (c .stopped .ensures) (too-many (loop .loop .inv) (loop-test .loop-test .taken) (if1 .if1
+    .taken))
+
+sub-if2 : tie.Need-sub-if2 Inv-loop μ-loop
+sub-if2 c = search needs
+
+stopped-requires-2 : tie.Need-stopped-requires-2 Inv-loop μ-loop
+stopped-requires-2 c κs = search needs
+
+same-length-3 : tie.Need-same-length-3 Inv-loop μ-loop
+same-length-3 c = put-length ((c .before .before .before .before .loop .inv) .put)
+
+same-length-4 : tie.Need-same-length-4 Inv-loop μ-loop
+same-length-4 c = (c .before .before .before .before .loop .inv) .work-size
+
+returns-2 : tie.Need-returns-2 Inv-loop μ-loop
+returns-2 c =
+    let if2 = c .before in
+    let if1 = if2 .before in
+    let loop-test = if1 .before in
+    let loop = loop-test .before in
+    rw (c .stopped2 .ensures) (cut-short (loop .loop .inv) (if1 .if1 .left) (loop-test .loop-test
+    .taken) (if2 .if2 .taken))
+
+load-requires : tie.Need-load-requires Inv-loop μ-loop
+load-requires c κs = search needs
+
+enum-told : tie.Need-enum-told Inv-loop μ-loop
+enum-told c = search needs
+
+stopped-requires-3 : tie.Need-stopped-requires-3 Inv-loop μ-loop
+stopped-requires-3 c κs = search needs
+
+same-length-5 : tie.Need-same-length-5 Inv-loop μ-loop
+same-length-5 c = put-length ((c .before .before .before .before .before .before .before .loop .inv)
+    .put)
+
+same-length-6 : tie.Need-same-length-6 Inv-loop μ-loop
+same-length-6 c = (c .before .before .before .before .before .before .before .loop .inv) .work-size
+
+returns-3 : tie.Need-returns-3 Inv-loop μ-loop
+returns-3 c =
+    let enum-told = c .before in
+    let load = enum-told .before .before in
+    let if2 = load .before in
+    let if1 = if2 .before in
+    let loop = if1 .before .before in
+    let none = shape-means _ (ap judged (sym (enum-told .enum-told .given .1)) ∙ load .load
+    .ensures) in
+    rw (c .stopped3 .ensures) (no-event (loop .loop .inv) (if1 .if1 .left) (if2 .if2 .left) none)
+
+enum-known-e : tie.Need-enum-known-e Inv-loop μ-loop
+enum-known-e c = search needs
+
+step-requires : tie.Need-step-requires Inv-loop μ-loop
+step-requires c κs =
+    let loop = c .before .before .before .before .before .before .before .before .before .before in
+    let start = loop .before .before .before .before .before .before in
+    turn-asks (loop .loop .inv) (start .pre)
+
+stopped-requires-4 : tie.Need-stopped-requires-4 Inv-loop μ-loop
+stopped-requires-4 c κs = search needs
+
+same-length-7 : tie.Need-same-length-7 Inv-loop μ-loop
+same-length-7 c =
+    let stream = c .before .before .before .before .before .before in
+    let loop = stream .before .before .before .before .before .before .before .before .before
+    .before .before .before in
+    stream .stream .given ∙ put-length ((loop .loop .inv) .put)
+
+same-length-8 : tie.Need-same-length-8 Inv-loop μ-loop
+same-length-8 c =
+    let work = c .before .before .before .before in
+    let loop = work .before .before .before .before .before .before .before .before .before .before
+    .before .before .before .before in
+    work .work .given ∙ (loop .loop .inv) .work-size
+
+returns-4 : tie.Need-returns-4 Inv-loop μ-loop
+returns-4 c =
+    let if3 = c .before in
+    let step = if3 .before .before .before .before .before .before in
+    let e = step .before .before .before .before .before in
+    let load = e .before .before in
+    let if2 = load .before in
+    let if1 = if2 .before in
+    let loop = if1 .before .before in
+    rw (c .stopped4 .ensures) (turn-refused (loop .loop .inv) (step .step .ensures) (record {
+      more =
+          if1 .if1 .left;
+      whole = if2 .if2 .left;
+      loaded = whole-means _ _ (ap judged (sym (e .e .given
+          .1)) ∙ load .load .ensures);
+    }) (if3 .if3 .taken))
+
+cast-t : tie.Need-cast-t Inv-loop μ-loop
+cast-t c =
+    let step = c .before .before .before .before .before .before .before .before .before in
+    omega (arith, (step .step .ensures) .bounded .top)
+
+mul-t : tie.Need-mul-t Inv-loop μ-loop
+unfolding maxOpen
+mul-t c =
+    let if4 = c .before in
+    let step = if4 .before .before .before .before .before .before .before .before in
+    omega (arith, (step .step .ensures) .bounded .depth, if4 .if4 .taken)
+
+element-write-t : tie.Need-element-write-t Inv-loop μ-loop
+unfolding maxOpen
+element-write-t c =
+    let if4 = c .before in
+    let step = if4 .before .before .before .before .before .before .before .before in
+    omega (arith, (step .step .ensures) .bounded .depth, if4 .if4 .taken)
+
+innermost-requires : tie.Need-innermost-requires Inv-loop μ-loop
+innermost-requires c κs =
+    let step = c .before .before .before .before .before .before .before .before .before .before in
+    (step .step .ensures) .bounded .depth
+
+add-n : tie.Need-add-n Inv-loop μ-loop
+unfolding maxEvents
+add-n c =
+    let loop = c .before .before .before .before .before .before .before .before .before .before
+    .before .before .before .before .before .before .before .before .before .before .before .before
+    in
+    omega (arith, (loop .loop .inv) .few)
+
+add-cell : tie.Need-add-cell Inv-loop μ-loop
+unfolding maxEvents
+add-cell c =
+    let loop = c .before .before .before .before .before .before .before .before .before .before
+    .before .before .before .before .before .before .before .before .before .before .before .before
+    in
+    omega (arith, (loop .loop .inv) .few, (loop .loop .inv) .place)
+
+loop-less : tie.Need-loop-less Inv-loop μ-loop
+loop-less c =
+    let loop-test = c .before .before .before .before .before .before .before .before .before
+    .before .before .before .before .before .before .before .before .before .before .before .before
+    in
+    omega (arith, loop-test .loop-test .taken)
+
+loop-again : tie.Need-loop-again Inv-loop μ-loop
+loop-again c =
+    let if4 = c .before .before .before in
+    let if3 = if4 .before .before in
+    let step = if3 .before .before .before .before .before .before in
+    let e = step .before .before .before .before .before in
+    let load = e .before .before in
+    let if2 = load .before in
+    let if1 = if2 .before in
+    let loop = if1 .before .before in
+    let kept : KeptAfter (loop .loop .inv) (step .step .ensures) (if4 .if4 .t .opened) = ⊎-elim
+    (λ w. subst (λ (x : State). KeptAfter (loop .loop .inv) (step .step .ensures) (x .opened)) (sym
+    (w .2)) (turn-stored (loop .loop .inv) (step .step .ensures) (w .0 .taken)))
+    (λ w. subst (λ (x : State). KeptAfter (loop .loop .inv) (step .step .ensures) (x .opened)) (sym
+    (w .1)) (turn-same (loop .loop .inv) (step .step .ensures) (w .0 .left)))
+    (if4 .if4 .came) in
+    turn-more (loop .loop .inv) (step .step .ensures) (record {
+      more = if1 .if1 .left;
+      whole = if2
+          .if2 .left;
+      loaded = whole-means _ _ (ap judged (sym (e .e .given .1)) ∙ load .load .ensures);
+    })
+    (if3 .if3 .left) kept (c .innermost .ensures)
+
+stopped-requires-5 : tie.Need-stopped-requires-5 Inv-loop μ-loop
+stopped-requires-5 c κs = search needs
+
+same-length-9 : tie.Need-same-length-9 Inv-loop μ-loop
+same-length-9 c = put-length ((c .before .before .before .loop .inv) .put)
+
+same-length-10 : tie.Need-same-length-10 Inv-loop μ-loop
+same-length-10 c = (c .before .before .before .loop .inv) .work-size
+
+returns-5 : tie.Need-returns-5 Inv-loop μ-loop
+returns-5 c =
+    let if5 = c .before in
+    let loop-test = if5 .before in
+    let loop = loop-test .before in
+    rw (c .stopped5 .ensures) (ended-early (loop .loop .inv) (loop-test .loop-test .left) (if5 .if5
+    .taken))
+
+stopped-requires-6 : tie.Need-stopped-requires-6 Inv-loop μ-loop
+stopped-requires-6 c κs = search needs
+
+same-length-11 : tie.Need-same-length-11 Inv-loop μ-loop
+same-length-11 c = put-length ((c .before .before .before .loop .inv) .put)
+
+same-length-12 : tie.Need-same-length-12 Inv-loop μ-loop
+same-length-12 c = (c .before .before .before .loop .inv) .work-size
+
+returns-6 : tie.Need-returns-6 Inv-loop μ-loop
+returns-6 c =
+    let if5 = c .before in
+    let loop-test = if5 .before in
+    let loop = loop-test .before in
+    rw (c .stopped6 .ensures) (ended (loop .loop .inv) (loop-test .loop-test .left) (if5 .if5
+    .left))
+
+pub put-events-spec : {M : Type 1} → statement M
+put-events-spec =
+    tie.close
+    (tie.spec
+    Inv-loop
+    μ-loop
+    loop-holds
+    stopped-requires
+    same-length
+    same-length-2
+    returns
+    sub-if2
+    stopped-requires-2
+    same-length-3
+    same-length-4
+    returns-2
+    load-requires
+    enum-told
+    stopped-requires-3
+    same-length-5
+    same-length-6
+    returns-3
+    enum-known-e
+    step-requires
+    stopped-requires-4
+    same-length-7
+    same-length-8
+    returns-4
+    cast-t
+    mul-t
+    element-write-t
+    innermost-requires
+    add-n
+    add-cell
+    loop-less
+    loop-again
+    stopped-requires-5
+    same-length-9
+    same-length-10
+    returns-5
+    stopped-requires-6
+    same-length-11
+    same-length-12
+    returns-6)

@@ -1,0 +1,83 @@
+// The events of a list, the body of a stream (EXI 4), written one after the other, with the open
+// elements in place. What the functions ask and leave is in specs/Run.antt.
+ghost use mathlib.Core.Path.{_≡_};
+ghost use Rattle.settings.specs.Meant.{settingsFrom};
+ghost use Rattle.event.specs.Cells.{eventsOf};
+ghost use Rattle.write_run.specs.Run.{stoppedAs, RunPre, RunPost};
+use event::Loaded;
+use mem_state::IS_OVER;
+use open_elements::State;
+use refusal::LIMIT;
+use refusal::SHAPE;
+use settings::Settings;
+use sizes::CELLS_PER_EVENT;
+use sizes::MAX_EVENTS;
+
+// The number of the refusal or 0, the index of the event concerned, and the position after the bits
+// of the events before it.
+pub struct Run {
+    pub number: u32,
+    pub index: usize,
+    pub at: usize,
+}
+
+fn stopped(number: u32, index: usize, at: usize) -> Run
+    ensures { λ r. ⌜ r ≡ stoppedAs number index at ⌝ }
+{
+    Run { number, index, at }
+}
+
+// Writes the events from the state on.
+pub fn put_events(
+    o: Settings,
+    stream: &mut [u8],
+    st: State,
+    opening: &[u32],
+    events: &[u32],
+    text: &[u32],
+    work: &mut [u32],
+) -> Run
+    requires { ⌜ RunPre (now stream) (now work) st ⌝ }
+    ensures { λ r. ⌜
+        RunPost (settingsFrom o) (now (opening .entry)) (eventsOf (now (events .entry)))
+        (now (text .entry)) (now (stream .entry)) (now (work .entry)) st (now (stream .exit))
+        (now (work .exit)) r ⌝ }
+{
+    let mut t = st;
+    let mut n: usize = 0;
+    let mut cell: usize = 0;
+    while cell < events.len() {
+        if n == MAX_EVENTS {
+            return stopped(LIMIT, n, t.core.at);
+        }
+        if events.len() - cell < CELLS_PER_EVENT {
+            return stopped(SHAPE, n, t.core.at);
+        }
+        match event::load(events, cell) {
+            Loaded::Shape => {
+                return stopped(SHAPE, n, t.core.at);
+            }
+            Loaded::Whole(e) => {
+                let c = t.core;
+                let r = write_step::step(o, stream, opening, text, e, c, work);
+                if r.number != 0 {
+                    return stopped(r.number, n, c.at);
+                }
+                let mut d = r.core;
+                let before = c.depth;
+                let after = d.depth;
+                if before < after {
+                    t.opened[before] = d.top as u16;
+                }
+                d.top = open_elements::innermost(&t.opened, after);
+                t.core = d;
+            }
+        }
+        n += 1;
+        cell += CELLS_PER_EVENT;
+    }
+    if t.core.mode != IS_OVER {
+        return stopped(SHAPE, n, t.core.at);
+    }
+    stopped(0, 0, t.core.at)
+}
