@@ -1,7 +1,7 @@
 -- The productions of each state that are not learned, level by level of their event codes (EXI
 -- 8.4.1, 8.4.3; scope, "Grammars": the table of codes).
 --
--- States and kinds are numbers (crates/event_code/specs/Parts.antt). Levels: 0 the first part of a
+-- States and kinds are numbers (crates/event_code/specs/Numbers.antt). Levels: 0 the first part of a
 -- code, 1 the second, 2 the third.
 use Prim.Native.Nat.{ℕ, zero, suc, _+_, _≤_, _<_}
 use mathlib.Core.Path.{_≡_}
