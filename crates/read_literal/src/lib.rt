@@ -87,7 +87,7 @@ fn character(s: &[u8], j: usize, k: usize) -> Point
             behind: j + 1,
         };
     }
-    match read_field::unsigned(s, 8 * j + k) {
+    match read_field::unsigned_any(s, 8 * j + k) {
         Field::Refused(n) => refused(n as u32, j),
         Field::Value { value, next } => {
             if !text::is_char(value) {
