@@ -30,9 +30,9 @@ use Rattle.read_contract.specs.Outcome.{Outcome}
 use Rattle.read_contract.proofs.Outcome.{refused-outcome, outcome-weaken}
 use Rattle.read_literal.specs.Literal.{laidAt}
 use Rattle.read_qname.proofs.Texts.{text-grown}
-use Rattle.read_step.specs.declared.EventRead.{EventRead}
-use Rattle.read_step.specs.Judge.{EventPre, EventPost, EventMeans}
-use Rattle.read_step.specs.Step.{StepPre, StepMeans, StepPost}
+use Rattle.read_event.specs.declared.EventRead.{EventRead}
+use Rattle.read_event.specs.Judge.{EventPre, EventPost, EventMeans}
+use Rattle.read_event.specs.Step.{steppedAs, StepPre, StepMeans, StepPost}
 
 module _ {stream events text work : List ℕ} {c : Core} {cell : ℕ}
     (pre : StepPre stream events text work c cell) where
@@ -50,7 +50,7 @@ module _ {stream events text work : List ℕ} {c : Core} {cell : ℕ}
       (post : EventPost s stream text work c text′ r) where
     pub step-refused : 0 < r .number
         → StepPost s stream events text work c cell events text′ work
-        (record { number = r .number; core = c })
+        (steppedAs (r .number) c)
     step-refused h =
         record {
           bounded = pre .bounded;
@@ -133,7 +133,7 @@ module _ {stream events text work : List ℕ} {c : Core} {cell : ℕ}
           ++ drop (cell + cellsPerEvent) events
           → StepPost s stream events text work c cell events′ text′
           (grown c (r .growth) (joinedStrings c (r .strings) work))
-          (record { number = 0; core = coreAfter c (r .next) (r .stored) (r .strings) (r .growth) })
+          (steppedAs 0 (coreAfter c (r .next) (r .stored) (r .strings) (r .growth)))
       unfolding turned counted
       step-post {events′} e =
           let t = post .laid z in
@@ -171,10 +171,10 @@ module _ {stream events text work : List ℕ} {c : Core} {cell : ℕ}
           → events′ ≡ take cell events ++ cellsOf (meaning (r .event))
           ++ drop (cell + cellsPerEvent) events → d ≡ coreAfter c (r .next) (r .stored) (r .strings) (r .growth)
           → StepPost s stream events text work c cell events′ text′ work₂
-          (record { number = 0; core = d })
+          (steppedAs 0 d)
       step-read {work₁} {work₂} {events′} {d} a b e f =
           subst (λ (k : Core). StepPost s stream events text work c cell events′ text′ work₂
-          (record { number = 0; core = k })) (sym f)
+          (steppedAs 0 k)) (sym f)
           (subst (λ k. StepPost s stream events text work c cell events′ text′ k
-          (record { number = 0; core = coreAfter c (r .next) (r .stored) (r .strings) (r .growth) }))
+          (steppedAs 0 (coreAfter c (r .next) (r .stored) (r .strings) (r .growth))))
           (sym (b ∙ ap (grown c (r .growth)) a)) (step-post e))
