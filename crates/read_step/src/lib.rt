@@ -3,6 +3,9 @@
 ghost use Rattle.settings.specs.Meant.{settingsFrom};
 ghost use Rattle.read_event.specs.Judge.{CodeRead};
 ghost use Rattle.read_event.specs.Step.{StepPre, StepPost};
+ghost use Rattle.read_step.specs.Learned.{LearnedRead};
+use event_code::AT;
+use event_code::CH;
 use mem_state::Core;
 use read_event::Stepped;
 use read_production::ProductionRead;
@@ -37,6 +40,31 @@ fn general(
     read_event::answer(0, d)
 }
 
+// Reads an event after its code, by a learned production.
+fn learned(
+    o: Settings,
+    stream: &[u8],
+    p: ProductionRead,
+    c: Core,
+    cell: usize,
+    events: &mut [u32],
+    text: &mut [u32],
+    work: &mut [u32],
+) -> Stepped
+    requires { ⌜ StepPre (now stream) (now events) (now text) (now work) c cell ⌝ }
+    requires { ⌜ LearnedRead (settingsFrom o) (now stream) (now work) c p ⌝ }
+    ensures { λ r. ⌜
+        StepPost (settingsFrom o) (now (stream .entry)) (now (events .entry)) (now (text .entry))
+        (now (work .entry)) c cell (now (events .exit)) (now (text .exit)) (now (work .exit)) r ⌝ }
+{
+    let kind = p.kind;
+    match kind {
+        AT => read_known::known_attribute(o.aligned, stream, p, c, cell, events, text, work),
+        CH => read_known::known_characters(o.aligned, stream, p, c, cell, events, text, work),
+        _ => general(o, stream, p, c, cell, events, text, work),
+    }
+}
+
 // Reads one event after the core's position, and stores it in the nine cells from one on.
 pub fn step(
     o: Settings,
@@ -55,6 +83,9 @@ pub fn step(
     let p = read_production::read_production(o, stream, c.at, c.mode, c.top, c.learned, work);
     if p.number != 0 {
         return read_event::answer(p.number, c);
+    }
+    if p.learned {
+        return learned(o, stream, p, c, cell, events, text, work);
     }
     general(o, stream, p, c, cell, events, text, work)
 }

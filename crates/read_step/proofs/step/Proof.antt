@@ -24,25 +24,47 @@ returns c =
     rw (c .answer .ensures) (step-refused (pre) (code-refused (event-asks (pre)) (read-production
     .ensures) (omega (arith, if1 .taken))) (omega (arith, if1 .taken)))
 
+learned-requires : tie.Need-learned-requires
+learned-requires c κs =
+    let pre = c .before .before .before .before .before .before .before .before .before .before
+    .before .before .pre in
+    let read-production = c .before .before .before .before .before .before .read-production in
+    let if1 = c .before .before .before .before .if1 in
+    let if2 = c .before .before .before .if2 in
+    (pre, record { code = record { post = (read-production .ensures); good = if1 .left }; learned =
+    if2 .taken })
+
+same-length-2 : tie.Need-same-length-2
+same-length-2 c = c .before .before .before .before .before .events .given
+
+same-length-3 : tie.Need-same-length-3
+same-length-3 c = c .before .before .before .text .given
+
+same-length-4 : tie.Need-same-length-4
+same-length-4 c = c .before .work .given
+
+returns-2 : tie.Need-returns-2
+returns-2 c = c .before .before .before .before .before .before .learned .ensures
+
 general-requires : tie.Need-general-requires
 general-requires c κs =
     let pre = c .before .before .before .before .before .before .before .before .before .before
-    .before .pre in
-    let read-production = c .before .before .before .before .before .read-production in
-    let if1 = c .before .before .before .if1 in
+    .before .before .pre in
+    let read-production = c .before .before .before .before .before .before .read-production in
+    let if1 = c .before .before .before .before .if1 in
     (pre, record { post = (read-production .ensures); good = if1 .left })
 
-same-length-2 : tie.Need-same-length-2
-same-length-2 c = search needs
+same-length-5 : tie.Need-same-length-5
+same-length-5 c = c .before .before .before .before .before .events2 .given
 
-same-length-3 : tie.Need-same-length-3
-same-length-3 c = search needs
+same-length-6 : tie.Need-same-length-6
+same-length-6 c = c .before .before .before .text2 .given
 
-same-length-4 : tie.Need-same-length-4
-same-length-4 c = search needs
+same-length-7 : tie.Need-same-length-7
+same-length-7 c = c .before .work2 .given
 
-returns-2 : tie.Need-returns-2
-returns-2 c = search needs
+returns-3 : tie.Need-returns-3
+returns-3 c = c .before .before .before .before .before .before .general .ensures
 
 pub step-spec : {M : Type 1} → statement M
 step-spec =
@@ -52,8 +74,13 @@ step-spec =
     answer-requires
     same-length
     returns
-    general-requires
+    learned-requires
     same-length-2
     same-length-3
     same-length-4
-    returns-2)
+    returns-2
+    general-requires
+    same-length-5
+    same-length-6
+    same-length-7
+    returns-3)
