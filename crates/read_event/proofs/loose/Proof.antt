@@ -1,7 +1,7 @@
 use mathlib.Core.Bool.{true≢false}
 use mathlib.Core.Path.{refl, sym, _∙_}
-use Rattle.read_step.proofs.loose.Statement.{statement}
-use Rattle.read_step.proofs.loose.Tie as tie
+use Rattle.read_event.proofs.loose.Statement.{statement}
+use Rattle.read_event.proofs.loose.Tie as tie
 
 returns : tie.Need-returns
 returns c =

@@ -38,13 +38,13 @@ use Rattle.read_qname.specs.Qnames.{tablesAt}
 use Rattle.read_qname.proofs.Texts.{text-size, text-cleared}
 use Rattle.read_content.specs.declared.Content.{Content}
 use Rattle.read_content.specs.Contents.{ContentPre, ContentMeans, ContentPost, carriedBy}
-use Rattle.read_step.specs.declared.Judged.{Judged}
-use Rattle.read_step.specs.declared.EventRead.{EventRead}
-use Rattle.read_step.specs.Judge.{judgeNumber, JudgePost, EventPre, refusedAs, EventBounds}
-use Rattle.read_step.specs.Judge.{EventPost}
-use Rattle.read_step.proofs.Rows.{prepared, content-name}
-use Rattle.read_step.proofs.Events.{content-rows, same-code, other-code, fits-is, grows}
-use Rattle.read_step.proofs.Events.{left-valid, start-named, left-context, carried-some}
+use Rattle.read_event.specs.declared.Judged.{Judged}
+use Rattle.read_event.specs.declared.EventRead.{EventRead}
+use Rattle.read_event.specs.Judge.{judgeNumber, JudgePost, EventPre, refusedAs, EventBounds}
+use Rattle.read_event.specs.Judge.{EventPost}
+use Rattle.read_event.proofs.Rows.{prepared, content-name}
+use Rattle.read_event.proofs.Events.{content-rows, same-code, other-code, fits-is, grows}
+use Rattle.read_event.proofs.Events.{left-valid, start-named, left-context, carried-some}
 
 -- ---- what is judged
 

@@ -1,8 +1,8 @@
 use Rattle.spec_fields.specs.Refusal.{numberOf}
-use Rattle.read_step.proofs.Judges.{judge-loose, judge-limit, judge-passes}
+use Rattle.read_event.proofs.Judges.{judge-loose, judge-limit, judge-passes}
 use borrow.Author.Needs.{needs}
-use Rattle.read_step.proofs.judge.Statement.{statement}
-use Rattle.read_step.proofs.judge.Tie as tie
+use Rattle.read_event.proofs.judge.Statement.{statement}
+use Rattle.read_event.proofs.judge.Tie as tie
 
 growth-requires : tie.Need-growth-requires
 growth-requires c κs = search needs

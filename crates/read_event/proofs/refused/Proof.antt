@@ -1,6 +1,6 @@
 use borrow.Author.Needs.{needs}
-use Rattle.read_step.proofs.refused.Statement.{statement}
-use Rattle.read_step.proofs.refused.Tie as tie
+use Rattle.read_event.proofs.refused.Statement.{statement}
+use Rattle.read_event.proofs.refused.Tie as tie
 
 no-strings-requires : tie.Need-no-strings-requires
 no-strings-requires c κs = search needs

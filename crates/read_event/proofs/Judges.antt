@@ -10,7 +10,7 @@ use Rattle.mem_state.specs.declared.Strings.{Strings}
 use Rattle.mem_state.specs.declared.Growth.{Growth}
 use Rattle.read_production.specs.declared.ProductionRead.{ProductionRead}
 use Rattle.grammar_update.specs.Growth.{growthOf, fitsIn}
-use Rattle.read_step.specs.Judge.{LooseHere, judgeNumber, JudgePost}
+use Rattle.read_event.specs.Judge.{LooseHere, judgeNumber, JudgePost}
 
 module _ {work : List ℕ} {c : Core} {p : ProductionRead} {s : Strings} {g : Growth} {l : Bool}
     (growth : g ≡ growthOf work c (p .kind) (p .learned) s) (is : LooseHere work c p s l) where

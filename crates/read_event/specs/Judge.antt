@@ -30,11 +30,12 @@ use Rattle.grammar_update.specs.Growth.{growthOf, fitsIn}
 use Rattle.read_contract.specs.Outcome.{Outcome}
 use Rattle.read_literal.specs.Literal.{Cleared}
 use Rattle.read_production.specs.declared.ProductionRead.{ProductionRead}
+use Rattle.read_production.specs.Production.{ProductionPost}
 use Rattle.read_qname.specs.Texts.{TextRead}
 use Rattle.read_qname.specs.Qnames.{noStrings}
 use Rattle.read_content.specs.Contents.{ContentBounds}
-use Rattle.read_step.specs.declared.Judged.{Judged}
-use Rattle.read_step.specs.declared.EventRead.{EventRead}
+use Rattle.read_event.specs.declared.Judged.{Judged}
+use Rattle.read_event.specs.declared.EventRead.{EventRead}
 
 -- ---- the tests
 
@@ -70,6 +71,12 @@ pub record EventPre (stream text work : List ℕ) (c : Core) : Type 0 where
   pub room : maxStore ≤ length text
   pub rows : workCells ≤ length work
   pub bounded : Bounded c
+
+-- The event's code is read, and p is its production.
+pub record CodeRead (s : Settings) (stream work : List ℕ) (c : Core) (p : ProductionRead) :
+    Type 0 where
+  pub post : ProductionPost s stream (c .at) (c .mode) (c .top) (c .learned) work p
+  pub good : p .number ≡ 0
 
 abbrev pub noGrowth : Growth
 noGrowth = record { enters = false; teaches = false; site = 0; kind = 0; name = 0; uri = 0 }

@@ -44,8 +44,8 @@ use Rattle.read_production.specs.Production.{IsCode, ProductionBounds}
 use Rattle.read_qname.specs.Qnames.{tablesAt}
 use Rattle.read_content.specs.declared.Content.{Content}
 use Rattle.read_content.specs.Contents.{ContentRows, ContentBounds, ContentMeans}
-use Rattle.read_step.specs.Judge.{LooseHere}
-use Rattle.read_step.proofs.Rows.{kind-text, name-text}
+use Rattle.read_event.specs.Judge.{LooseHere}
+use Rattle.read_event.proofs.Rows.{kind-text, name-text}
 
 -- ---- productions and names
 

@@ -22,7 +22,41 @@ use Rattle.open_elements.specs.Opened.{Turned}
 use Rattle.grammar_update.specs.After.{movedTo}
 use Rattle.read_contract.specs.Outcome.{Outcome}
 use Rattle.read_literal.specs.Literal.{laidAt, Cleared}
-use Rattle.read_step.specs.declared.Stepped.{Stepped}
+use Rattle.read_event.specs.declared.Stepped.{Stepped}
+
+-- ---- the answer
+
+-- The numbers after the event.
+abbrev pub coreOf : Stepped → Core
+coreOf r =
+    record {
+      at = r .at;
+      stored = r .stored;
+      uris = r .uris;
+      names = r .names;
+      values = r .values;
+      learned = r .learned;
+      grammars = r .grammars;
+      mode = r .mode;
+      top = r .top;
+      depth = r .depth;
+    }
+
+abbrev pub steppedAs : ℕ → Core → Stepped
+steppedAs number c =
+    record {
+      number = number;
+      at = c .at;
+      stored = c .stored;
+      uris = c .uris;
+      names = c .names;
+      values = c .values;
+      learned = c .learned;
+      grammars = c .grammars;
+      mode = c .mode;
+      top = c .top;
+      depth = c .depth;
+    }
 
 -- Bounds alone; the event's cells begin at this one.
 pub record StepPre (stream events text work : List ℕ) (c : Core) (cell : ℕ) : Type 0 where
@@ -38,7 +72,7 @@ pub record StepPre (stream events text work : List ℕ) (c : Core) (cell : ℕ) 
 -- A refusal leaves all as it was, but for the text that it laid, which is cleared.
 pub record StepRefused (events text work : List ℕ) (c : Core) (events′ text′ work′ : List ℕ)
     (r : Stepped) : Type 0 where
-  pub core : r .core ≡ c
+  pub core : coreOf r ≡ c
   pub events-is : events′ ≡ events
   pub work-is : work′ ≡ work
   pub cleared : Cleared text (c .stored) text′
@@ -52,13 +86,13 @@ pub record StepLaid (events text work : List ℕ) (c : Core) (cell : ℕ) (event
   pub events-is : events′ ≡ take cell events ++ row ++ drop (cell + cellsPerEvent) events
   pub x : Text
   pub text-is : text′ ≡ laidAt text (c .stored) x
-  pub stored-is : r .core .stored ≡ c .stored + length x
+  pub stored-is : r .stored ≡ c .stored + length x
   pub strings : Strings
   pub growth : Growth
   pub work-is : work′ ≡ grown c growth (joinedStrings c strings work)
   pub work-size : length work′ ≡ length work
-  pub core-is : r .core
-      ≡ turned (counted (movedTo c (r .core .at) (r .core .stored)) strings growth) (growth .kind)
+  pub core-is : coreOf r
+      ≡ turned (counted (movedTo c (r .at) (r .stored)) strings growth) (growth .kind)
       (growth .name)
 
 -- ---- by the definitions
@@ -76,11 +110,11 @@ pub record StepMeans (events : List ℕ) (c : Core) (cell : ℕ) (opened events�
 
 pub record StepPost (s : Settings) (stream events text work : List ℕ) (c : Core) (cell : ℕ)
     (events′ text′ work′ : List ℕ) (r : Stepped) : Type 0 where
-  pub bounded : Bounded (r .core)
-  pub inside : r .core .at ≤ 8 * length stream
+  pub bounded : Bounded (coreOf r)
+  pub inside : r .at ≤ 8 * length stream
   pub refused : 0 < r .number → StepRefused events text work c events′ text′ work′ r
   pub laid : r .number ≡ 0 → StepLaid events text work c cell events′ text′ work′ r
   pub meant : (w : Rows) (opened : List ℕ)
       → Represents work (inStore text (c .stored)) c w opened → Topped c opened
       → Outcome (step sizes s (contextAt text c w opened)) stream (c .at) (r .number)
-      (r .core .at) (StepMeans events c cell opened events′ text′ work′ (r .core))
+      (r .at) (StepMeans events c cell opened events′ text′ work′ (coreOf r))
