@@ -1,1 +1,1 @@
-pub mod Learned
+pub mod Codes

@@ -1,12 +1,18 @@
 // One event of a stream, read: its code, then the rest by its production, and the one place where
 // its rows join memory. What the functions ask and leave is in specs of `read_event`.
+ghost use mathlib.Core.Bool.{true, false};
 ghost use Rattle.settings.specs.Meant.{settingsFrom};
 ghost use Rattle.read_event.specs.Judge.{CodeRead};
 ghost use Rattle.read_event.specs.Step.{StepPre, StepPost};
-ghost use Rattle.read_step.specs.Learned.{LearnedRead};
+ghost use Rattle.read_step.specs.Codes.{ByCode};
 use event_code::AT;
 use event_code::CH;
+use event_code::ED;
+use event_code::EE;
+use event_code::SD;
+use event_code::SE;
 use mem_state::Core;
+use mem_state::IN_ELEMENT;
 use read_event::Stepped;
 use read_production::ProductionRead;
 use settings::Settings;
@@ -52,15 +58,44 @@ fn learned(
     work: &mut [u32],
 ) -> Stepped
     requires { ⌜ StepPre (now stream) (now events) (now text) (now work) c cell ⌝ }
-    requires { ⌜ LearnedRead (settingsFrom o) (now stream) (now work) c p ⌝ }
+    requires { ⌜ ByCode true (settingsFrom o) (now stream) (now work) c p ⌝ }
     ensures { λ r. ⌜
         StepPost (settingsFrom o) (now (stream .entry)) (now (events .entry)) (now (text .entry))
         (now (work .entry)) c cell (now (events .exit)) (now (text .exit)) (now (work .exit)) r ⌝ }
 {
     let kind = p.kind;
     match kind {
+        SE => read_tags::known_element(p, c, cell, events, work),
         AT => read_known::known_attribute(o.aligned, stream, p, c, cell, events, text, work),
         CH => read_known::known_characters(o.aligned, stream, p, c, cell, events, text, work),
+        _ => read_tags::known_end(p, c, cell, events),
+    }
+}
+
+// Reads an event after its code, by a production that is not learned.
+fn fixed(
+    o: Settings,
+    stream: &[u8],
+    p: ProductionRead,
+    c: Core,
+    cell: usize,
+    events: &mut [u32],
+    text: &mut [u32],
+    work: &mut [u32],
+) -> Stepped
+    requires { ⌜ StepPre (now stream) (now events) (now text) (now work) c cell ⌝ }
+    requires { ⌜ ByCode false (settingsFrom o) (now stream) (now work) c p ⌝ }
+    ensures { λ r. ⌜
+        StepPost (settingsFrom o) (now (stream .entry)) (now (events .entry)) (now (text .entry))
+        (now (work .entry)) c cell (now (events .exit)) (now (text .exit)) (now (work .exit)) r ⌝ }
+{
+    if (p.kind == EE) & (c.mode == IN_ELEMENT) {
+        return read_tags::end_tag(p, c, cell, events, work);
+    }
+    let kind = p.kind;
+    match kind {
+        SD => read_tags::start_document(p, c, cell, events),
+        ED => read_tags::end_document(p, c, cell, events),
         _ => general(o, stream, p, c, cell, events, text, work),
     }
 }
@@ -87,5 +122,5 @@ pub fn step(
     if p.learned {
         return learned(o, stream, p, c, cell, events, text, work);
     }
-    general(o, stream, p, c, cell, events, text, work)
+    fixed(o, stream, p, c, cell, events, text, work)
 }

@@ -1,5 +1,6 @@
 use Rattle.read_event.proofs.Steps.{event-asks, step-refused}
 use Rattle.read_event.proofs.Returns.{production-asks, code-refused}
+use mathlib.Core.Path.{refl}
 use native.Mathlib.Omega.{arith}
 use borrow.Author.Needs.{needs}
 use Rattle.read_step.proofs.step.Statement.{statement}
@@ -14,7 +15,7 @@ answer-requires : tie.Need-answer-requires
 answer-requires c κs = search needs
 
 same-length : tie.Need-same-length
-same-length c = search needs
+same-length c = refl
 
 returns : tie.Need-returns
 returns c =
@@ -30,9 +31,14 @@ learned-requires c κs =
     .before .before .pre in
     let read-production = c .before .before .before .before .before .before .read-production in
     let if1 = c .before .before .before .before .if1 in
-    let if2 = c .before .before .before .if2 in
-    (pre, record { code = record { post = (read-production .ensures); good = if1 .left }; learned =
-    if2 .taken })
+    let if2 = c .before .before .before .if2 in (
+      pre,
+      record {
+        code = record { post = (read-production .ensures); good = if1 .left };
+        is = if2
+            .taken;
+      },
+    )
 
 same-length-2 : tie.Need-same-length-2
 same-length-2 c = c .before .before .before .before .before .events .given
@@ -46,13 +52,20 @@ same-length-4 c = c .before .work .given
 returns-2 : tie.Need-returns-2
 returns-2 c = c .before .before .before .before .before .before .learned .ensures
 
-general-requires : tie.Need-general-requires
-general-requires c κs =
+fixed-requires : tie.Need-fixed-requires
+fixed-requires c κs =
     let pre = c .before .before .before .before .before .before .before .before .before .before
     .before .before .pre in
     let read-production = c .before .before .before .before .before .before .read-production in
     let if1 = c .before .before .before .before .if1 in
-    (pre, record { post = (read-production .ensures); good = if1 .left })
+    let if2 = c .before .before .before .if2 in (
+      pre,
+      record {
+        code = record { post = (read-production .ensures); good = if1 .left };
+        is = if2
+            .left;
+      },
+    )
 
 same-length-5 : tie.Need-same-length-5
 same-length-5 c = c .before .before .before .before .before .events2 .given
@@ -64,7 +77,7 @@ same-length-7 : tie.Need-same-length-7
 same-length-7 c = c .before .work2 .given
 
 returns-3 : tie.Need-returns-3
-returns-3 c = c .before .before .before .before .before .before .general .ensures
+returns-3 c = c .before .before .before .before .before .before .fixed .ensures
 
 pub step-spec : {M : Type 1} → statement M
 step-spec =
@@ -79,7 +92,7 @@ step-spec =
     same-length-3
     same-length-4
     returns-2
-    general-requires
+    fixed-requires
     same-length-5
     same-length-6
     same-length-7
