@@ -331,6 +331,7 @@ module _ (opening text : List ℕ) (attr : Bool) (u x : Text) {names uri stored 
               (record {
                 old = λ j. absurd (true≢false j);
                 new = λ _. (refl, ltb-true names maxNames fits, record { short = short; chars = ok .chars }, hashed);
+                unhashed = λ j. absurd (true≢false j);
                 stored-is = refl;
                 store = ok .store;
               });
@@ -363,6 +364,7 @@ module _ (opening text : List ℕ) (attr : Bool) (u x : Text) {names uri stored 
             bounds = λ _. record {
               old = λ _. omega (arith, f .within);
               new = λ j. absurd (true≢false (sym j));
+              unhashed = λ _. refl;
               stored-is = omega arith;
               store = p .store;
             };

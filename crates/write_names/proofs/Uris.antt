@@ -231,6 +231,7 @@ module _ (opening text : List ℕ) (x : Text) {uris stored row : ℕ} {work : Li
         bounds = λ _. record {
           old = λ _. omega (arith, f .within);
           new = λ j. absurd (true≢false (sym j));
+          unhashed = refl;
           stored-is = omega arith;
           store = p .store;
         };
@@ -251,6 +252,7 @@ module _ (opening text : List ℕ) (x : Text) {uris stored row : ℕ} {work : Li
             (record {
               old = λ j. absurd (true≢false j);
               new = λ _. (refl, ltb-true uris maxUris fits, record { short = short; chars = ok .chars });
+              unhashed = refl;
               stored-is = refl;
               store = ok .store;
             });

@@ -62,6 +62,7 @@ pub record NameBounds (x : Text) (names stored : ℕ) (r : StringJudged) : Type 
   pub old : r .joins ≡ false → r .row < names
   pub new : r .joins ≡ true
       → (r .row ≡ names) × (names < maxNames) × Written x × (r .hash ≡ hashOf x)
+  pub unhashed : r .joins ≡ false → r .hash ≡ 0
   pub stored-is : r .stored ≡ stored + cond (r .joins) (length x) 0
   pub store : r .stored ≤ maxStore
 

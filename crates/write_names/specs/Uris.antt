@@ -53,6 +53,7 @@ uriBits uris row joins x a =
 pub record UriBounds (x : Text) (uris stored : ℕ) (r : StringJudged) : Type 0 where
   pub old : r .joins ≡ false → r .row < uris
   pub new : r .joins ≡ true → (r .row ≡ uris) × (uris < maxUris) × Written x
+  pub unhashed : r .hash ≡ 0
   pub stored-is : r .stored ≡ stored + cond (r .joins) (length x) 0
   pub store : r .stored ≤ maxStore
 

@@ -17,7 +17,7 @@ use Rattle.spec_fields.specs.Refusal.{Answer, refused, accepted}
 use Rattle.text.specs.Text.{Text, Span, part}
 use Rattle.spec_exi.specs.Event.{Event, mapEvent}
 use Rattle.spec_exi.specs.Settings.{Settings}
-use Rattle.spec_exi.specs.Sizes.{sizes, maxEvents, maxString, maxOpen, maxNames}
+use Rattle.spec_exi.specs.Sizes.{sizes, maxEvents, maxString, maxNames}
 use Rattle.spec_exi.specs.Context.{Context, next}
 use Rattle.spec_exi.specs.Strict.{eventBits}
 use Rattle.spec_exi.specs.Writer.{Stored, faultOf, writeEvents}
@@ -29,13 +29,12 @@ use Rattle.event.proofs.Laws.{events-at, events-cut, events-end}
 use Rattle.mem_layout.specs.Layout.{nameRows}
 use Rattle.mem_rows.specs.Rows.{Rows, isOver}
 use Rattle.mem_state.specs.declared.Core.{Core}
-use Rattle.mem_state.specs.Holds.{Bounded, Topped}
+use Rattle.mem_state.specs.Holds.{Topped}
 use Rattle.open_elements.specs.declared.State.{State}
 use Rattle.open_elements.specs.Opened.{openedIn, innermostIn, withTop, Kept}
 use Rattle.open_elements.proofs.Opened.{last-top, innermost-is, innermost-small}
 use Rattle.open_elements.proofs.Tops.{represents-top, bounded-top, stored-row, same-rows}
 use Rattle.open_elements.proofs.Over.{context-over, context-going}
-use Rattle.write_field.specs.Written.{Put}
 use Rattle.write_field.proofs.Written.{put-then, put-blank, put-nothing}
 use Rattle.write_partition.proofs.Tests.{fault-none}
 use Rattle.write_qname.specs.Premise.{contextIn}

@@ -135,6 +135,8 @@ module _ {text : List ℕ} {x : Text} {owner values stored : ℕ} {work : List �
                 which = omega arith;
                 literal = λ z. absurd (omega arith);
                 new = λ z. absurd (true≢false (sym z));
+                unhashed = λ _. refl;
+                unnumbered = λ z. absurd (omega arith);
                 stored-is = rw (ne-eqb j neither (λ z. omega arith)) (omega arith);
                 store = ask .store;
               };
@@ -234,6 +236,8 @@ module _ {text : List ℕ} {x : Text} {owner values stored : ℕ} {work : List �
                   which = omega arith;
                   literal = λ _. record { short = omega arith; chars = empty-chars x z };
                   new = λ j. absurd (true≢false (sym j));
+                  unhashed = λ _. refl;
+                  unnumbered = λ _. refl;
                   stored-is = omega (arith, z);
                   store = omega (arith, ask .store);
                 };
@@ -262,6 +266,8 @@ module _ {text : List ℕ} {x : Text} {owner values stored : ℕ} {work : List �
                     which = omega arith;
                     literal = λ _. judged;
                     new = λ _. (refl, ltb-true values maxValues l, b);
+                    unhashed = λ j. absurd (true≢false j);
+                    unnumbered = λ _. refl;
                     stored-is = refl;
                     store = q .store;
                   };

@@ -96,6 +96,8 @@ pub record ValueBounds (x : Text) (values stored : ℕ) (r : ValueJudged) : Type
   pub literal : r .partition ≡ neither → Written x
   pub new : r .joins ≡ true
       → (r .partition ≡ neither) × (values < maxValues) × (r .hash ≡ hashOf x)
+  pub unhashed : r .joins ≡ false → r .hash ≡ 0
+  pub unnumbered : r .partition ≡ neither → r .id ≡ 0
   pub stored-is : r .stored ≡ stored + cond (eqb (r .partition) neither) (length x) 0
   pub store : r .stored ≤ maxStore
 
