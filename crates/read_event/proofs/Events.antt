@@ -73,8 +73,8 @@ module _ (w : Rows) where
   carried-none false k n h = refl
 
 module _ {work text : List ℕ} {c : Core} {w : Rows} {opened : List ℕ}
-    (rep : Represents work (inStore text (c .stored)) c w opened) (b : Bounded c) (top : Topped c opened)
-    (s : Settings)
+    (rep : Represents work (inStore text (c .stored)) c w opened) (b : Bounded c)
+    (top : Topped c opened) (s : Settings)
     {p : ProductionRead} (bounds : ProductionBounds (c .mode) p) {x : Code}
     (code : IsCode s w (take (c .stored) text) (c .mode) opened p x) where
   abbrev here : CodeRows work (c .learned) (c .mode) (c .top) w opened
@@ -149,11 +149,12 @@ module _ {work text : List ℕ} {c : Core} {w : Rows} {opened : List ℕ}
     learned-fits : p .learned ≡ true → fits (x .production) e ≡ true
     learned-fits l =
         ap (λ (q : Production). fits q e) (code .production)
-        ∙ fits-as (kindAt (p .kind)) (cond (p .learned) (carriedAt w (kindAt (p .kind)) (p .name)) none)
-        e kind-of
+        ∙ fits-as (kindAt (p .kind))
+        (cond (p .learned) (carriedAt w (kindAt (p .kind)) (p .name)) none) e kind-of
         (split (carries (kindAt (p .kind)))
         (λ k.
-        ap (λ o. fitsName o (nameOf e)) (carried-some w (p .learned) (kindAt (p .kind)) (p .name) l k)
+        ap (λ o. fitsName o (nameOf e))
+        (carried-some w (p .learned) (kindAt (p .kind)) (p .name) l k)
         ∙ ap (fitsName (some (placedAt w (p .name))))
         (name-text (v .0) ∙ ap (Option·map nameText) (own l k))
         ∙ fits-own (placedAt w (p .name)))

@@ -159,8 +159,8 @@ module _ {s : Settings} {stream text work : List ℕ} {c : Core}
       -- A refusal after the content: what was laid is cleared.
       module _ {text₂ : List ℕ} (k : ℕ) (h : 0 < k)
           (cl : text₂ ≡ laidAt text₁ (c .stored) (replicate (y .stored - c .stored) 0)) where
-        dropped : ((w : Rows) (opened : List ℕ) → Represents work (inStore text (c .stored)) c w opened
-            → Topped c opened
+        dropped : ((w : Rows) (opened : List ℕ)
+            → Represents work (inStore text (c .stored)) c w opened → Topped c opened
             → Declined (step sizes s (contextAt text c w opened)) stream (c .at) k)
             → EventPost s stream text work c text₂ (refusedAs k c)
         dropped d =
@@ -178,8 +178,8 @@ module _ {s : Settings} {stream text work : List ℕ} {c : Core}
 
       -- ---- the content over rows
 
-      module _ {w : Rows} {opened : List ℕ} (rep : Represents work (inStore text (c .stored)) c w opened)
-          (top : Topped c opened) where
+      module _ {w : Rows} {opened : List ℕ}
+          (rep : Represents work (inStore text (c .stored)) c w opened) (top : Topped c opened) where
         abbrev C : Context
         C = contextAt text c w opened
 
@@ -243,8 +243,8 @@ module _ {s : Settings} {stream text work : List ℕ} {c : Core}
           abbrev g : Growth
           g = growthOf work c (p .kind) (p .learned) (y .strings)
 
-          module _ {w : Rows} {opened : List ℕ} (rep : Represents work (inStore text (c .stored)) c w opened)
-              (top : Topped c opened) where
+          module _ {w : Rows} {opened : List ℕ}
+              (rep : Represents work (inStore text (c .stored)) c w opened) (top : Topped c opened) where
             abbrev content-got : Gotten (readContent sizes s (tablesAt text (c .stored) w)
                 (state rep top) (kindAt (p .kind)) (carriedBy p w)) stream (p .next) (y .next)
             content-got = content-outcome rep top .read z₂

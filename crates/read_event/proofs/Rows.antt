@@ -1,5 +1,5 @@
--- What memory that represents rows gives to the readers of an event's parts, and the event that they
--- read.
+-- What memory that represents rows gives to the readers of an event's parts, and the event that
+-- they read.
 use Prim.Native.Nat.{ℕ}
 use native.Mathlib.Omega.{arith}
 use mathlib.Core.Path.{_≡_, refl, sym, ap}

@@ -103,8 +103,8 @@ module _ {stream events text work : List ℕ} {c : Core} {cell : ℕ}
 
       -- ---- over rows
 
-      module _ {w : Rows} {opened : List ℕ} (rep : Represents work (inStore text (c .stored)) c w opened)
-          (top : Topped c opened) {v : Event Placed × Context}
+      module _ {w : Rows} {opened : List ℕ}
+          (rep : Represents work (inStore text (c .stored)) c w opened) (top : Topped c opened) {v : Event Placed × Context}
           (m : EventMeans text′ c w opened r v) where
         step-means : {events′ : List ℕ}
             → events′ ≡ take cell events ++ cellsOf (meaning (r .event))
@@ -169,7 +169,8 @@ module _ {stream events text work : List ℕ} {c : Core} {cell : ℕ}
       pub step-read : {work₁ work₂ events′ : List ℕ} {d : Core}
           → work₁ ≡ joinedStrings c (r .strings) work → work₂ ≡ grown c (r .growth) work₁
           → events′ ≡ take cell events ++ cellsOf (meaning (r .event))
-          ++ drop (cell + cellsPerEvent) events → d ≡ coreAfter c (r .next) (r .stored) (r .strings) (r .growth)
+          ++ drop (cell + cellsPerEvent) events
+          → d ≡ coreAfter c (r .next) (r .stored) (r .strings) (r .growth)
           → StepPost s stream events text work c cell events′ text′ work₂
           (steppedAs 0 d)
       step-read {work₁} {work₂} {events′} {d} a b e f =

@@ -35,8 +35,8 @@ use Rattle.read_content.proofs.Returns.{characters-refused, characters-read}
 use Rattle.read_event.specs.Judge.{CodeRead, judgeNumber}
 use Rattle.read_event.specs.Step.{steppedAs, StepPre, StepPost}
 use Rattle.read_known.specs.Known.{uriPart, localPart, movedOn, LearnedPre}
-use Rattle.read_known.proofs.Known.{knownStrings, moved-core, known-strict, content-pre, quick-refused}
-use Rattle.read_known.proofs.Known.{growth-by, quick-read}
+use Rattle.read_known.proofs.Known.{knownStrings, moved-core, growth-by, known-strict}
+use Rattle.read_known.proofs.Known.{content-pre, quick-refused, quick-read}
 
 -- The cells of events with this one from a cell on.
 abbrev pub withEvent : List ℕ → ℕ → declared.Event → List ℕ
@@ -110,8 +110,8 @@ module _ {s : Settings} {stream events text work : List ℕ} {c : Core} {cell : 
       x) where
     name-post : NamePost (s .alignment) true
         (λ w. p .learned ≡ true → Carried w (p .name) (p .uri) (p .local))
-        (λ w. cond (p .learned) (some (placedAt w (p .name))) none) stream (p .next) text work c text
-        (carriedAs work (p .next) (c .stored) (p .name) (p .uri) (p .local))
+        (λ w. cond (p .learned) (some (placedAt w (p .name))) none) stream (p .next) text work c
+        text (carriedAs work (p .next) (c .stored) (p .name) (p .uri) (p .local))
     name-post = as-carried learned (carried-read (name-asks (content-pre pre code)) true)
 
     pub attribute-stopped : 0 < x .number
@@ -169,7 +169,8 @@ module _ {s : Settings} {stream events text work : List ℕ} {c : Core} {cell : 
         quick-read pre code
         (characters-read (content-pre pre code) (as-set post) joins (kind-is CH kind) kind z) refl
         (known-strict learned)
-        (growth-by work c (knownStrings (joiningOf x) 0 0 (c .top)) kind learned) refl (joined (c .top) h w)
+        (growth-by work c (knownStrings (joiningOf x) 0 0 (c .top)) kind learned) refl
+        (joined (c .top) h w)
         (stored e (ap Characters u))
         (ap (λ n. movedOn c (x .next) (x .stored) (x .joins) false n (c .top) (c .depth)) m
         ∙ moved-core c (x .next) (x .stored) (joiningOf x) 0 0 (c .top) false

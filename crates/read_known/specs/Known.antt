@@ -1,4 +1,5 @@
--- What a quick step asks and leaves. It leaves what any step does (crates/read_event/specs/Step.antt).
+-- What a quick step asks and leaves. It leaves what any step does
+-- (crates/read_event/specs/Step.antt).
 use Prim.Native.Nat.{ℕ, _+_, _*_, _≤_}
 use mathlib.Core.Path.{_≡_}
 use mathlib.Core.Bool.{Bool, true, cond}

@@ -76,7 +76,8 @@ fn attribute(work: &[u32], uri: u32, local: u32, value: Part) -> Event
     requires { ⌜ UriRow (now work) uri ⌝ }
     requires { ⌜ NameRow (now work) local ⌝ }
     ensures { λ r. ⌜ r
-        ≡ Attribute (uriPart (now (work .entry)) uri) (localPart (now (work .entry)) local) value ⌝ }
+        ≡ Attribute (uriPart (now (work .entry)) uri) (localPart (now (work .entry)) local)
+        value ⌝ }
 {
     let u = uri_part(work, uri);
     let l = local_part(work, local);

@@ -36,7 +36,8 @@ use Rattle.read_event.specs.declared.Stepped.{Stepped}
 use Rattle.read_event.specs.Judge.{CodeRead, LooseHere, judgeNumber}
 use Rattle.read_event.specs.Step.{steppedAs, StepPre, StepPost}
 use Rattle.read_known.specs.Known.{movedOn}
-use Rattle.read_known.proofs.Known.{moved-core, known-strict, content-pre, quick-stopped, quick-read}
+use Rattle.read_known.proofs.Known.{moved-core, known-strict, content-pre, quick-stopped}
+use Rattle.read_known.proofs.Known.{quick-read}
 use Rattle.read_tags.specs.Tags.{TagPre, Stored, Plain, PlainPost, TagPost}
 
 module _ {s : Settings} {stream events text work : List ℕ} {c : Core} {cell : ℕ}
@@ -172,7 +173,11 @@ plain-outside {work} {c} {p} f low =
     record {
       strict = record {
         learned = λ l. absurd (true≢false (sym l ∙ f));
-        fixed = λ _. record { row = 0; found = found-outside (c .top) (p .kind) 0 (c .learned) low; is = refl };
+        fixed = λ _. record {
+          row = 0;
+          found = found-outside (c .top) (p .kind) 0 (c .learned) low;
+          is = refl;
+        };
       };
       untaught = rw (f, tag, content);
     }

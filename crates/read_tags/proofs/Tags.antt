@@ -1,7 +1,7 @@
 -- The answers of the quick step of a start element.
 use Prim.Native.Nat.{ℕ, _+_, _≤_, _<_}
 use native.Mathlib.Omega.{arith}
-use mathlib.Core.Path.{_≡_, refl, sym, ap, subst, _∙_}
+use mathlib.Core.Path.{_≡_, refl, sym, ap, _∙_}
 use mathlib.Core.Bool.{Bool, true, false, cond, _&&_, not}
 use mathlib.Core.List.{List, _++_}
 use mathlib.Core.Option.{none, some}
@@ -32,7 +32,7 @@ use Rattle.read_content.specs.Contents.{ContentPost}
 use Rattle.read_content.proofs.Contents.{kind-is}
 use Rattle.read_content.proofs.Returns.{name-asks, element-read}
 use Rattle.read_event.specs.Judge.{CodeRead, judgeNumber}
-use Rattle.read_event.specs.Step.{steppedAs, StepPre, StepPost}
+use Rattle.read_event.specs.Step.{steppedAs, StepPre}
 use Rattle.read_known.specs.Known.{uriPart, localPart, movedOn}
 use Rattle.read_known.proofs.Known.{knownStrings, moved-core, known-strict, content-pre, growth-by}
 use Rattle.read_known.proofs.Known.{quick-stopped, quick-read}
@@ -78,8 +78,8 @@ module _ {events : List ℕ} (work : List ℕ) {c : Core} {cell : ℕ} {p : Prod
       (code : CodeRead s stream work c p) where
     name-post : NamePost (s .alignment) false
         (λ w. p .learned ≡ true → Carried w (p .name) (p .uri) (p .local))
-        (λ w. cond (p .learned) (some (placedAt w (p .name))) none) stream (p .next) text work c text
-        (carriedAs work (p .next) (c .stored) (p .name) (p .uri) (p .local))
+        (λ w. cond (p .learned) (some (placedAt w (p .name))) none) stream (p .next) text work c
+        text (carriedAs work (p .next) (c .stored) (p .name) (p .uri) (p .local))
     name-post = as-carried learned (carried-read (name-asks (content-pre pre code)) false)
 
     content : ContentPost (s .alignment) stream (p .next) text work c p text elementAs

@@ -2,7 +2,7 @@
 -- (crates/read_event/specs/Step.antt).
 use Prim.Native.Nat.{ℕ, _+_, _≤_}
 use mathlib.Core.Path.{_≡_}
-use mathlib.Core.Bool.{Bool, true, false, _&&_, not}
+use mathlib.Core.Bool.{Bool, false, _&&_, not}
 use mathlib.Core.List.{List, _++_}
 use lib.ListN.{length, take, drop}
 use lib.Dec.{leb}
@@ -13,7 +13,6 @@ use Rattle.spec_exi.specs.Grammar.{kindNumber}
 use Rattle.event.specs.declared.Event as declared
 use Rattle.event.specs.Cells.{cellsOf, meaning}
 use Rattle.event_code.specs.Numbers.{teachesIn}
-use Rattle.mem_layout.specs.Layout.{workCells}
 use Rattle.mem_state.specs.declared.Core.{Core}
 use Rattle.mem_state.specs.Holds.{Bounded}
 use Rattle.read_production.specs.declared.ProductionRead.{ProductionRead}

@@ -1,6 +1,6 @@
-// Quick steps: an event without a value that teaches nothing, as are elements by learned productions,
-// end tags in an element's content, and start and end of the document. What the functions ask and
-// leave is in specs/Tags.antt.
+// Quick steps: an event without a value that teaches nothing, as are elements by learned
+// productions, end tags in an element's content, and start and end of the document. What the
+// functions ask and leave is in specs/Tags.antt.
 ghost use Prim.Native.Nat.{_+_, _≤_};
 ghost use mathlib.Core.Path.{_≡_};
 ghost use mathlib.Core.Bool.{true, false};
