@@ -64,7 +64,8 @@ int main(int argc, char **argv) {
       PLUMETHRIFT_MAX_READINGS, events, PLUMETHRIFT_EVENT_CELLS, text, PLUMETHRIFT_TEXT_CELLS, work,
       PLUMETHRIFT_READER_WORK_CELLS);
   if (reply.number != PLUMETHRIFT_OK) {
-    fprintf(stderr, "refused: %" PRIu32 " at %s %" PRIu32 "\n", reply.number,
+    const plumethrift_name name = plumethrift_refusal_name(reply.number);
+    fprintf(stderr, "refused: %" PRIu32 " %s at %s %" PRIu32 "\n", reply.number, name.text,
             reply.number < PLUMETHRIFT_STRUCTURE ? "event" : "reading", reply.index);
     return 1;
   }

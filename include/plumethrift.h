@@ -245,7 +245,8 @@ typedef struct plumethrift_list_reply {
  * Takes the readings out of the list that is all of `events`, with its strings in `text`: both are
  * only read, and may have any length. `stamps` and `movements` are lent for writing, at least
  * PLUMETHRIFT_MAX_READINGS cells each. Refusals 1, 12 and 16 to 19. A string that lies outside the
- * store is STRUCTURE.
+ * store is STRUCTURE. Where `event_cells` is no multiple of 9, the rest is one more event, which is
+ * STRUCTURE.
  */
 plumethrift_readings_reply plumethrift_readings_of_list(const uint32_t *events, size_t event_cells,
                                                         const uint32_t *text, size_t text_cells,
@@ -281,7 +282,7 @@ plumethrift_readings_reply plumethrift_read_readings(plumethrift_settings settin
  * Makes the list of readings, which is left in `events` and `text`, and writes it. Lent for writing
  * are `events` and `text` as to plumethrift_list_of_readings, and `stream` and `work` as to
  * plumethrift_write. ROOM of any part comes first, then refusals 12 and 17 to 19, with the index of
- * a reading, then 2 and 3.
+ * a reading, then 2 and 3, with index 0.
  */
 plumethrift_write_reply plumethrift_write_readings(plumethrift_settings settings,
                                                    uint8_t *stream, size_t stream_octets,
@@ -291,10 +292,7 @@ plumethrift_write_reply plumethrift_write_readings(plumethrift_settings settings
                                                    uint32_t *text, size_t text_cells,
                                                    uint32_t *work, size_t work_cells);
 
-/*
- * The name of a refusal, "ROOM" to "PLACE" for 1 to 15; "" for any other number, those of readings
- * alone among them.
- */
+/* The name of a refusal, "ROOM" to "NOT_LATER" for 1 to 19; "" for any other number. */
 plumethrift_name plumethrift_refusal_name(uint32_t number);
 
 /* The sizes to lend, at least: what the macros of the same names say. */
@@ -304,6 +302,7 @@ typedef struct plumethrift_sizes_to_lend {
   size_t stream_octets;
   size_t reader_work_cells;
   size_t writer_work_cells;
+  size_t max_readings; /* stamps, and as many movements */
 } plumethrift_sizes_to_lend;
 
 plumethrift_sizes_to_lend plumethrift_sizes(void);

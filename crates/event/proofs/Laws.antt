@@ -4,7 +4,7 @@ use native.Mathlib.Omega.{arith}
 use native.Mathlib.Numerals.{towards-suc}
 use mathlib.Core.Path.{_≡_, refl, sym, ap, _∙_}
 use mathlib.Core.Bool.{true, false, cond, _&&_, and-eq-true-iff}
-use mathlib.Core.List.{List, [], _∷_, _++_, append-assoc}
+use mathlib.Core.List.{List, [], _∷_, _++_, map, append-assoc}
 use mathlib.Core.Option.{none, some}
 use lib.ListN.{length, set, getD, take, drop, replicate, length-append, length-drop, drop-of-length-le}
 use lib.Dec.{eqb}
@@ -12,14 +12,16 @@ use lib.Seq.{length-take-le, drop-cons, take-append-le, drop-append-le, take-at,
 use borrow.Author.Tests.{eqb-true}
 use Rattle.spec_fields.proofs.Tests.{split}
 use Rattle.text.specs.Text.{Span}
-use Rattle.spec_exi.specs.Event.{Event, startDocument, endDocument, endElement}
+use Rattle.spec_exi.specs.Event.{Event, mapEvent, startDocument, endDocument, endElement}
 use Rattle.spec_exi.specs.Event.{startElement, attribute, characters, comment, instruction}
 use Rattle.spec_exi.specs.Sizes.{cellsPerEvent}
+use Rattle.spec_exi.specs.Tables.{Placed, spanOf}
 use Rattle.spec_exi.specs.Writer.{Stored}
+use Rattle.spec_exi.specs.Meaning.{storedOf}
 use Rattle.event.specs.declared.Event as declared
 use Rattle.event.specs.declared.Loaded.the-variants.{Whole, Shape}
 use Rattle.event.specs.Cells.{meaning, Judged, judged, judgedAs, row, zeros, cellsOf, isZeros}
-use Rattle.event.specs.Cells.{ifZeros, ofRow, spanAt, loadedFrom, eventsOf}
+use Rattle.event.specs.Cells.{ifZeros, ofRow, spanAt, loadedFrom, eventsOf, cellsOfAll}
 
 -- ---- the values of the code and those of the format
 
@@ -196,6 +198,32 @@ events-row xs ys n =
 
 pub events-cells : (e : Event Span) (xs : List ℕ) → eventsOf (cellsOf e ++ xs) ≡ some e ∷ eventsOf xs
 events-cells e xs = events-row (cellsOf e) xs (cells-length e) ∙ rw (loaded-cells e)
+
+-- The cells of events mean these events.
+pub cells-mean : (es : List (Event Placed)) → eventsOf (cellsOfAll es) ≡ map storedOf es
+unfolding cellsOfAll eventsOf storedOf
+cells-mean [] = refl
+cells-mean (e ∷ es) =
+    events-cells (mapEvent spanOf e) (cellsOfAll es)
+    ∙ ap (λ (l : List Stored). storedOf e ∷ l) (cells-mean es)
+
+pub cells-append : (a b : List (Event Placed)) → cellsOfAll (a ++ b) ≡ cellsOfAll a ++ cellsOfAll b
+unfolding cellsOfAll
+cells-append [] b = refl
+cells-append (e ∷ a) b =
+    ap (λ (r : List ℕ). cellsOf (mapEvent spanOf e) ++ r) (cells-append a b)
+    ∙ sym (append-assoc (cellsOf (mapEvent spanOf e)) (cellsOfAll a) (cellsOfAll b))
+
+pub cells-size : (es : List (Event Placed)) → length (cellsOfAll es) ≡ 9 * length es
+unfolding cellsOfAll
+cells-size [] = refl
+cells-size (e ∷ es) =
+    omega (
+      arith,
+      length-append (cellsOf (mapEvent spanOf e)) (cellsOfAll es),
+      cells-length (mapEvent spanOf e),
+      cells-size es,
+    )
 
 -- The stored events of n rows, and of what comes after them.
 pub events-append : (n : ℕ) (xs ys : List ℕ) → length xs ≡ 9 * n → eventsOf (xs ++ ys) ≡ eventsOf xs ++ eventsOf ys

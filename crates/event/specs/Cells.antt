@@ -1,14 +1,15 @@
 -- How an event lies in 9 cells, and what 9 cells mean (docs/MEMORY.md, "An event in 9 cells").
 use Prim.Native.Nat.{ℕ}
 use mathlib.Core.Bool.{Bool, cond, _&&_}
-use mathlib.Core.List.{List, [], _∷_}
+use mathlib.Core.List.{List, [], _∷_, _++_}
 use mathlib.Core.Option.{none, some}
 use lib.ListN.{getD}
 use lib.Dec.{eqb}
 use Rattle.text.specs.Text.{Span}
 use Rattle.spec_fields.specs.Refusal.{numberOf, shape}
-use Rattle.spec_exi.specs.Event.{QName, Event, startDocument, endDocument, endElement}
+use Rattle.spec_exi.specs.Event.{QName, Event, mapEvent, startDocument, endDocument, endElement}
 use Rattle.spec_exi.specs.Event.{startElement, attribute, characters, comment, instruction}
+use Rattle.spec_exi.specs.Tables.{Placed, spanOf}
 use Rattle.spec_exi.specs.Writer.{Stored}
 use Rattle.event.specs.declared.Part.{Part}
 use Rattle.event.specs.declared.Row.{Row}
@@ -114,6 +115,11 @@ cellsOf endElement = row cellEE zeros zeros zeros zeros
 cellsOf (characters v) = row cellCH v zeros zeros zeros
 cellsOf (comment x) = row cellCM x zeros zeros zeros
 cellsOf (instruction x y) = row cellPI x y zeros zeros
+
+-- The cells of a list of events, one behind the other.
+unfoldable pub cellsOfAll : List (Event Placed) → List ℕ
+cellsOfAll [] = []
+cellsOfAll (e ∷ es) = cellsOf (mapEvent spanOf e) ++ cellsOfAll es
 
 -- The row that the code holds.
 unfoldable pub rowCells : Row → List ℕ

@@ -1,7 +1,7 @@
 // What the program says beside the events.
 use libc::STDERR_FILENO;
 use libc::STDOUT_FILENO;
-use readings_judge::STRUCTURE;
+use refusal::STRUCTURE;
 
 fn tell(x: &[u8]) {
     io::write_all(STDERR_FILENO, x);
@@ -61,14 +61,16 @@ fn meaning(number: u32) {
     }
 }
 
-// Number, name, where, and the reason. The readings' own refusals, from 16 on, have no names.
-fn refused_at(number: u32, what: &[u8], at: u64) {
+fn numbered(number: u32) {
     tell(b"exi: refused: ");
     io::print_decimal(STDERR_FILENO, number as u64);
-    if number < STRUCTURE {
-        tell(b" ");
-        name(number);
-    }
+    tell(b" ");
+    name(number);
+}
+
+// Number, name, where, and the reason.
+fn refused_at(number: u32, what: &[u8], at: u64) {
+    numbered(number);
     tell(what);
     io::print_decimal(STDERR_FILENO, at);
     tell(b": ");
@@ -76,6 +78,14 @@ fn refused_at(number: u32, what: &[u8], at: u64) {
 
 pub(crate) fn refused(number: u32, index: u32) {
     refused_at(number, b", event ", index as u64);
+    meaning(number);
+    tell(b"\n");
+}
+
+// What a whole stream is refused for.
+pub(crate) fn refused_whole(number: u32) {
+    numbered(number);
+    tell(b": ");
     meaning(number);
     tell(b"\n");
 }

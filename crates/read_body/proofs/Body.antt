@@ -16,6 +16,7 @@ use Rattle.spec_exi.specs.Reader.{Reading, ending, readReply}
 use Rattle.mem_rows.specs.Rows.{Rows, tablesOf, contextOf}
 use Rattle.mem_state.specs.Holds.{contextAt}
 use Rattle.open_elements.specs.declared.State.{State}
+use Rattle.event.specs.Cells.{cellsOfAll}
 use Rattle.read_run.specs.declared.Advanced.{Advanced}
 use Rattle.read_run.specs.Events.{none-read}
 use Rattle.open_elements.specs.Opened.{openedIn}
@@ -24,9 +25,9 @@ use Rattle.read_run.proofs.Laid.{text-same}
 use Rattle.read_run.proofs.Events.{shifted}
 use Rattle.open_elements.proofs.Over.{context-going}
 use Rattle.read_run.proofs.Answers.{Answers, running-answers}
-use Rattle.read_body.specs.declared.ReadReply as declared
+use Rattle.read_body.specs.declared.BodyReply as declared
 use Rattle.read_body.specs.Reply.{replyOf, eventsFilled, textFilled, Attempted}
-use Rattle.read_body.specs.Reply.{cellsOfAll, refusalOf}
+use Rattle.read_body.specs.Reply.{refusalOf}
 use Rattle.read_body.specs.Body.{PlaceIn, BodyReady, answerFrom, RunPost, BodyPost}
 use Rattle.read_body.proofs.Cells.{laid-first, laid-store}
 use Rattle.read_body.proofs.Reply.{attempted-refused, refused-events, refused-text}
@@ -37,7 +38,7 @@ module _ {s : Settings} {stream events text work : List ℕ} {st : State}
     (pre : AdvancePre stream events text work st 0) {events′ text′ work′ : List ℕ} {r : Advanced}
     (p : AdvancePost s stream events text work st 0 events′ text′ work′ r) where
   -- A refusal: on every memory its number is not 0.
-  reply-refused : (number : ℕ) → 0 < number → {reply : declared.ReadReply}
+  reply-refused : (number : ℕ) → 0 < number → {reply : declared.BodyReply}
       → reply ≡ refusalOf number (r .index)
       → ((w : Rows) → BodyReady events text work st w
       → (k : Refusal) × (number ≡ numberOf k)
@@ -45,7 +46,7 @@ module _ {s : Settings} {stream events text work : List ℕ} {st : State}
       → RunPost s stream events text work st events′ text′ reply
   unfolding refusalOf
   reply-refused number some is h =
-      let n = ap (λ (y : declared.ReadReply). y .number) is in
+      let n = ap (λ (y : declared.BodyReply). y .number) is in
       record {
         events-laid = λ z. absurd (omega (arith, n));
         text-laid = λ z. absurd (omega (arith, n));
@@ -69,7 +70,7 @@ module _ {s : Settings} {stream events text work : List ℕ} {st : State}
         running-answers p (h .represents) (h .topped) none-read refl
         (context-going (pre .bounded) (h .represents) _ (h .going))
 
-  pub run-refused : (r .number ≡ 0 → ⊥) → {reply : declared.ReadReply}
+  pub run-refused : (r .number ≡ 0 → ⊥) → {reply : declared.BodyReply}
       → reply ≡ refusalOf (r .number) (r .index)
       → RunPost s stream events text work st events′ text′ reply
   run-refused some is =
@@ -83,7 +84,7 @@ module _ {s : Settings} {stream events text work : List ℕ} {st : State}
 
   module _ (none : r .number ≡ 0) {padded : Bool}
       (e : padded ≡ isPadding (drop (r .state .core .at) (unpack stream))) where
-    pub run-tail : padded ≡ false → {reply : declared.ReadReply}
+    pub run-tail : padded ≡ false → {reply : declared.BodyReply}
         → reply ≡ refusalOf 13 (r .index)
         → RunPost s stream events text work st events′ text′ reply
     unfolding numberOf ending shifted
@@ -94,7 +95,7 @@ module _ {s : Settings} {stream events text work : List ℕ} {st : State}
         (tail, refl, rw (← e, f) at (answers h .over none) ∙ ap (refused tail) i))
 
     module _ (f : padded ≡ true) where
-      abbrev reply : declared.ReadReply
+      abbrev reply : declared.BodyReply
       reply =
           record {
             number = 0;
@@ -148,7 +149,7 @@ module _ {s : Settings} {stream events text work : List ℕ} {st : State}
 -- ---- after it
 
 module _ {s : Settings} {stream events text work : List ℕ} {st : State} {events′ text′ : List ℕ}
-    {r : declared.ReadReply} (p : RunPost s stream events text work st events′ text′ r) where
+    {r : declared.BodyReply} (p : RunPost s stream events text work st events′ text′ r) where
   pub body-accepted : r .number ≡ 0 → BodyPost s stream events text work st events′ text′ r
   body-accepted z =
       record {

@@ -11,7 +11,6 @@ use Rattle.spec_exi.specs.Sizes.{maxStore}
 use Rattle.read_literal.specs.Literal.{laidAt, ZeroFrom}
 use Rattle.read_literal.proofs.Store.{zero-drop}
 use Rattle.read_run.specs.Run.{TextLaid}
-pub use Rattle.read_run.proofs.Laid.{cells-size}
 
 pub drop-zeros : (k n : ℕ) → drop {A = ℕ} k (replicate n 0) ≡ replicate (n - k) 0
 drop-zeros zero n = let e : n - 0 ≡ n = omega arith in rw e

@@ -8,16 +8,16 @@ use Rattle.spec_fields.specs.Refusal.{Refusal, numberOf, Answer, refused, accep
 use Rattle.spec_fields.proofs.Refusal.{refusal-number}
 use Rattle.spec_exi.specs.Reader.{Reading, readReply}
 use Rattle.read_body.specs.Reply.{replyOf, eventsFilled, textFilled, Attempted, refusalOf}
-use Rattle.read_body.specs.declared.ReadReply as declared
+use Rattle.read_body.specs.declared.BodyReply as declared
 
-module _ {events text events′ text′ : List ℕ} {r : declared.ReadReply} where
+module _ {events text events′ text′ : List ℕ} {r : declared.BodyReply} where
   pub attempted-refused : {x : Answer Reading} (k : Refusal) (i number index : ℕ)
       → x ≡ refused k i → number ≡ numberOf k → index ≡ i → r ≡ refusalOf number index
       → Attempted x events text events′ text′ r
   unfolding replyOf readReply refusalOf
   attempted-refused {x} k i number index e n m is =
       let some : 0 < r .number =
-      omega (arith, refusal-number k, ap (λ (y : declared.ReadReply). y .number) is) in
+      omega (arith, refusal-number k, ap (λ (y : declared.BodyReply). y .number) is) in
       record {
         reply = rw (is, e, n, m);
         cells = λ z. absurd (omega arith);

@@ -14,7 +14,7 @@ use Rattle.read_literal.specs.Literal.{ZeroFrom}
 use Rattle.open_elements.specs.declared.State.{State}
 use Rattle.open_elements.specs.Opened.{openedIn}
 use Rattle.read_run.specs.Run.{EventsLaid, TextLaid}
-use Rattle.read_body.specs.declared.ReadReply as declared
+use Rattle.read_body.specs.declared.BodyReply as declared
 use Rattle.read_body.specs.Reply.{Attempted, Filled}
 
 -- A position in the stream.
@@ -38,7 +38,7 @@ answerFrom s stream text st w =
 
 -- Before the clearing.
 pub record RunPost (s : Settings) (stream events text work : List ℕ) (st : State)
-    (events′ text′ : List ℕ) (r : declared.ReadReply) : Type 0 where
+    (events′ text′ : List ℕ) (r : declared.BodyReply) : Type 0 where
   pub events-laid : r .number ≡ 0 → EventsLaid events 0 events′ (r .events)
   pub text-laid : r .number ≡ 0 → TextLaid text (st .core .stored) text′ (r .«code_points»)
   pub meant : (w : Rows) → BodyReady events text work st w
@@ -46,7 +46,7 @@ pub record RunPost (s : Settings) (stream events text work : List ℕ) (st : Sta
 
 -- After it: on every memory what is laid, or zeros; and by the definitions.
 pub record BodyPost (s : Settings) (stream events text work : List ℕ) (st : State)
-    (events′ text′ : List ℕ) (r : declared.ReadReply) : Type 0 where
+    (events′ text′ : List ℕ) (r : declared.BodyReply) : Type 0 where
   pub events-laid : r .number ≡ 0 → EventsLaid events 0 events′ (r .events)
   pub text-laid : r .number ≡ 0 → TextLaid text (st .core .stored) text′ (r .«code_points»)
   pub no-events : (r .number ≡ 0 → ⊥) → events′ ≡ replicate (length events) 0

@@ -5,11 +5,11 @@ use mathlib.Core.List.{List, _++_}
 use lib.ListN.{length, replicate}
 use Rattle.spec_fields.specs.Refusal.{Answer, refused, accepted}
 use Rattle.spec_exi.specs.Reader.{Reading, ReadReply, readReply}
-unfoldable pub use Rattle.read_run.specs.Events.{cellsOfAll}
-use Rattle.read_body.specs.declared.ReadReply as declared
+use Rattle.event.specs.Cells.{cellsOfAll}
+use Rattle.read_body.specs.declared.BodyReply as declared
 
 -- The numbers of the code's reply.
-unfoldable pub replyOf : declared.ReadReply → ReadReply
+unfoldable pub replyOf : declared.BodyReply → ReadReply
 replyOf r =
     record {
       number = r .number;
@@ -32,18 +32,18 @@ textFilled n (accepted r) = r .store ++ replicate (n - length (r .store)) 0
 
 -- The reply to an answer, and the cells where it is accepted.
 pub record Attempted (x : Answer Reading) (events text events′ text′ : List ℕ)
-    (r : declared.ReadReply) : Type 0 where
+    (r : declared.BodyReply) : Type 0 where
   pub reply : replyOf r ≡ readReply x
   pub cells : r .number ≡ 0 → events′ ≡ eventsFilled (length events) x
   pub store : r .number ≡ 0 → text′ ≡ textFilled (length text) x
 
 -- The reply, and all cells.
 pub record Filled (x : Answer Reading) (events text events′ text′ : List ℕ)
-    (r : declared.ReadReply) : Type 0 where
+    (r : declared.BodyReply) : Type 0 where
   pub reply : replyOf r ≡ readReply x
   pub cells : events′ ≡ eventsFilled (length events) x
   pub store : text′ ≡ textFilled (length text) x
 
 -- The code's reply to a refusal.
-unfoldable pub refusalOf : ℕ → ℕ → declared.ReadReply
+unfoldable pub refusalOf : ℕ → ℕ → declared.BodyReply
 refusalOf number index = record { number = number; index = index; events = 0; «code_points» = 0 }

@@ -15,8 +15,7 @@ use settings::Settings;
 
 // The number of the refusal or 0, the index of the event concerned, and the counts of events and
 // code points.
-#[repr(C)]
-pub struct ReadReply {
+pub struct BodyReply {
     pub number: u32,
     pub index: u32,
     pub events: u32,
@@ -24,11 +23,11 @@ pub struct ReadReply {
 }
 
 // A refusal's reply.
-pub fn refused(number: u32, index: usize) -> ReadReply
+pub fn refused(number: u32, index: usize) -> BodyReply
     requires { ⌜ index ≤ 4096 ⌝ }
     ensures { λ r. ⌜ r ≡ refusalOf number index ⌝ }
 {
-    ReadReply {
+    BodyReply {
         number,
         index: index as u32,
         events: 0,
@@ -59,7 +58,7 @@ fn run(
     events: &mut [u32],
     text: &mut [u32],
     work: &mut [u32],
-) -> ReadReply
+) -> BodyReply
     requires { ⌜ AdvancePre (now stream) (now events) (now text) (now work) st 0 ⌝ }
     ensures { λ r. ⌜ RunPost (settingsFrom o) (now (stream .entry)) (now (events .entry))
         (now (text .entry)) (now (work .entry)) st (now (events .exit)) (now (text .exit)) r ⌝ }
@@ -69,7 +68,7 @@ fn run(
         return refused(r.number, r.index);
     }
     if is_padding(stream, r.state.core.at) {
-        return ReadReply {
+        return BodyReply {
             number: 0,
             index: 0,
             events: r.index as u32,
@@ -88,7 +87,7 @@ pub fn read_events(
     events: &mut [u32],
     text: &mut [u32],
     work: &mut [u32],
-) -> ReadReply
+) -> BodyReply
     requires { ⌜ AdvancePre (now stream) (now events) (now text) (now work) st 0 ⌝ }
     ensures { λ r. ⌜ BodyPost (settingsFrom o) (now (stream .entry)) (now (events .entry))
         (now (text .entry)) (now (work .entry)) st (now (events .exit)) (now (text .exit)) r ⌝ }

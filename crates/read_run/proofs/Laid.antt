@@ -1,7 +1,7 @@
 -- Cells written one behind the other.
 use Prim.Native.Nat.{ℕ, zero, suc, _+_, _*_, _-_, _≤_}
 use native.Mathlib.Omega.{arith}
-use mathlib.Core.Path.{_≡_, refl, sym, ap, _∙_}
+use mathlib.Core.Path.{_≡_, sym, ap, _∙_}
 use mathlib.Core.List.{List, [], _∷_, _++_, append-assoc, append-nil}
 use lib.ListN.{length, take, drop, replicate, length-append, length-replicate}
 use lib.ListN.{replicate-append-replicate}
@@ -10,11 +10,10 @@ use Rattle.text.specs.Text.{Text}
 use Rattle.spec_exi.specs.Sizes.{maxStore, cellsPerEvent}
 use Rattle.spec_exi.specs.Event.{Event, mapEvent}
 use Rattle.spec_exi.specs.Tables.{Placed, spanOf}
-use Rattle.event.specs.Cells.{cellsOf}
-use Rattle.event.proofs.Laws.{cells-length}
+use Rattle.event.specs.Cells.{cellsOf, cellsOfAll}
+use Rattle.event.proofs.Laws.{cells-append}
 use Rattle.read_literal.specs.Literal.{laidAt, Cleared}
 use Rattle.read_literal.proofs.Store.{laid-size, laid-before}
-use Rattle.read_run.specs.Events.{cellsOfAll}
 use Rattle.read_run.specs.Run.{EventsLaid, TextLaid}
 
 zeros-over : (n k : ℕ) (l : List ℕ)
@@ -87,24 +86,6 @@ laid-next l at x y h =
     rw (append-nil x, z, append-nil (x ++ y)) at (laid-then l at x y 0 (omega arith))
 
 -- ---- the cells of events
-
-pub cells-append : (a b : List (Event Placed)) → cellsOfAll (a ++ b) ≡ cellsOfAll a ++ cellsOfAll b
-unfolding cellsOfAll
-cells-append [] b = refl
-cells-append (e ∷ a) b =
-    ap (λ (r : List ℕ). cellsOf (mapEvent spanOf e) ++ r) (cells-append a b)
-    ∙ sym (append-assoc (cellsOf (mapEvent spanOf e)) (cellsOfAll a) (cellsOfAll b))
-
-pub cells-size : (es : List (Event Placed)) → length (cellsOfAll es) ≡ 9 * length es
-unfolding cellsOfAll
-cells-size [] = refl
-cells-size (e ∷ es) =
-    omega (
-      arith,
-      length-append (cellsOf (mapEvent spanOf e)) (cellsOfAll es),
-      cells-length (mapEvent spanOf e),
-      cells-size es,
-    )
 
 pub cells-more : (es : List (Event Placed)) (e : Event Placed)
     → cellsOfAll (es ++ e ∷ []) ≡ cellsOfAll es ++ cellsOf (mapEvent spanOf e)

@@ -14,8 +14,8 @@ use Rattle.spec_exi.specs.Sizes.{eventCells}
 use Rattle.spec_exi.specs.Event.{mapEvent}
 use Rattle.spec_exi.specs.Tables.{spanOf}
 use Rattle.spec_exi.specs.Reader.{step}
-use Rattle.event.specs.Cells.{cellsOf}
-use Rattle.event.proofs.Laws.{cells-length}
+use Rattle.event.specs.Cells.{cellsOf, cellsOfAll}
+use Rattle.event.proofs.Laws.{cells-length, cells-size}
 use Rattle.mem_layout.specs.Layout.{nameRows}
 use Rattle.mem_rows.specs.Rows.{Rows, isOver, contextOf}
 use Rattle.mem_state.specs.declared.Core.{Core}
@@ -30,10 +30,10 @@ use Rattle.open_elements.specs.declared.State.{State}
 use Rattle.open_elements.specs.Opened.{openedIn, innermostIn, withTop, Kept}
 use Rattle.open_elements.proofs.Opened.{last-top, innermost-is, innermost-small}
 use Rattle.open_elements.proofs.Tops.{represents-top, bounded-top, stored-row, same-rows}
-use Rattle.read_run.specs.Events.{Steps, none-read, cellsOfAll}
+use Rattle.read_run.specs.Events.{Steps, none-read}
 use Rattle.read_run.specs.Run.{AdvancePre}
 use Rattle.read_run.specs.Run.{TextLaid, Running, Progress, Refuses, AdvancePost}
-use Rattle.read_run.proofs.Laid.{cells-size, cells-more, row-next, events-next, text-next}
+use Rattle.read_run.proofs.Laid.{cells-more, row-next, events-next, text-next}
 use Rattle.read_run.proofs.Laid.{text-cleared, text-same, events-same, cleared-before}
 use Rattle.read_run.proofs.Events.{one-more}
 

@@ -20,7 +20,8 @@ use Rattle.read_literal.specs.Literal.{laidAt}
 use Rattle.open_elements.specs.declared.State.{State}
 use Rattle.open_elements.specs.Opened.{openedIn}
 use Rattle.read_run.specs.declared.Advanced.{Advanced}
-use Rattle.read_run.specs.Events.{Steps, cellsOfAll}
+use Rattle.event.specs.Cells.{cellsOfAll}
+use Rattle.read_run.specs.Events.{Steps}
 
 -- ---- bounds alone
 

@@ -24,21 +24,23 @@ use Rattle.settings.specs.declared.SettingNumbers.{SettingNumbers}
 use Rattle.settings.specs.declared.Settings.{Settings}
 use Rattle.read_header.specs.Header.{Passes}
 use Rattle.read_header.specs.declared.Passed.{Passed}
-use Rattle.read_body.specs.Reply.{replyOf, eventsFilled, textFilled, Filled, refusalOf}
-use Rattle.read_body.specs.declared.ReadReply as declared
-use Rattle.reader.specs.Read.{lent, readerRoom, answerOf, ReadPost, Cleared, StreamReady}
+use Rattle.read_body.specs.Reply as body
+use Rattle.read_body.specs.Reply.{eventsFilled, textFilled, Filled, refusalOf}
+use Rattle.read_body.specs.declared.BodyReply as declared
+use Rattle.reader.specs.Read.{lent, readerRoom, answerOf, replyOf, ReadPost, Cleared}
+use Rattle.reader.specs.Read.{StreamReady}
 
 -- Over cells that are zero, a refusal of the whole leaves them.
-filled-refused : {x : Answer Reading} {events text : List ℕ} {r : declared.ReadReply}
+filled-refused : {x : Answer Reading} {events text : List ℕ} {r : declared.BodyReply}
     → Cleared events text → (k : Refusal) (number : ℕ) → x ≡ refused k 0 → number ≡ numberOf k
     → r ≡ refusalOf number 0 → Filled x events text events text r
-unfolding replyOf readReply refusalOf eventsFilled textFilled
+unfolding body.replyOf readReply refusalOf eventsFilled textFilled
 filled-refused h k number e a is =
     record { reply = rw (is, e, a); cells = rw e (h .noEvents); store = rw e (h .noText) }
 
 -- The same answer, for the same lengths.
 pub filled-as : {x y : Answer Reading} {events text events₀ text₀ events′ text′ : List ℕ}
-    {r : declared.ReadReply} → x ≡ y → length events ≡ length events₀ → length text ≡ length text₀
+    {r : declared.BodyReply} → x ≡ y → length events ≡ length events₀ → length text ≡ length text₀
     → Filled x events text events′ text′ r → Filled y events₀ text₀ events′ text′ r
 filled-as e a b h =
     record {
@@ -52,7 +54,7 @@ filled-as e a b h =
 module _ (s : format.Settings) {stream : List ℕ} {p : Passed}
     (passes : Passes (headerOf s) stream p) where
   pub header-refused : {events text : List ℕ} → Cleared events text → (p .number ≡ 0 → ⊥)
-      → {r : declared.ReadReply} → r ≡ refusalOf (p .number) 0
+      → {r : declared.BodyReply} → r ≡ refusalOf (p .number) 0
       → Filled (readStream sizes s stream) events text events text r
   unfolding readStream readBody
   header-refused h some is =
@@ -97,7 +99,7 @@ module _ (s : SettingNumbers) (stream : List ℕ) {events text : List ℕ} (work
       ≡ not (short events text work)
   lent-is = enough (length events) (length text) (length work) 36864 16384 18432
 
-  pub no-room : short events text work ≡ true → {r : declared.ReadReply} → r ≡ refusalOf 1 0
+  pub no-room : short events text work ≡ true → {r : declared.BodyReply} → r ≡ refusalOf 1 0
       → Filled (answerOf s stream (lent events text work)) events text events text r
   unfolding answerOf readerRoom format-reader.read readSized enoughToRead eventCells cellsPerEvent
       maxEvents maxStore readerWork numberOf
@@ -105,14 +107,14 @@ module _ (s : SettingNumbers) (stream : List ℕ) {events text : List ℕ} (work
 
   module _ (few : short events text work ≡ false) {asked : Bool}
       (meant : asked ≡ meaningful (numbersOf s)) where
-    pub no-meaning : not asked ≡ true → {r : declared.ReadReply} → r ≡ refusalOf 2 0
+    pub no-meaning : not asked ≡ true → {r : declared.BodyReply} → r ≡ refusalOf 2 0
         → Filled (answerOf s stream (lent events text work)) events text events text r
     unfolding answerOf readerRoom format-reader.read readSized enoughToRead eventCells cellsPerEvent
         maxEvents maxStore readerWork numberOf
     no-meaning f is = filled-refused h settings 2 (rw (lent-is, few, ← meant, f)) refl is
 
     module _ (fine : not asked ≡ false) where
-      pub too-long : 16384 < length stream → {r : declared.ReadReply} → r ≡ refusalOf 3 0
+      pub too-long : 16384 < length stream → {r : declared.BodyReply} → r ≡ refusalOf 3 0
           → Filled (answerOf s stream (lent events text work)) events text events text r
       unfolding answerOf readerRoom format-reader.read readSized enoughToRead eventCells
           cellsPerEvent maxEvents maxStore readerWork maxStream numberOf
@@ -134,7 +136,7 @@ module _ (s : SettingNumbers) (stream : List ℕ) {events text : List ℕ} (work
             cellsPerEvent maxEvents maxStore readerWork maxStream
         answer-stream = rw (lent-is, few, ← meant, fine, le-leb (length stream) 16384 small)
 
-        pub stream-answered : {o : Settings} {events′ text′ : List ℕ} {r : declared.ReadReply}
+        pub stream-answered : {o : Settings} {events′ text′ : List ℕ} {r : declared.BodyReply}
             → o ≡ settingsMeant s
             → Filled (readStream sizes (settingsFrom o) stream) events text events′ text′ r
             → Filled (answerOf s stream (lent events text work)) events text events′ text′ r
@@ -164,10 +166,17 @@ module _ (s : SettingNumbers) (stream events text work : List ℕ) {events₁ te
   unfolding answerOf readerRoom
   same-answer = rw (same-length events e, same-length text t)
 
-  pub read-whole : {events′ text′ work′ : List ℕ} {r : declared.ReadReply}
+  pub read-whole : {events′ text′ work′ : List ℕ} {r : declared.BodyReply}
       → Filled (answerOf s stream (lent events₁ text₁ work)) events₁ text₁ events′ text′ r
       → work′ ≡ replicate (length work) 0
-      → ReadPost s stream (lent events text work) (lent events′ text′ work′) r
+      → ReadPost s stream (lent events text work) (lent events′ text′ work′)
+      (record {
+        number = r .number;
+        index = r .index;
+        events = r .events;
+        «code_points» = r .«code_points»;
+      })
+  unfolding replyOf body.replyOf
   read-whole {events′} {text′} {r = r} h w =
       let f : Filled (answerOf s stream (lent events text work)) events text events′ text′ r =
       filled-as same-answer (same-length events e) (same-length text t) h in

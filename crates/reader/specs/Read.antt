@@ -5,12 +5,12 @@ use mathlib.Core.List.{List}
 use lib.ListN.{length, replicate}
 use Rattle.spec_fields.specs.Refusal.{Answer}
 use Rattle.spec_exi.specs.Sizes.{maxStream, maxStore, eventCells, readerWork}
-use Rattle.spec_exi.specs.Reader.{Reading, ReaderRoom, readReply}
+use Rattle.spec_exi.specs.Reader.{Reading, ReaderRoom, ReadReply, readReply}
 use Rattle.spec_exi.specs.Reader as format
 use Rattle.settings.specs.Meant.{numbersOf}
 use Rattle.settings.specs.declared.SettingNumbers.{SettingNumbers}
-use Rattle.read_body.specs.Reply.{replyOf, eventsFilled, textFilled}
-use Rattle.read_body.specs.declared.ReadReply as declared
+unfoldable pub use Rattle.read_body.specs.Reply.{eventsFilled, textFilled}
+use Rattle.reader.specs.declared.ReadReply as declared
 
 -- ---- the public function
 
@@ -31,6 +31,16 @@ readerRoom m =
 -- The definitions' answer for what is lent.
 unfoldable pub answerOf : SettingNumbers → List ℕ → ReaderLent → Answer Reading
 answerOf s stream m = format.read (readerRoom m) (numbersOf s) stream
+
+-- The numbers of the code's reply.
+unfoldable pub replyOf : declared.ReadReply → ReadReply
+replyOf r =
+    record {
+      number = r .number;
+      index = r .index;
+      events = r .events;
+      codePoints = r .«code_points»;
+    }
 
 -- The reply r, and what is left of the lent parts m: m′.
 pub record ReadPost (s : SettingNumbers) (stream : List ℕ) (m m′ : ReaderLent)

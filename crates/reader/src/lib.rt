@@ -6,7 +6,7 @@ ghost use Rattle.spec_exi.specs.Reader.{readStream};
 ghost use Rattle.settings.specs.Meant.{settingsFrom};
 ghost use Rattle.read_body.specs.Reply.{Filled};
 ghost use Rattle.reader.specs.Read.{ReadPost, lent, answerOf, Cleared, StreamReady};
-use read_body::ReadReply;
+use read_body::BodyReply;
 use refusal::LONG;
 use refusal::ROOM;
 use refusal::SETTINGS;
@@ -17,6 +17,16 @@ use sizes::MAX_STORE;
 use sizes::MAX_STREAM;
 use sizes::READER_WORK;
 
+// The number of the refusal or 0, the index of the event concerned, and the counts of events and
+// code points.
+#[repr(C)]
+pub struct ReadReply {
+    pub number: u32,
+    pub index: u32,
+    pub events: u32,
+    pub code_points: u32,
+}
+
 // The header and the events, with the initial entries in tables and store.
 fn read_stream(
     o: Settings,
@@ -24,7 +34,7 @@ fn read_stream(
     events: &mut [u32],
     text: &mut [u32],
     work: &mut [u32],
-) -> ReadReply
+) -> BodyReply
     requires { ⌜ StreamReady (now stream) (now events) (now text) (now work) ⌝ }
     ensures { λ r. ⌜ Filled (readStream sizes (settingsFrom o) (now (stream .entry)))
         (now (events .entry)) (now (text .entry)) (now (events .exit)) (now (text .exit)) r ⌝ }
@@ -47,7 +57,7 @@ fn read_cleared(
     events: &mut [u32],
     text: &mut [u32],
     work: &mut [u32],
-) -> ReadReply
+) -> BodyReply
     requires { ⌜ Cleared (now events) (now text) ⌝ }
     ensures { λ r. ⌜ Filled (answerOf s (now (stream .entry))
         (lent (now (events .entry)) (now (text .entry)) (now (work .entry))))
@@ -80,7 +90,12 @@ pub fn read(
 {
     clear::cells(events);
     clear::cells(text);
-    let reply = read_cleared(s, stream, events, text, work);
+    let r = read_cleared(s, stream, events, text, work);
     clear::cells(work);
-    reply
+    ReadReply {
+        number: r.number,
+        index: r.index,
+        events: r.events,
+        code_points: r.code_points,
+    }
 }

@@ -9,12 +9,12 @@ use lib.ListN.{getD, replicate}
 use borrow.Author.Tests.{ne-eqb}
 use Rattle.spec_fields.proofs.Tests.{left, right}
 use Rattle.spec_fields.specs.Refusal.{Refusal, numberOf, room, settings, long, header, ended, code, number, character, reference, loose, name, limit, tail, shape, place}
-use Rattle.text.specs.Text.{text}
-use Rattle.refusal.specs.Names.{nameOf, refusals, nameAmong, padded, nameAt}
+use Rattle.text.specs.Text.{Text, text}
+use Rattle.refusal.specs.Names.{nameOf, refusals, ofReadings, names, nameAmong, padded, nameAt}
 
 -- Each refusal is found by its number.
 pub name-found : (r : Refusal) → nameAt (numberOf r) ≡ padded (nameOf r)
-unfolding nameAt nameAmong nameOf refusals numberOf padded text
+unfolding nameAt nameAmong names nameOf refusals numberOf padded text
 name-found room = refl
 name-found settings = refl
 name-found long = refl
@@ -41,21 +41,21 @@ value-at f i zero k h = let z : ⊥ = omega arith in absurd z
 value-at f i (suc n) zero h = let e : i + 0 ≡ i = omega arith in rw e
 value-at f i (suc n) (suc k) h = let e : i + suc k ≡ suc i + k = omega arith in rw e (value-at f (suc i) n k (omega arith))
 
-pub in-table : (n : ℕ) → n < 16 → getD (values nameAt 0 16) n [] ≡ nameAt n
-in-table n h = let e : 0 + n ≡ n = omega arith in rw e at (value-at nameAt 0 16 n h)
+pub in-table : (n : ℕ) → n < 20 → getD (values nameAt 0 20) n [] ≡ nameAt n
+in-table n h = let e : 0 + n ≡ n = omega arith in rw e at (value-at nameAt 0 20 n h)
 
--- No refusal has a number from 16 on.
-abbrev below : List Refusal → Bool
+-- No number has a name from 20 on.
+abbrev below : List (ℕ × Text) → Bool
 below [] = true
-below (r ∷ rs) = ltb (numberOf r) 16 && below rs
+below (x ∷ xs) = ltb (x .0) 20 && below xs
 
-none-among : (rs : List Refusal) → T (below rs) → (n : ℕ) → 16 ≤ n → nameAmong rs n ≡ []
+none-among : (xs : List (ℕ × Text)) → T (below xs) → (n : ℕ) → 20 ≤ n → nameAmong xs n ≡ []
 unfolding nameAmong
 none-among [] t n h = refl
-none-among (r ∷ rs) t n h =
-    let small : numberOf r < 16 = ltb→lt (numberOf r) 16 (left (ltb (numberOf r) 16) (below rs) t) in
-    rw (ne-eqb (numberOf r) n (λ e. omega arith)) (none-among rs (right (ltb (numberOf r) 16) (below rs) t) n h)
+none-among (x ∷ xs) t n h =
+    let small : x .0 < 20 = ltb→lt (x .0) 20 (left (ltb (x .0) 20) (below xs) t) in
+    rw (ne-eqb (x .0) n (λ e. omega arith)) (none-among xs (right (ltb (x .0) 20) (below xs) t) n h)
 
-pub none-above : (n : ℕ) → 16 ≤ n → nameAt n ≡ replicate 16 0
-unfolding nameAt padded refusals numberOf
-none-above n h = let e : nameAmong refusals n ≡ [] = none-among refusals tt n h in rw e
+pub none-above : (n : ℕ) → 20 ≤ n → nameAt n ≡ replicate 16 0
+unfolding nameAt padded names refusals ofReadings numberOf
+none-above n h = let e : nameAmong names n ≡ [] = none-among names tt n h in rw e

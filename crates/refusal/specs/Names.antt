@@ -1,7 +1,8 @@
--- The refusals' names (scope, "Refusal numbers"), and the name of a number, in 16 octets.
+-- The refusals' names (scope, "Refusal numbers"; 02, P12, for those of readings), and the name of a
+-- number, in 16 octets.
 use Prim.Native.Nat.{ℕ, _-_}
 use mathlib.Core.Bool.{cond}
-use mathlib.Core.List.{List, [], _∷_, _++_}
+use mathlib.Core.List.{List, [], _∷_, _++_, map}
 use lib.Dec.{eqb}
 use lib.ListN.{length, replicate}
 use Rattle.text.specs.Text.{Text, text}
@@ -33,10 +34,23 @@ refusals =
     room ∷ settings ∷ long ∷ header ∷ ended ∷ code ∷ number ∷ character ∷ reference ∷ loose ∷ name
     ∷ limit ∷ tail ∷ shape ∷ place ∷ []
 
--- The name of the one among these with this number, or nothing.
-unfoldable pub nameAmong : List Refusal → ℕ → Text
+-- Numbers and words of the readings' own refusals.
+unfoldable pub ofReadings : List (ℕ × Text)
+ofReadings =
+    (16, text "STRUCTURE")
+    ∷ (17, text "BAD_STAMP")
+    ∷ (18, text "BAD_MOVEMENT")
+    ∷ (19, text "NOT_LATER")
+    ∷ []
+
+-- All numbers with their words.
+unfoldable pub names : List (ℕ × Text)
+names = map (λ r. (numberOf r, nameOf r)) refusals ++ ofReadings
+
+-- The word of this number among these, or nothing.
+unfoldable pub nameAmong : List (ℕ × Text) → ℕ → Text
 nameAmong [] n = []
-nameAmong (r ∷ rs) n = cond (eqb (numberOf r) n) (nameOf r) (nameAmong rs n)
+nameAmong (x ∷ xs) n = cond (eqb (x .0) n) (x .1) (nameAmong xs n)
 
 -- A name with zeros up to 16 octets.
 unfoldable pub padded : Text → List ℕ
@@ -44,4 +58,4 @@ padded x = x ++ replicate (16 - length x) 0
 
 -- The name of the refusal with this number; zeros where there is none.
 unfoldable pub nameAt : ℕ → List ℕ
-nameAt n = padded (nameAmong refusals n)
+nameAt n = padded (nameAmong names n)

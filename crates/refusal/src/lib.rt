@@ -33,6 +33,15 @@ pub const SHAPE: u32 = 14;
 
 pub const PLACE: u32 = 15;
 
+// Those of readings (crates/spec_readings/specs/Readings.antt).
+pub const STRUCTURE: u32 = 16;
+
+pub const BAD_STAMP: u32 = 17;
+
+pub const BAD_MOVEMENT: u32 = 18;
+
+pub const NOT_LATER: u32 = 19;
+
 // A name in ASCII, and zeros after it.
 #[repr(C)]
 pub struct Name {
@@ -40,7 +49,7 @@ pub struct Name {
 }
 
 // The names in the order of their numbers, from 0 on.
-const NAMES: [[u8; 16]; 16] = [
+const NAMES: [[u8; 16]; 20] = [
     *b"\0\0\0\0\0\0\0\0\0\0\0\0\0\0\0\0",
     *b"ROOM\0\0\0\0\0\0\0\0\0\0\0\0",
     *b"SETTINGS\0\0\0\0\0\0\0\0",
@@ -57,13 +66,17 @@ const NAMES: [[u8; 16]; 16] = [
     *b"TAIL\0\0\0\0\0\0\0\0\0\0\0\0",
     *b"SHAPE\0\0\0\0\0\0\0\0\0\0\0",
     *b"PLACE\0\0\0\0\0\0\0\0\0\0\0",
+    *b"STRUCTURE\0\0\0\0\0\0\0",
+    *b"BAD_STAMP\0\0\0\0\0\0\0",
+    *b"BAD_MOVEMENT\0\0\0\0",
+    *b"NOT_LATER\0\0\0\0\0\0\0",
 ];
 
 // The name of the refusal with this number; zeros where there is none.
 pub fn name_of(number: u32) -> Name
     ensures { λ r. ⌜ r .text ≡ nameAt number ⌝ }
 {
-    if number < 16 {
+    if number < 20 {
         let i = number as usize;
         let text = NAMES[i];
         return Name { text };

@@ -19,7 +19,7 @@ mod print;
 
 use parse::Laid;
 use parse::Numeral;
-use read_body::ReadReply;
+use reader::ReadReply;
 use settings::SettingNumbers;
 use sizes::CELLS_PER_EVENT;
 use sizes::EVENT_CELLS;

@@ -1,6 +1,6 @@
 -- The claims of specs/Cells.antt: one line each, which points to its proof.
 use Rattle.event.proofs.Examples.{cell-examples}
-use Rattle.readings.proofs.Counted.{cells-mean}
+use Rattle.event.proofs.Laws.{cells-mean}
 use Rattle.theorems.specs.Cells.{CellTheorems}
 use Rattle.theorems.proofs.Left as left
 use Rattle.theorems.proofs.Round as round

@@ -4,6 +4,7 @@ use mathlib.Core.Logic.{_↔_}
 use mathlib.Core.List.{List, map}
 use mathlib.Core.Option.{Option·some-injective}
 use Prim.Native.Nat.{ℕ, _*_, _-_, _<_}
+use native.Mathlib.Nat.{sub-zero}
 use native.Mathlib.Omega.{arith}
 use lib.ListN.{length, take, drop, replicate}
 use lib.Seq.{take-at, drop-at}
@@ -17,12 +18,11 @@ use Rattle.spec_exi.specs.Meaning.{storedOf, meant, Accepts}
 use Rattle.spec_exi.proofs.Demands as demands
 use Rattle.settings.specs.Meant.{numbersOf}
 use Rattle.settings.specs.declared.SettingNumbers.{SettingNumbers}
-use Rattle.event.specs.Cells.{eventsOf}
-use Rattle.read_body.specs.Reply.{replyOf, cellsOfAll, eventsFilled, textFilled}
-use Rattle.read_body.specs.declared.ReadReply.{ReadReply}
-use Rattle.read_body.proofs.Cells.{cells-size}
-use Rattle.readings.proofs.Counted.{cells-mean, no-less}
-use Rattle.reader.specs.Read.{ReaderLent, readerRoom, ReadPost}
+use Rattle.event.specs.Cells.{eventsOf, cellsOfAll}
+use Rattle.event.proofs.Laws.{cells-mean, cells-size}
+use Rattle.reader.specs.declared.ReadReply.{ReadReply}
+use Rattle.reader.specs.Read.{ReaderLent, readerRoom, replyOf, eventsFilled, textFilled}
+use Rattle.reader.specs.Read.{ReadPost}
 use Rattle.reader.specs.Read as reader
 use Rattle.writer.specs.declared.WriteReply.{WriteReply}
 use Rattle.writer.specs.Write.{WriterLent, writerRoom, WritePost, filled}
@@ -38,7 +38,7 @@ module _ (n : ℕ) where
       → drop (cellsPerEvent * readReply a .events) (eventsFilled n a)
       ≡ replicate (n - cellsPerEvent * readReply a .events) 0
   unfolding readReply eventsFilled cellsPerEvent
-  past-events (refused k i) = rw (no-less n)
+  past-events (refused k i) = rw (sub-zero n)
   past-events (accepted x) =
       rw (cells-size (x .events))
       (drop-at (cellsOfAll (x .events)) _ (9 * length (x .events)) (cells-size (x .events)))
@@ -47,13 +47,13 @@ module _ (n : ℕ) where
       → drop (readReply a .codePoints) (textFilled n a)
       ≡ replicate (n - readReply a .codePoints) 0
   unfolding readReply textFilled
-  past-text (refused k i) = rw (no-less n)
+  past-text (refused k i) = rw (sub-zero n)
   past-text (accepted x) = drop-at (x .store) _ (length (x .store)) refl
 
   past-octets : (a : Answer (List ℕ))
       → drop (writeReply a .octets) (filled n a) ≡ replicate (n - writeReply a .octets) 0
   unfolding writeReply filled
-  past-octets (refused k i) = rw (no-less n)
+  past-octets (refused k i) = rw (sub-zero n)
   past-octets (accepted os) = drop-at os _ (length os) refl
 
   no-events : (a : Answer Reading) → 0 < readReply a .number → eventsFilled n a ≡ replicate n 0

@@ -1,5 +1,8 @@
 -- The claims of specs/Readings.antt: one line each, which points to its proof.
+use mathlib.Core.Path.{refl}
+use Rattle.spec_fields.specs.Refusal as fields
 use Rattle.spec_exi.specs.Sizes.{sizes}
+use Rattle.spec_readings.specs.Readings.{numberOf}
 use Rattle.spec_readings.proofs.Calendar as calendar
 use Rattle.spec_readings.proofs.BothWays as both
 use Rattle.spec_readings.proofs.Good.{list-alike}
@@ -10,11 +13,15 @@ use Rattle.spec_readings.proofs.Answers as answers
 use Rattle.spec_readings.proofs.Laid as laid
 use Rattle.spec_readings.proofs.AsRead.{as-read}
 use Rattle.spec_readings.proofs.Streams as streams
+use Rattle.spec_readings.proofs.NoLimit.{no-limit}
+use Rattle.spec_readings.proofs.OnlyLong.{only-long}
 use Rattle.spec_readings.proofs.Examples as examples
 use Rattle.spec_readings.proofs.StreamExamples.{read-replies, write-replies}
+use Rattle.refusal.specs.Names.{ofReadings, names, nameOf, refusals, nameAmong, padded, nameAt}
 use Rattle.theorems.specs.Readings.{ReadingsTheorems}
 
 pub readings-theorems : ReadingsTheorems
+unfolding nameAt nameAmong names nameOf refusals ofReadings padded numberOf fields.numberOf
 readings-theorems =
     record {
       numbers-are = record {
@@ -41,6 +48,8 @@ readings-theorems =
         one-zero-more = many.one-zero-more;
         tens = many.tens;
         one-ten-more = many.one-ten-more;
+        distinct = many.distinct;
+        one-distinct-more = many.one-distinct-more;
       };
       in-memory = λ r p. record {
         readings-room = answers.readings-room r;
@@ -55,12 +64,14 @@ readings-theorems =
         no-room = streams.from-no-room r q o stream;
         refused-as = streams.from-refused r q o stream;
         of-list = streams.from-list r q o stream;
+        no-limit = λ x i e. no-limit q o stream x e r i;
         zero = streams.from-zero r q o stream;
       };
       to-streams = λ p w o rs. record {
         no-room = streams.to-no-room p w o rs;
         refused-as = streams.to-refused p w o rs;
         of-writer = streams.to-writer p w o rs;
+        only-long = only-long p w o rs;
         zero = streams.to-zero p w o rs;
       };
       streams-both-ways = λ p w r q o. record {
@@ -80,7 +91,9 @@ readings-theorems =
         room = examples.rooms-hold;
         list-replies = examples.list-replies;
         replies-are = examples.replies-hold;
+        stored-answers = examples.stored-answers;
         read-replies = read-replies;
         write-replies = write-replies;
       };
+      names = refl;
     }

@@ -2,6 +2,7 @@
 use mathlib.Core.Path.{_≡_, refl, _∙_, ap, subst}
 use mathlib.Core.List.{List, []}
 use Prim.Native.Nat.{ℕ, _*_, _-_, _<_}
+use native.Mathlib.Nat.{sub-zero}
 use native.Mathlib.Omega.{arith}
 use lib.ListN.{length, drop, replicate, length-map}
 use lib.Seq.{drop-at}
@@ -14,21 +15,21 @@ use Rattle.spec_readings.specs.Streams.{Outcome, refusedBy, done, Found, Writte
 use Rattle.spec_readings.specs.Streams.{writtenReply}
 use Rattle.text.specs.Text.{Text}
 use Rattle.settings.specs.declared.SettingNumbers.{SettingNumbers}
+use Rattle.event.specs.Cells.{cellsOfAll}
+use Rattle.event.proofs.Laws.{cells-size}
 use Rattle.readings_judge.specs.Verdict.{cellOf, stampCells, movementCells}
 use Rattle.readings_from.specs.declared.ReadingsReply as from-declared
 use Rattle.readings_from.specs.Reply as from
 use Rattle.readings_from.specs.Reply.{stampsFilled, movementsFilled, FromListPost}
 use Rattle.readings_to.specs.declared.ListReply.{ListReply}
 use Rattle.readings_to.specs.Reply as to
-use Rattle.readings_to.specs.Reply.{listCells, eventsFilled, textFilled, ToListPost}
+use Rattle.readings_to.specs.Reply.{eventsFilled, textFilled, ToListPost}
 use Rattle.writer.specs.declared.WriteReply.{WriteReply}
 use Rattle.writer.specs.Write as writer
 use Rattle.readings.specs.Stream.{filled, FromLent, foundOf, FromStreamPost, ToLent, writtenOf}
 use Rattle.readings.specs.Stream.{ToStreamPost}
-use Rattle.readings.proofs.Counted.{no-less, cells-size}
-use Rattle.readings.proofs.Written.{same-cells}
 use Rattle.theorems.specs.ReadingsCells.{FromListLeft, ToListLeft, FromStreamLeft}
-use Rattle.theorems.specs.ReadingsCells.{ToStreamLeft}
+use Rattle.theorems.specs.ReadingsCells.{PastList, ToStreamLeft}
 
 pub stamps-count : (rs : List Reading) → length (stampCells rs) ≡ length rs
 unfolding stampCells
@@ -38,9 +39,6 @@ pub movements-count : (rs : List Reading) → length (movementCells rs) ≡ leng
 unfolding movementCells
 movements-count rs = length-map rs (λ r. cellOf (r .movement))
 
-pub list-count : (x : codec.Reading) → length (listCells (x .events)) ≡ 9 * length (x .events)
-list-count x = ap length (same-cells (x .events)) ∙ cells-size (x .events)
-
 -- ---- n cells, by an answer: past the counts they are zero, and all of them after a refusal
 
 module _ (n : ℕ) where
@@ -48,14 +46,14 @@ module _ (n : ℕ) where
       → drop (readingsReply a .readings) (stampsFilled n a)
       ≡ replicate (n - readingsReply a .readings) 0
   unfolding readingsReply stampsFilled
-  past-stamps (refused k i) = rw (no-less n)
+  past-stamps (refused k i) = rw (sub-zero n)
   past-stamps (accepted rs) = drop-at (stampCells rs) _ (length rs) (stamps-count rs)
 
   past-movements : (a : Answer (List Reading))
       → drop (readingsReply a .readings) (movementsFilled n a)
       ≡ replicate (n - readingsReply a .readings) 0
   unfolding readingsReply movementsFilled
-  past-movements (refused k i) = rw (no-less n)
+  past-movements (refused k i) = rw (sub-zero n)
   past-movements (accepted rs) = drop-at (movementCells rs) _ (length rs) (movements-count rs)
 
   no-readings : (a : Answer (List Reading)) → 0 < readingsReply a .number
@@ -69,16 +67,16 @@ module _ (n : ℕ) where
       → drop (cellsPerEvent * listReply a .events) (eventsFilled n a)
       ≡ replicate (n - cellsPerEvent * listReply a .events) 0
   unfolding listReply eventsFilled cellsPerEvent
-  past-events (refused k i) = rw (no-less n)
+  past-events (refused k i) = rw (sub-zero n)
   past-events (accepted x) =
-      rw (list-count x)
-      (drop-at (listCells (x .events)) _ (9 * length (x .events)) (list-count x))
+      rw (cells-size (x .events))
+      (drop-at (cellsOfAll (x .events)) _ (9 * length (x .events)) (cells-size (x .events)))
 
   past-text : (a : Answer codec.Reading)
       → drop (listReply a .codePoints) (textFilled n a)
       ≡ replicate (n - listReply a .codePoints) 0
   unfolding listReply textFilled
-  past-text (refused k i) = rw (no-less n)
+  past-text (refused k i) = rw (sub-zero n)
   past-text (accepted x) = drop-at (x .store) _ (length (x .store)) refl
 
   no-list : (a : Answer codec.Reading) → 0 < listReply a .number
@@ -92,7 +90,7 @@ module _ (n : ℕ) where
       → (a : Outcome Found)
       → drop (foundReply a .readings) (filled f n a) ≡ replicate (n - foundReply a .readings) 0
   unfolding foundReply filled
-  past-found f c (refusedBy k i) = rw (no-less n)
+  past-found f c (refusedBy k i) = rw (sub-zero n)
   past-found f c (done x) = rw (c x) (drop-at (f x) _ (length (x .readings)) (c x))
 
   none-found : (f : Found → List ℕ) (a : Outcome Found) → 0 < foundReply a .number
@@ -105,7 +103,7 @@ module _ (n : ℕ) where
       → drop (writtenReply a .octets) (filled (λ x. x .octets) n a)
       ≡ replicate (n - writtenReply a .octets) 0
   unfolding writtenReply filled
-  past-octets (refusedBy k i) = rw (no-less n)
+  past-octets (refusedBy k i) = rw (sub-zero n)
   past-octets (done x) = drop-at (x .octets) _ (length (x .octets)) refl
 
   none-written : (f : Written → List ℕ) (a : Outcome Written) → 0 < writtenReply a .number
@@ -113,6 +111,25 @@ module _ (n : ℕ) where
   unfolding writtenReply filled
   none-written f (refusedBy k i) h = (refl, refl)
   none-written f (done x) h = absurd (omega arith)
+
+-- The cells of a list that was answered, and zeros past them.
+past-list : {A : Type 0} (f : A → codec.Reading) (events text events′ text′ : List ℕ)
+    (a : Outcome A)
+    → events′ ≡ filled (λ y. cellsOfAll (f y .events)) (length events) a
+    → text′ ≡ filled (λ y. f y .store) (length text) a
+    → (x : A) → a ≡ done x → PastList (f x) events text events′ text′
+unfolding filled cellsPerEvent
+past-list f events text events′ text′ a e g x h =
+    let cells = cells-size (f x .events) in
+    let n = 9 * length (f x .events) in
+    let is = e ∙ ap (filled (λ y. cellsOfAll (f y .events)) (length events)) h in
+    let text-is = g ∙ ap (filled (λ y. f y .store) (length text)) h in
+    record {
+      events-are = ap (drop n) is ∙ drop-at (cellsOfAll (f x .events)) _ n cells
+          ∙ ap (λ (k : ℕ). replicate (length events - k) 0) cells;
+      text-is = ap (drop (length (f x .store))) text-is
+          ∙ drop-at (f x .store) _ (length (f x .store)) refl;
+    }
 
 -- ---- the four contracts
 
@@ -155,7 +172,7 @@ module _ {stamps movements : List ℕ} {m m′ : to.ListLent} {r : ListReply}
 
 module _ {s : SettingNumbers} {octets : List ℕ} {m m′ : FromLent}
     {r : from-declared.ReadingsReply} (p : FromStreamPost s octets m m′ r) where
-  pub from-stream-left : FromStreamLeft m m′ r
+  pub from-stream-left : FromStreamLeft s octets m m′ r
   unfolding from.replyOf
   from-stream-left =
       let a = foundOf s octets m in
@@ -174,12 +191,14 @@ module _ {s : SettingNumbers} {octets : List ℕ} {m m′ : FromLent}
             (past-found (length (m .stamps)) _ (λ x. stamps-count (x .readings)) a);
         past-movements = rw (count, p .movements)
             (past-found (length (m .movements)) _ (λ x. movements-count (x .readings)) a);
+        past-list = past-list (λ x. x .list) (m .events) (m .text) (m′ .events) (m′ .text) a
+            (p .events) (p .text);
         work = p .work;
       }
 
 module _ {s : SettingNumbers} {stamps movements : List ℕ} {m m′ : ToLent} {r : WriteReply}
     (p : ToStreamPost s stamps movements m m′ r) where
-  pub to-stream-left : ToStreamLeft m m′ r
+  pub to-stream-left : ToStreamLeft s stamps movements m m′ r
   unfolding writer.replyOf
   to-stream-left =
       let a = writtenOf s stamps movements m in
@@ -194,5 +213,7 @@ module _ {s : SettingNumbers} {stamps movements : List ℕ} {m m′ : ToLent} {r
               p .text ∙ none-written (length (m .text)) _ a h′ .1,
             );
         past-octets = rw (count, p .octets) (past-octets (length (m .octets)) a);
+        past-list = past-list (λ x. x .list) (m .events) (m .text) (m′ .events) (m′ .text) a
+            (p .events) (p .text);
         work = p .work;
       }

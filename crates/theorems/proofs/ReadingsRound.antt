@@ -38,21 +38,19 @@ use Rattle.spec_readings.proofs.AsRead.{as-read}
 use Rattle.spec_readings.proofs.Streams as streams
 use Rattle.settings.specs.Meant.{numbersOf}
 use Rattle.settings.specs.declared.SettingNumbers.{SettingNumbers}
-use Rattle.event.specs.Cells.{eventsOf}
+use Rattle.event.specs.Cells.{eventsOf, cellsOfAll}
+use Rattle.event.proofs.Laws.{cells-mean, cells-size}
 use Rattle.stamps.specs.Meaning.{wholeOf}
 use Rattle.readings_judge.specs.Verdict.{cellOf, stampCells, movementCells, readingsIn}
 use Rattle.readings_judge.proofs.Standing.{whole-back}
 use Rattle.readings_from.specs.Reply as from
 use Rattle.readings_from.specs.Reply.{stampsFilled, movementsFilled}
 use Rattle.readings_to.specs.Reply as to
-use Rattle.readings_to.specs.Reply.{listCells, eventsFilled, textFilled}
-use Rattle.read_body.specs.Reply.{cellsOfAll}
+use Rattle.readings_to.specs.Reply.{eventsFilled, textFilled}
 use Rattle.reader.specs.Read.{readerRoom}
 use Rattle.writer.specs.Write as writer
 use Rattle.readings.specs.Stream as stream
 use Rattle.readings.specs.Stream.{filled, foundOf, writtenOf}
-use Rattle.readings.proofs.Counted.{cells-mean}
-use Rattle.readings.proofs.Written.{same-cells}
 use Rattle.theorems.specs.Calls.{asked, Hold, ReadCall, CanRead, eventsLeft, textLeft, Leaves}
 use Rattle.theorems.specs.Calls.{WriteCall, octetsLeft}
 use Rattle.theorems.specs.ReadingsCalls.{FromListCall, CanFind, stampsFound, movementsFound}
@@ -62,7 +60,7 @@ use Rattle.theorems.specs.ReadingsCalls.{movementsIn, FindsIn, ToStreamC
 use Rattle.theorems.specs.ReadingsCalls.{octetsIn, Streams}
 use Rattle.theorems.proofs.Left.{events-left, text-left, leaves}
 use Rattle.theorems.proofs.Round.{elsewhere, enough, read-back}
-use Rattle.theorems.proofs.ReadingsLeft.{stamps-count, movements-count, list-count}
+use Rattle.theorems.proofs.ReadingsLeft.{stamps-count, movements-count}
 
 -- ---- readings in cells are these readings
 
@@ -180,8 +178,7 @@ module _ {stamps movements : List ℕ} (c : ToListCall stamps movements) where
         let count = ap (λ (y : codec.ReadReply). y .events) (c .post .reply ∙ ap listReply q) in
         let cells = c .post .events ∙ ap (eventsFilled (length (c .before .events))) q in
         ap₂ (λ (n : ℕ) (l : List ℕ). take (9 * n) l) count cells
-        ∙ take-at (listCells (x .events)) _ (9 * length (x .events)) (list-count x)
-        ∙ same-cells (x .events)
+        ∙ take-at (cellsOfAll (x .events)) _ (9 * length (x .events)) (cells-size (x .events))
 
     pub laid-text : textLaid c ≡ x .store
     unfolding to.answerOf to.replyOf listReply textFilled

@@ -25,9 +25,8 @@ use Rattle.spec_exi.proofs.Sizes.{accepted-still}
 use Rattle.settings.specs.Meant.{numbersOf}
 use Rattle.settings.specs.declared.SettingNumbers.{SettingNumbers}
 use Rattle.event.specs.Cells.{eventsOf}
-use Rattle.read_body.specs.Reply.{replyOf}
-use Rattle.read_body.specs.declared.ReadReply.{ReadReply}
-use Rattle.reader.specs.Read.{ReaderLent, readerRoom, answerOf}
+use Rattle.reader.specs.declared.ReadReply.{ReadReply}
+use Rattle.reader.specs.Read.{ReaderLent, readerRoom, answerOf, replyOf}
 use Rattle.writer.specs.Write.{writerRoom}
 use Rattle.theorems.specs.Calls.{asked, Hold, ReadCall, CanRead, eventsLeft, textLeft, Leaves}
 use Rattle.theorems.specs.Calls.{WriteCall, CanWrite, octetsLeft, Gives}

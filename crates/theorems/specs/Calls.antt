@@ -12,7 +12,7 @@ use Rattle.spec_exi.specs.Meaning.{meant}
 use Rattle.settings.specs.Meant.{numbersOf}
 use Rattle.settings.specs.declared.SettingNumbers.{SettingNumbers}
 use Rattle.event.specs.Cells.{eventsOf}
-use Rattle.read_body.specs.declared.ReadReply.{ReadReply}
+use Rattle.reader.specs.declared.ReadReply.{ReadReply}
 use Rattle.reader.specs.Read.{ReaderLent, readerRoom, ReadPost}
 use Rattle.writer.specs.declared.WriteReply.{WriteReply}
 use Rattle.writer.specs.Write.{WriterLent, writerRoom, WritePost}

@@ -30,7 +30,14 @@ pub record ToListLeft (m m′ : ListLent) (r : ListReply) : Type 0 where
   pub past-text : drop (r .«code_points») (m′ .text)
       ≡ zeros (length (m .text) - r .«code_points»)
 
-pub record FromStreamLeft (m m′ : FromLent) (r : ReadingsReply) : Type 0 where
+-- Past the cells of this list all are zero. (No reply counts them here.)
+pub record PastList (x : ReadList) (events text events′ text′ : List ℕ) : Type 0 where
+  pub events-are : drop (cellsPerEvent * length (x .events)) events′
+      ≡ zeros (length events - cellsPerEvent * length (x .events))
+  pub text-is : drop (length (x .store)) text′ ≡ zeros (length text - length (x .store))
+
+pub record FromStreamLeft (s : SettingNumbers) (octets : List ℕ) (m m′ : FromLent)
+    (r : ReadingsReply) : Type 0 where
   pub refused : 0 < r .number
       → (r .readings ≡ 0)
       × (m′ .stamps ≡ zeros (length (m .stamps)))
@@ -40,15 +47,20 @@ pub record FromStreamLeft (m m′ : FromLent) (r : ReadingsReply) : Type 0 where
   pub past-stamps : drop (r .readings) (m′ .stamps) ≡ zeros (length (m .stamps) - r .readings)
   pub past-movements : drop (r .readings) (m′ .movements)
       ≡ zeros (length (m .movements) - r .readings)
+  pub past-list : (x : Found) → foundOf s octets m ≡ done x
+      → PastList (x .list) (m .events) (m .text) (m′ .events) (m′ .text)
   pub work : m′ .work ≡ zeros (length (m .work))
 
-pub record ToStreamLeft (m m′ : ToLent) (r : WriteReply) : Type 0 where
+pub record ToStreamLeft (s : SettingNumbers) (stamps movements : List ℕ) (m m′ : ToLent)
+    (r : WriteReply) : Type 0 where
   pub refused : 0 < r .number
       → (r .octets ≡ 0)
       × (m′ .octets ≡ zeros (length (m .octets)))
       × (m′ .events ≡ zeros (length (m .events)))
       × (m′ .text ≡ zeros (length (m .text)))
   pub past-octets : drop (r .octets) (m′ .octets) ≡ zeros (length (m .octets) - r .octets)
+  pub past-list : (x : Written) → writtenOf s stamps movements m ≡ done x
+      → PastList (x .list) (m .events) (m .text) (m′ .events) (m′ .text)
   pub work : m′ .work ≡ zeros (length (m .work))
 
 -- ---- lists and readings
@@ -102,8 +114,9 @@ pub record ReadingsCellTheorems : Type 0 where
   pub to-list : (stamps movements : List ℕ) (m m′ : ListLent) (r : ListReply)
       → ToListPost stamps movements m m′ r → ToListLeft m m′ r
   pub from-stream : (s : SettingNumbers) (octets : List ℕ) (m m′ : FromLent) (r : ReadingsReply)
-      → FromStreamPost s octets m m′ r → FromStreamLeft m m′ r
+      → FromStreamPost s octets m m′ r → FromStreamLeft s octets m m′ r
   pub to-stream : (s : SettingNumbers) (stamps movements : List ℕ) (m m′ : ToLent)
-      (r : WriteReply) → ToStreamPost s stamps movements m m′ r → ToStreamLeft m m′ r
+      (r : WriteReply) → ToStreamPost s stamps movements m m′ r
+      → ToStreamLeft s stamps movements m m′ r
   pub lists : ListCells
   pub streams : (s : SettingNumbers) → StreamCells s

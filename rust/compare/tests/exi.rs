@@ -180,7 +180,7 @@ fn a_day_of_500() {
 #[test]
 fn streams_that_have_no_readings() {
     refused("readings refused-tail.exi", b"", "13 TAIL, event 196: ");
-    refused("readings -", b"\x80\x40\x98\x40", "16, reading 0: "); // <a/>
+    refused("readings -", b"\x80\x40\x98\x40", "16 STRUCTURE, reading 0: "); // <a/>
 }
 
 /// Tables with a bad line: it is told by its number, and nothing is written.
@@ -189,26 +189,26 @@ fn tables_that_are_refused() {
     let folder = folder("tables");
     let good = "2026-03-01T00:00:00.000Z,1";
     for (lines, says) in [
-        (vec![], "16, line 1: "),
-        (vec!["um,t", good], "16, line 1: "),
-        (vec!["t,um", "2026-02-29T00:00:00.000Z,1"], "17, line 2: "),
+        (vec![], "16 STRUCTURE, line 1: "),
+        (vec!["um,t", good], "16 STRUCTURE, line 1: "),
+        (vec!["t,um", "2026-02-29T00:00:00.000Z,1"], "17 BAD_STAMP, line 2: "),
         (
             vec!["t,um", good, "2026-03-01T00:30:00.000Z"],
-            "16, line 3: ",
+            "16 STRUCTURE, line 3: ",
         ),
         (
             vec!["t,um", good, "2026-03-01T00:30:00.000Z,20001"],
-            "18, line 3: ",
+            "18 BAD_MOVEMENT, line 3: ",
         ),
         (
             vec!["t,um", good, "2026-03-01T00:30:00.000Z,+1"],
-            "18, line 3: ",
+            "18 BAD_MOVEMENT, line 3: ",
         ),
-        (vec!["t,um", good, good], "19, line 3: "),
-        (vec!["ms,um", "0,0", "1,-20000", "1,0"], "19, line 4: "),
+        (vec!["t,um", good, good], "19 NOT_LATER, line 3: "),
+        (vec!["ms,um", "0,0", "1,-20000", "1,0"], "19 NOT_LATER, line 4: "),
         (
             vec!["ms,um", "3155759999999,0", "3155760000000,0"],
-            "17, line 3: ",
+            "17 BAD_STAMP, line 3: ",
         ),
     ] {
         fs::write(folder.join("bad.csv"), lines.join("\n") + "\n").unwrap();
@@ -237,12 +237,12 @@ fn tables_with_many_lines() {
     assert_eq!(stdout, "written: 606 readings, 16384 octets\n", "{stderr}");
     assert_eq!(status, Some(0));
     for (table, says) in [
-        (table(607), "3 LONG, event 0: "),
-        (table(678), "3 LONG, event 0: "),
+        (table(607), "3 LONG: "),
+        (table(678), "3 LONG: "),
         (table(679), "12 LIMIT, line 680: "),
         (table(2_000), "12 LIMIT, line 680: "),
         (table(679) + "x", "12 LIMIT, line 680: "),
-        (table(678) + "x", "16, line 680: "),
+        (table(678) + "x", "16 STRUCTURE, line 680: "),
     ] {
         let (status, stdout, stderr) = made(table);
         let says = format!("exi: refused: {says}");

@@ -155,6 +155,8 @@ pub struct Sizes {
     pub reader_work_cells: usize,
     /// [`WRITER_WORK_CELLS`].
     pub writer_work_cells: usize,
+    /// [`MAX_READINGS`].
+    pub max_readings: usize,
 }
 
 /// Reads a stream.
@@ -253,9 +255,7 @@ pub fn sizes() -> Sizes {
 }
 
 /// Asks the library for a refusal's name, in ASCII padded with zeros; all zeros for a number that
-/// is not 1 to 15.
-///
-/// [`Refusal::name`](crate::Refusal::name) is the same as a string, and has those of readings too.
+/// is not 1 to 19. [`Refusal::name`](crate::Refusal::name) is the same as a string.
 pub fn refusal_name(number: u32) -> [u8; 16] {
     boundary::refusal_name(number)
 }

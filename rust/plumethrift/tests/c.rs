@@ -106,8 +106,8 @@ fn the_example_prints_readings() {
     }
 
     for (sample, says) in [
-        ("refused-tail.exi", "refused: 13 at event 196\n"),
-        ("refused-header.exi", "refused: 4 at event 0\n"),
+        ("refused-tail.exi", "refused: 13 TAIL at event 196\n"),
+        ("refused-header.exi", "refused: 4 HEADER at event 0\n"),
     ] {
         let output = run(
             Command::new(&readings).arg(root().join("samples").join(sample)),
@@ -119,7 +119,7 @@ fn the_example_prints_readings() {
     let other = Path::new(env!("CARGO_TARGET_TMPDIR")).join("other.exi");
     fs::write(&other, [0x80, 0x40, 0x98, 0x40]).unwrap(); // <a/>
     let output = run(Command::new(&readings).arg(other), &[]);
-    assert_eq!(text(&output.stderr), "refused: 16 at reading 0\n");
+    assert_eq!(text(&output.stderr), "refused: 16 STRUCTURE at reading 0\n");
     for words in [&[][..], &["x", "--bit-packed"], &["no such file"]] {
         let output = run(Command::new(&readings).args(words), &[]);
         assert_eq!(output.status.code(), Some(2));

@@ -94,6 +94,7 @@ fn sizes_are_the_librarys() {
         stream_octets: lent::STREAM_OCTETS,
         reader_work_cells: lent::READER_WORK_CELLS,
         writer_work_cells: lent::WRITER_WORK_CELLS,
+        max_readings: lent::MAX_READINGS,
     };
     assert_eq!(lent::sizes(), constants);
     assert_eq!(lent::EVENT_CELLS, 4_096 * CELLS_PER_EVENT);

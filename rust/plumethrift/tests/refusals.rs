@@ -262,11 +262,8 @@ fn numbers_and_names_are_the_librarys() {
         assert_eq!(refusal.number(), number);
         assert_eq!(Refusal::from_number(number), Some(refusal));
 
-        // The library has no names for those of readings.
         let mut name = [0; 16];
-        if number <= Refusal::Place.number() {
-            name[..refusal.name().len()].copy_from_slice(refusal.name().as_bytes());
-        }
+        name[..refusal.name().len()].copy_from_slice(refusal.name().as_bytes());
         assert_eq!(lent::refusal_name(number), name);
         let plain = refusal.name().replace('_', "");
         assert_eq!(format!("{refusal:?}").to_uppercase(), plain);

@@ -3,7 +3,8 @@ use mathlib.Core.Path.{sym}
 use borrow.Author.Needs.{needs}
 use Rattle.spec_fields.specs.Refusal.{numberOf}
 use Rattle.text.specs.Text.{text}
-use Rattle.refusal.specs.Names.{nameOf, refusals, nameAmong, padded, nameAt}
+use Rattle.refusal.specs.Names.{nameOf, refusals, ofReadings, names, nameAmong, padded}
+use Rattle.refusal.specs.Names.{nameAt}
 use Rattle.refusal.proofs.Table.{in-table, none-above}
 use Rattle.refusal.proofs.name_of.Statement.{statement}
 use Rattle.refusal.proofs.name_of.Tie as tie
@@ -15,7 +16,7 @@ array-copy-out-text : tie.Need-array-copy-out-text
 array-copy-out-text c = search needs
 
 returns : tie.Need-returns
-unfolding nameAt nameAmong nameOf refusals numberOf padded text
+unfolding nameAt nameAmong names nameOf refusals ofReadings numberOf padded text
 returns c = in-table (c .before .before .args .number) (search needs)
 
 returns-2 : tie.Need-returns-2

@@ -14,10 +14,10 @@ pub use Rattle.spec_exi.specs.Examples.{inOctets}
 -- what the code's values mean: settings' numbers, nine cells as a stored event, the replies
 pub use Rattle.settings.specs.declared.SettingNumbers.{SettingNumbers}
 pub use Rattle.settings.specs.Meant.{numbersOf}
-pub use Rattle.event.specs.Cells.{eventsOf}
+pub use Rattle.event.specs.Cells.{eventsOf, cellsOfAll}
 pub use Rattle.event.specs.Examples.{CellExamples}
-pub use Rattle.read_body.specs.declared.ReadReply.{ReadReply}
-pub use Rattle.read_body.specs.Reply.{cellsOfAll, replyOf as readNumbers}
+pub use Rattle.reader.specs.declared.ReadReply.{ReadReply}
+pub use Rattle.reader.specs.Read.{replyOf as readNumbers}
 pub use Rattle.writer.specs.declared.WriteReply.{WriteReply}
 pub use Rattle.writer.specs.Write.{replyOf as writeNumbers}
 -- what is lent, the definitions' answer for it, and the contracts

@@ -2,7 +2,7 @@
 pub use Rattle.spec_fields.specs.Prelude.{ℕ, _+_, _*_, _≤_, _<_, _≡_, _↔_, true, _&&_, not, List}
 pub use Rattle.spec_fields.specs.Prelude.{[], _∷_, map, Option, some, length, T, leb}
 pub use lib.IntN.{ℤ, pos}
-pub use Rattle.text.specs.Text.{Text}
+pub use Rattle.text.specs.Text.{Text, text}
 pub use Rattle.spec_fields.specs.Refusal as fields
 pub use Rattle.spec_exi.specs.Event.{Event}
 pub use Rattle.spec_exi.specs.Settings.{SettingNumbers, meaningful, settingsOf}
@@ -19,7 +19,8 @@ pub use Rattle.spec_readings.specs.Calendar.{Stamp, exists, sinceStart, lastNum
 pub use Rattle.spec_readings.specs.Calendar.{Earlier}
 pub use Rattle.spec_readings.specs.Stamps.{stampText, stampOf, millisecondsOf}
 pub use Rattle.spec_readings.specs.Movements.{isMovement, movementText, movementOf}
-pub use Rattle.spec_readings.specs.Readings.{Reading, Fault, numberOf, refused, accepted, asList}
+pub use Rattle.spec_readings.specs.Readings.{Reading, Fault, structure, badStamp, badMovement}
+pub use Rattle.spec_readings.specs.Readings.{notLater, limit, numberOf, refused, accepted, asList}
 pub use Rattle.spec_readings.specs.Readings.{noOption, insideSizes, readList, maxReadings}
 pub use Rattle.spec_readings.specs.Readings.{ReadingsRoom, enoughForReadings, readingsOf, checked}
 pub use Rattle.spec_readings.specs.Readings.{laidOut, ListRoom, enoughForList, listOf}
@@ -30,11 +31,14 @@ pub use Rattle.spec_readings.specs.Good.{movementsWith, Roomy}
 pub use Rattle.spec_readings.specs.Streams.{refusedBy, done, Found, foundIn, fromStream, Written}
 pub use Rattle.spec_readings.specs.Streams.{writtenAs, toStream, foundReply, writtenReply}
 pub use Rattle.spec_readings.specs.Streams.{OfScope}
+-- the refusals' names
+pub use Rattle.refusal.specs.Names.{nameAt, padded}
 -- the worked examples
 pub use Rattle.spec_readings.specs.Examples.{Says, stamps, movements, textAt, numbers, numberTexts}
 pub use Rattle.spec_readings.specs.Examples.{Read, listExamples, Checked, readingsExamples}
 pub use Rattle.spec_readings.specs.Examples.{CheckedSmall, smallReadings, oneLaid, oneSpans, rooms}
 pub use Rattle.spec_readings.specs.Examples.{roomAnswers, listReplies, listRepliesAre, replies}
-pub use Rattle.spec_readings.specs.Examples.{repliesAre, still}
+pub use Rattle.spec_readings.specs.Examples.{repliesAre, storedAnswers, storedAnswersAre, still}
+pub use Rattle.spec_readings.specs.Examples.{rising}
 pub use Rattle.spec_readings.specs.StreamExamples.{readReplies, readRepliesAre, writeReplies}
 pub use Rattle.spec_readings.specs.StreamExamples.{writeRepliesAre}
