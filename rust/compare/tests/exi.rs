@@ -180,7 +180,11 @@ fn a_day_of_500() {
 #[test]
 fn streams_that_have_no_readings() {
     refused("readings refused-tail.exi", b"", "13 TAIL, event 196: ");
-    refused("readings -", b"\x80\x40\x98\x40", "16 STRUCTURE, reading 0: "); // <a/>
+    refused(
+        "readings -",
+        b"\x80\x40\x98\x40",
+        "16 STRUCTURE, reading 0: ",
+    ); // <a/>
 }
 
 /// Tables with a bad line: it is told by its number, and nothing is written.
@@ -191,7 +195,10 @@ fn tables_that_are_refused() {
     for (lines, says) in [
         (vec![], "16 STRUCTURE, line 1: "),
         (vec!["um,t", good], "16 STRUCTURE, line 1: "),
-        (vec!["t,um", "2026-02-29T00:00:00.000Z,1"], "17 BAD_STAMP, line 2: "),
+        (
+            vec!["t,um", "2026-02-29T00:00:00.000Z,1"],
+            "17 BAD_STAMP, line 2: ",
+        ),
         (
             vec!["t,um", good, "2026-03-01T00:30:00.000Z"],
             "16 STRUCTURE, line 3: ",
@@ -205,7 +212,10 @@ fn tables_that_are_refused() {
             "18 BAD_MOVEMENT, line 3: ",
         ),
         (vec!["t,um", good, good], "19 NOT_LATER, line 3: "),
-        (vec!["ms,um", "0,0", "1,-20000", "1,0"], "19 NOT_LATER, line 4: "),
+        (
+            vec!["ms,um", "0,0", "1,-20000", "1,0"],
+            "19 NOT_LATER, line 4: ",
+        ),
         (
             vec!["ms,um", "3155759999999,0", "3155760000000,0"],
             "17 BAD_STAMP, line 3: ",
