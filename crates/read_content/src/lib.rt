@@ -1,7 +1,8 @@
-// The content of an event (EXI 4), read by the production that its code names. Work memory is not
-// written; text that is read before a string that is refused stays, and is the caller's to clear.
+// The content of an event (EXI 4), read by the production that its code names, which is not learned.
+// Work memory is not written; text that is read before a string that is refused stays, and is the caller's to clear.
 // What the functions ask and leave is in specs/Contents.antt.
 ghost use mathlib.Core.Path.{_≡_};
+ghost use mathlib.Core.Bool.{false};
 ghost use Rattle.spec_exi.specs.Event.{SE, AT, CH, CM, PI};
 ghost use Rattle.spec_exi.specs.Grammar.{kindNumber};
 ghost use Rattle.spec_fields.specs.Field.{Alignment};
@@ -92,23 +93,12 @@ fn read_element(
 ) -> Content
     requires { ⌜ ContentPre (now stream) at (now text) (now work) c p ⌝ }
     requires { ⌜ p .kind ≡ kindNumber SE ⌝ }
+    requires { ⌜ p .learned ≡ false ⌝ }
     ensures { λ r. ⌜
         ContentPost (alignmentOf aligned) (now (stream .entry)) at (now (text .entry))
         (now (work .entry)) c p (now (text .exit)) r ⌝ }
 {
-    let n = read_qname::read_name(
-        aligned,
-        stream,
-        at,
-        false,
-        p.learned,
-        p.name,
-        p.uri,
-        p.local,
-        c,
-        text,
-        work,
-    );
+    let n = read_qname::read_name(aligned, stream, at, false, c, text, work);
     if n.number != 0 {
         return stopped(n.number, n.next, n.left, n.stored);
     }
@@ -137,23 +127,12 @@ fn read_attribute(
 ) -> Content
     requires { ⌜ ContentPre (now stream) at (now text) (now work) c p ⌝ }
     requires { ⌜ p .kind ≡ kindNumber AT ⌝ }
+    requires { ⌜ p .learned ≡ false ⌝ }
     ensures { λ r. ⌜
         ContentPost (alignmentOf aligned) (now (stream .entry)) at (now (text .entry))
         (now (work .entry)) c p (now (text .exit)) r ⌝ }
 {
-    let n = read_qname::read_name(
-        aligned,
-        stream,
-        at,
-        true,
-        p.learned,
-        p.name,
-        p.uri,
-        p.local,
-        c,
-        text,
-        work,
-    );
+    let n = read_qname::read_name(aligned, stream, at, true, c, text, work);
     if n.number != 0 {
         return stopped(n.number, n.next, n.left, n.stored);
     }
@@ -267,7 +246,7 @@ fn read_instruction(
     plain(Event::Instruction(target, y), x.next, x.stored)
 }
 
-// Reads the content of an event by its production.
+// Reads the content of an event by its production, which is not learned.
 pub fn read_content(
     aligned: bool,
     stream: &[u8],
@@ -278,6 +257,7 @@ pub fn read_content(
     work: &[u32],
 ) -> Content
     requires { ⌜ ContentPre (now stream) at (now text) (now work) c p ⌝ }
+    requires { ⌜ p .learned ≡ false ⌝ }
     ensures { λ r. ⌜
         ContentPost (alignmentOf aligned) (now (stream .entry)) at (now (text .entry))
         (now (work .entry)) c p (now (text .exit)) r ⌝ }

@@ -1,6 +1,7 @@
 // One event of a stream after its code, read: its content, and what is tested after this; and the
 // answer of a step, with what any step leaves. What the functions ask and leave is in specs/.
 ghost use mathlib.Core.Path.{_≡_};
+ghost use mathlib.Core.Bool.{false};
 ghost use Rattle.settings.specs.Meant.{settingsFrom};
 ghost use Rattle.grammar_update.specs.Growth.{GrowthPre};
 ghost use Rattle.read_event.specs.Judge.{LooseHere, JudgePost, refusedAs, EventPre, CodeRead};
@@ -72,17 +73,16 @@ pub struct EventRead {
 // Whether a learned production fits the event, and its code is not that one's.
 fn loose(c: Core, p: ProductionRead, s: Strings, work: &[u32]) -> bool
     requires { ⌜ GrowthPre (now work) c s ⌝ }
+    requires { ⌜ p .learned ≡ false ⌝ }
     ensures { λ r. ⌜ LooseHere (now (work .entry)) c p s r ⌝ }
 {
-    if p.learned {
-        return false;
-    }
     grammar_match::find_learned(c.mode, c.top, p.kind, s.name_row, c.learned, work) != 0
 }
 
 // Judges an event after its content: LOOSE, then the sizes.
 fn judge(c: Core, p: ProductionRead, s: Strings, work: &[u32]) -> Judged
     requires { ⌜ GrowthPre (now work) c s ⌝ }
+    requires { ⌜ p .learned ≡ false ⌝ }
     ensures { λ r. ⌜ JudgePost (now (work .entry)) c p s r ⌝ }
 {
     let growth = grammar_update::growth(c, p.kind, p.learned, s, work);
@@ -125,8 +125,8 @@ fn refused(number: u32, c: Core) -> EventRead
     }
 }
 
-// Reads one event after its code and judges it; work memory is not written. A refusal clears the
-// text that it laid.
+// Reads one event after its code, by a production that is not learned, and judges it; work memory is
+// not written. A refusal clears the text that it laid.
 pub fn read_event(
     o: Settings,
     stream: &[u8],
@@ -137,6 +137,7 @@ pub fn read_event(
 ) -> EventRead
     requires { ⌜ EventPre (now stream) (now text) (now work) c ⌝ }
     requires { ⌜ CodeRead (settingsFrom o) (now stream) (now work) c p ⌝ }
+    requires { ⌜ p .learned ≡ false ⌝ }
     ensures { λ r. ⌜
         EventPost (settingsFrom o) (now (stream .entry)) (now (text .entry)) (now (work .entry)) c
         (now (text .exit)) r ⌝ }

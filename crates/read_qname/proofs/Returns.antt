@@ -1,4 +1,4 @@
--- The answers of `read_pair`, `carried` and `read_name`, each with what it leaves.
+-- The answers of `read_name` with what it leaves, and what a carried name is.
 use Prim.Native.Nat.{ℕ, _*_, _≤_, _<_}
 use native.Mathlib.Omega.{arith}
 use mathlib.Core.Path.{_≡_, refl, sym, ap, subst, _∙_}

@@ -1,13 +1,11 @@
-// A qualified name (EXI 7.1.7), read: the one that a learned production carries, or a URI and a local
-// name. What the functions ask and leave is in specs/Qnames.antt, the text store in specs/Texts.antt.
+// A qualified name (EXI 7.1.7), read: a URI and a local name. What the functions ask and leave, and
+// what a name is that a learned production carries, is in specs/Qnames.antt, the text store in
+// specs/Texts.antt.
 ghost use mathlib.Core.Path.{_≡_};
-ghost use mathlib.Core.Bool.{true, cond};
-ghost use mathlib.Core.Option.{none, some};
-ghost use Rattle.mem_rows.specs.Rows.{placedAt};
+ghost use mathlib.Core.Option.{none};
 ghost use Rattle.read_field.specs.View.{alignmentOf};
 ghost use Rattle.read_qname.specs.Qnames.{joiningOf, noJoining, noStrings, partOf};
-ghost use Rattle.read_qname.specs.Qnames.{stoppedAs, carriedAs, CarriedPre, PairPre, NamePre};
-ghost use Rattle.read_qname.specs.Qnames.{pairAs, Carried, NamePost};
+ghost use Rattle.read_qname.specs.Qnames.{stoppedAs, PairPre, pairAs, NamePost};
 use event::Part;
 use mem_state::Core;
 use mem_state::Joining;
@@ -95,34 +93,6 @@ fn stopped(number: u32, next: usize, left: usize, stored: usize) -> Named
     }
 }
 
-// The name that a learned production carries: no string is read.
-fn carried(at: usize, stored: usize, name: u32, uri: u32, local: u32, work: &[u32]) -> Named
-    requires { ⌜ CarriedPre (now work) name uri local ⌝ }
-    ensures { λ r. ⌜ r ≡ carriedAs (now (work .entry)) at stored name uri local ⌝ }
-{
-    let u = mem_names::uri_at(work, uri);
-    let l = mem_names::name_at(work, local);
-    let mut strings = no_strings();
-    strings.uri_row = uri;
-    strings.name_row = name;
-    strings.owner = name;
-    Named {
-        number: 0,
-        next: at,
-        left: 0,
-        stored,
-        uri: Part {
-            place: u.place,
-            size: u.size,
-        },
-        local: Part {
-            place: l.place,
-            size: l.size,
-        },
-        strings,
-    }
-}
-
 // Both strings, read.
 fn paired(u: StringRead, l: StringRead) -> Named
     ensures { λ r. ⌜ r ≡ pairAs u l ⌝ }
@@ -145,7 +115,7 @@ fn paired(u: StringRead, l: StringRead) -> Named
 }
 
 // A URI, then a local name: an attribute's where attr, an element's otherwise.
-fn read_pair(
+pub fn read_name(
     aligned: bool,
     stream: &[u8],
     at: usize,
@@ -180,31 +150,4 @@ fn read_pair(
         return stopped(l.number, l.next, l.left, l.stored);
     }
     paired(u, l)
-}
-
-// The name of an element or (attr) an attribute: that in row `name`, which a learned production
-// carries, or two strings.
-pub fn read_name(
-    aligned: bool,
-    stream: &[u8],
-    at: usize,
-    attr: bool,
-    learned: bool,
-    name: u32,
-    uri: u32,
-    local: u32,
-    c: Core,
-    text: &mut [u32],
-    work: &[u32],
-) -> Named
-    requires { ⌜ NamePre (now stream) at (now text) (now work) c name uri local ⌝ }
-    ensures { λ r. ⌜
-        NamePost (alignmentOf aligned) attr (λ w. learned ≡ true → Carried w name uri local)
-        (λ w. cond learned (some (placedAt w name)) none) (now (stream .entry)) at
-        (now (text .entry)) (now (work .entry)) c (now (text .exit)) r ⌝ }
-{
-    if learned {
-        return carried(at, c.stored, name, uri, local, work);
-    }
-    read_pair(aligned, stream, at, attr, c, text, work)
 }

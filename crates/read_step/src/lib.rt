@@ -2,7 +2,6 @@
 // its rows join memory. What the functions ask and leave is in specs of `read_event`.
 ghost use mathlib.Core.Bool.{true, false};
 ghost use Rattle.settings.specs.Meant.{settingsFrom};
-ghost use Rattle.read_event.specs.Judge.{CodeRead};
 ghost use Rattle.read_event.specs.Step.{StepPre, StepPost};
 ghost use Rattle.read_step.specs.Codes.{ByCode};
 use event_code::AT;
@@ -17,7 +16,7 @@ use read_event::Stepped;
 use read_production::ProductionRead;
 use settings::Settings;
 
-// Reads an event after its code, by any production.
+// Reads an event after its code, by a production that is not learned.
 fn general(
     o: Settings,
     stream: &[u8],
@@ -29,7 +28,7 @@ fn general(
     work: &mut [u32],
 ) -> Stepped
     requires { ⌜ StepPre (now stream) (now events) (now text) (now work) c cell ⌝ }
-    requires { ⌜ CodeRead (settingsFrom o) (now stream) (now work) c p ⌝ }
+    requires { ⌜ ByCode false (settingsFrom o) (now stream) (now work) c p ⌝ }
     ensures { λ r. ⌜
         StepPost (settingsFrom o) (now (stream .entry)) (now (events .entry)) (now (text .entry))
         (now (work .entry)) c cell (now (events .exit)) (now (text .exit)) (now (work .exit)) r ⌝ }
@@ -72,7 +71,7 @@ fn learned(
     }
 }
 
-// Reads an event after its code, by a production that is not learned.
+// Reads an event after its code, by a production that is not learned: quickly where it can.
 fn fixed(
     o: Settings,
     stream: &[u8],

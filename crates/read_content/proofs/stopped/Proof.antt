@@ -1,15 +1,10 @@
 use borrow.Author.Needs.{needs}
 use Rattle.read_content.proofs.stopped.Statement.{statement}
 use Rattle.read_content.proofs.stopped.Tie as tie
-use Rattle.read_content.proofs.stopped.Reads as reads
-use Rattle.read_content.proofs.stopped.Lts as lts
-use Rattle.read_qname.proofs.no_strings.Reads as no-strings-reads
 
--- src/lib.rt:37:9
 no-strings-requires : tie.Need-no-strings-requires
 no-strings-requires c κs = search needs
 
--- src/lib.rt:34:1
 returns : tie.Need-returns
 returns c = rw (c .no-strings .ensures)
 

@@ -11,14 +11,14 @@ read-content-requires : tie.Need-read-content-requires
 unfolding settingsFrom
 read-content-requires c κs =
     let pre = c .before .before .before .before .pre in
-    content-asks (pre .0) (pre .1 .post) (pre .1 .good)
+    (content-asks (pre .0) (pre .1 .0 .post) (pre .1 .0 .good), pre .1 .1)
 
 sub-laid : tie.Need-sub-laid
 unfolding settingsFrom
 sub-laid c =
     let pre = c .before .before .before .before .before .before .before .before .before .pre in
     let read-content = c .before .before .before .before .read-content in
-    stored-grows (pre .0) (pre .1 .post) (pre .1 .good) (read-content .ensures)
+    stored-grows (pre .0) (pre .1 .0 .post) (pre .1 .0 .good) (read-content .ensures)
 
 clear-cells-requires : tie.Need-clear-cells-requires
 unfolding settingsFrom
@@ -26,7 +26,7 @@ clear-cells-requires c κs =
     let pre = c .before .before .before .before .before .before .before .before .before .before
     .before .before .pre in
     let read-content = c .before .before .before .before .before .before .before .read-content in
-    clear-room (pre .0) (pre .1 .post) (pre .1 .good) (read-content .ensures)
+    clear-room (pre .0) (pre .1 .0 .post) (pre .1 .0 .good) (read-content .ensures)
 
 refused-requires : tie.Need-refused-requires
 refused-requires c κs = search needs
@@ -43,7 +43,7 @@ returns c =
     .before .before .read-content in
     let if1 = c .before .before .before .before .before .if1 in
     let clear-cells = c .before .before .before .clear-cells in
-    rw (c .refused .ensures) (content-stops (pre .0) (pre .1 .post) (pre .1 .good) (read-content
+    rw (c .refused .ensures) (content-stops (pre .0) (pre .1 .0 .post) (pre .1 .0 .good) (read-content
     .ensures) (omega (arith, if1 .taken)) (clear-cells .ensures))
 
 judge-requires : tie.Need-judge-requires
@@ -52,8 +52,10 @@ judge-requires c κs =
     let pre = c .before .before .before .before .before .before .before .before .before .before
     .before .before .pre in
     let read-content = c .before .before .before .before .before .before .before .read-content in
-    let if1 = c .before .if1 in
-    judge-asks (pre .0) (pre .1 .post) (pre .1 .good) (read-content .ensures) (if1 .left)
+    let if1 = c .before .if1 in (
+      judge-asks (pre .0) (pre .1 .0 .post) (pre .1 .0 .good) (read-content .ensures) (if1 .left),
+      pre .1 .1,
+    )
 
 clear-cells-requires-2 : tie.Need-clear-cells-requires-2
 unfolding settingsFrom
@@ -62,7 +64,7 @@ clear-cells-requires-2 c κs =
     .before .before .before .before .before .before .pre in
     let read-content = c .before .before .before .before .before .before .before .before .before
     .before .before .read-content in
-    clear-room (pre .0) (pre .1 .post) (pre .1 .good) (read-content .ensures)
+    clear-room (pre .0) (pre .1 .0 .post) (pre .1 .0 .good) (read-content .ensures)
 
 refused-requires-2 : tie.Need-refused-requires-2
 refused-requires-2 c κs = search needs
@@ -85,7 +87,7 @@ returns-2 c =
     let judge = c .before .before .before .before .before .before .before .judge in
     let if2 = c .before .before .before .before .before .if2 in
     let clear-cells2 = c .before .before .before .clear-cells2 in
-    rw (c .refused2 .ensures) (judge-stops (pre .0) (pre .1 .post) (pre .1 .good) (read-content
+    rw (c .refused2 .ensures) (judge-stops (pre .0) (pre .1 .0 .post) (pre .1 .0 .good) (read-content
     .ensures) (if1 .left) (judge .ensures) (omega (arith, if2 .taken)) (clear-cells2 .ensures))
 
 same-length-3 : tie.Need-same-length-3
@@ -101,7 +103,7 @@ returns-3 c =
     let if1 = c .before .before .before .before .before .if1 in
     let judge = c .before .before .before .judge in
     let if2 = c .before .if2 in
-    event-read (pre .0) (pre .1 .post) (pre .1 .good) (read-content .ensures) (if1 .left) (judge
+    event-read (pre .0) (pre .1 .0 .post) (pre .1 .0 .good) (read-content .ensures) (if1 .left) (judge
     .ensures) (if2 .left)
 
 pub read-event-spec : {M : Type 1} → statement M

@@ -1,32 +1,84 @@
-use Rattle.read_qname.proofs.Returns.{carried-read, name-either, as-carried, as-pair}
+use native.Mathlib.Omega.{arith}
+use Rattle.read_qname.proofs.Returns.{uri-asks, name-asks, pair-first, pair-second}
+use Rattle.read_qname.proofs.Returns.{pair-read}
 use borrow.Author.Needs.{needs}
 use Rattle.read_qname.proofs.read_name.Statement.{statement}
 use Rattle.read_qname.proofs.read_name.Tie as tie
-use Rattle.read_qname.proofs.read_name.Reads as reads
-use Rattle.read_qname.proofs.read_name.Lts as lts
-use Rattle.read_qname.proofs.carried.Reads as carried-reads
-use Rattle.read_qname.proofs.read_pair.Reads as read-pair-reads
 
--- src/lib.rt:197:9
-carried-requires : tie.Need-carried-requires
-carried-requires c κs = search needs
+read-uri-requires : tie.Need-read-uri-requires
+read-uri-requires c κs = uri-asks (c .before .before .before .before .pre)
 
--- src/lib.rt:197:9
-returns : tie.Need-returns
-returns c = rw (c .carried .ensures) (as-carried (c .before .if1 .taken) (carried-read (c .before .before .before .before .before .pre) _))
+stopped-requires : tie.Need-stopped-requires
+stopped-requires c κs = search needs
 
--- src/lib.rt:199:5
-read-pair-requires : tie.Need-read-pair-requires
-read-pair-requires c κs = c .before .before .before .before .before .pre .pair
-
--- src/lib.rt:177:1
 same-length : tie.Need-same-length
 same-length c = search needs
 
--- src/lib.rt:177:1
+returns : tie.Need-returns
+returns c =
+    let pre = c .before .before .before .before .before .before .before .before .before .before
+    .pre in
+    let read-uri = c .before .before .before .before .before .read-uri in
+    let if1 = c .before .if1 in
+    rw (c .stopped .ensures) (pair-first (pre) (read-uri .ensures .0) (read-uri .ensures .1) _
+    (omega (arith, if1 .taken)))
+
+read-local-requires : tie.Need-read-local-requires
+read-local-requires c κs =
+    let pre = c .before .before .before .before .before .before .before .before .before .before
+    .pre in
+    let read-uri = c .before .before .before .before .before .read-uri in
+    let if1 = c .before .if1 in
+    name-asks (pre) (read-uri .ensures .0) (read-uri .ensures .1) (if1 .left)
+
+stopped-requires-2 : tie.Need-stopped-requires-2
+stopped-requires-2 c κs = search needs
+
+same-length-2 : tie.Need-same-length-2
+same-length-2 c = search needs
+
 returns-2 : tie.Need-returns-2
-returns-2 c = as-pair (c .before .before .before .before .if1 .left) (c .before .before .read-pair .ensures)
+returns-2 c =
+    let pre = c .before .before .before .before .before .before .before .before .before .before
+    .before .before .before .before .before .before .pre in
+    let read-uri = c .before .before .before .before .before .before .before .before .before
+    .before .before .read-uri in
+    let if1 = c .before .before .before .before .before .before .before .if1 in
+    let read-local = c .before .before .before .before .before .read-local in
+    let if2 = c .before .if2 in
+    rw (c .stopped2 .ensures) (pair-second (pre) (read-uri .ensures .0) (read-uri .ensures .1) (if1
+    .left) _ (read-local .ensures .0) (read-local .ensures .1) (omega (arith, if2 .taken)))
+
+paired-requires : tie.Need-paired-requires
+paired-requires c κs = search needs
+
+same-length-3 : tie.Need-same-length-3
+same-length-3 c = search needs
+
+returns-3 : tie.Need-returns-3
+returns-3 c =
+    let pre = c .before .before .before .before .before .before .before .before .before .before
+    .before .before .before .before .before .before .pre in
+    let read-uri = c .before .before .before .before .before .before .before .before .before
+    .before .before .read-uri in
+    let if1 = c .before .before .before .before .before .before .before .if1 in
+    let read-local = c .before .before .before .before .before .read-local in
+    let if2 = c .before .if2 in
+    rw (c .paired .ensures) (pair-read (pre) (read-uri .ensures .0) (read-uri .ensures .1) (if1
+    .left) _ (read-local .ensures .0) (read-local .ensures .1) (if2 .left))
 
 pub read-name-spec : {M : Type 1} → statement M
 read-name-spec =
-    tie.close (tie.spec carried-requires returns read-pair-requires same-length returns-2)
+    tie.close
+    (tie.spec
+    read-uri-requires
+    stopped-requires
+    same-length
+    returns
+    read-local-requires
+    stopped-requires-2
+    same-length-2
+    returns-2
+    paired-requires
+    same-length-3
+    returns-3)

@@ -53,7 +53,7 @@ general-requires : tie.Need-general-requires
 general-requires c κs =
     let pre = c .before .before .before .before .before .before .before .before .before .before
     .before .pre in
-    (pre .0, (pre .1) .code)
+    pre
 
 same-length-3 : tie.Need-same-length-3
 same-length-3 c = c .before .events2 .given

@@ -10,7 +10,7 @@ use Rattle.read_step.proofs.general.Tie as tie
 read-event-requires : tie.Need-read-event-requires
 read-event-requires c κs =
     let pre = c .before .before .before .before .before .before .pre in
-    (event-asks (pre .0), pre .1)
+    (event-asks (pre .0), (pre .1 .code, pre .1 .is))
 
 answer-requires : tie.Need-answer-requires
 answer-requires c κs = search needs
