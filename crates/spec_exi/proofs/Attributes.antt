@@ -6,11 +6,12 @@ use mathlib.Core.Bool.{Bool, true, false, _&&_, _||_, not}
 use mathlib.Core.List.{List, [], _∷_, _++_}
 use mathlib.Core.Option.{Option, none, some, Option·none-ne-some}
 use lib.Dec.{T}
+use borrow.Author.Tests.{eq-eqb, ne-eqb}
 use Rattle.spec_fields.proofs.Tests.{T-is, is-T, both, left, right, split}
 use Rattle.text.specs.Text.{Text}
 use Rattle.spec_exi.specs.Event.{QName, Event, startDocument, endDocument, endElement}
 use Rattle.spec_exi.specs.Event.{startElement, attribute, characters, comment, instruction}
-use Rattle.spec_exi.specs.Event.{kindOf, nameOf, eqName}
+use Rattle.spec_exi.specs.Event.{AT, kindOf, nameOf, eqName}
 use Rattle.spec_exi.specs.Settings.{Settings}
 use Rattle.spec_exi.specs.Grammar.{kindNumber, hasName, Tag, emptyTag, isAttribute}
 use Rattle.spec_exi.specs.Grammar.{attributeName, withAttribute, tagAfter, isNew, tagAllows}
@@ -22,16 +23,18 @@ use Rattle.spec_exi.proofs.Codes.{eqName-refl, eqName-eq}
 
 module _ (t : Tag) (e : Event Text) where
   -- An attribute is one more in the start tag, and allowed where its name is new there.
-  pub tag-attribute : (q : QName Text) → attributeName e ≡ some q
+  pub tag-attribute : kindNumber (kindOf e) ≡ kindNumber AT → (q : QName Text) → nameOf e ≡ some q
       → (tagAfter t e ≡ record { attributes = q ∷ t .attributes })
       × (tagAllows t e ≡ not (hasName (t .attributes) q))
-  unfolding tagAfter withAttribute tagAllows isNew
-  tag-attribute q h = (rw h, rw h)
+  unfolding tagAfter withAttribute tagAllows isNew attributeName isAttribute
+  tag-attribute k q n =
+      let is = eq-eqb (kindNumber (kindOf e)) (kindNumber AT) k in (rw (is, n), rw (is, n))
 
   -- Any other event leaves none, and is allowed.
-  pub tag-other : attributeName e ≡ none → (tagAfter t e ≡ emptyTag) × (tagAllows t e ≡ true)
-  unfolding tagAfter withAttribute tagAllows isNew
-  tag-other h = (rw h, rw h)
+  pub tag-other : (kindNumber (kindOf e) ≡ kindNumber AT → ⊥)
+      → (tagAfter t e ≡ emptyTag) × (tagAllows t e ≡ true)
+  unfolding tagAfter withAttribute tagAllows isNew attributeName isAttribute
+  tag-other k = let is = ne-eqb (kindNumber (kindOf e)) (kindNumber AT) k in (rw is, rw is)
 
 -- ---- the rule for lists is the test by the start tag
 

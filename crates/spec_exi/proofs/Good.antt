@@ -155,8 +155,7 @@ module _ (s : Settings) (c : Context) (e : Event Text) where
     unfolding afterCode after
     state-next = rw (next-is (f .code) (f .coded))
 
-    -- An event leaves of the start tag what its name says (`tag-attribute`, `tag-other`).
-    pub tag-next : next s c e .tag ≡ tagAfter (c .tag) e
+    tag-next : next s c e .tag ≡ tagAfter (c .tag) e
     unfolding afterCode after
     tag-next = rw (next-is (f .code) (f .coded))
 

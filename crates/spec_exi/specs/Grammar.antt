@@ -258,14 +258,14 @@ stateAfter s st (characters v) = inContent st
 stateAfter s st (comment x) = inContent st
 stateAfter s st (instruction x y) = inContent st
 
--- ---- the start tag that is open (EXI 8.4.3: StartTagContent)
+-- ---- the start tag that is open (P3, "Equal attributes")
 
--- What has come in it. (Names, by their texts: P3, "Equal attributes".)
+-- What has come in it.
 pub record Tag : Type 0 where
-  -- the names of its attributes, the newest first
+  -- the names of its attributes, by their texts, the newest first
   pub attributes : List (QName Text)
 
--- Nothing has, after a start element; and where no start tag is open.
+-- Nothing has after a start element, and where no start tag is open.
 unfoldable pub emptyTag : Tag
 emptyTag = record { attributes = [] }
 
@@ -277,7 +277,7 @@ isAttribute e = eqb (kindNumber (kindOf e)) (kindNumber AT)
 unfoldable pub attributeName : Event Text → Option (QName Text)
 attributeName e = cond (isAttribute e) (nameOf e) none
 
--- The tag with one attribute more. Any other event begins another tag, or ends it.
+-- The tag with one attribute more. Any other event ends it, or begins another.
 unfoldable pub withAttribute : Tag → Option (QName Text) → Tag
 withAttribute t none = emptyTag
 withAttribute t (some q) = record { attributes = q ∷ t .attributes }
@@ -291,7 +291,7 @@ unfoldable pub isNew : List (QName Text) → Option (QName Text) → Bool
 isNew qs none = true
 isNew qs (some q) = not (hasName qs q)
 
--- No second attribute of one name; else SHAPE (P3).
+-- The event is no second attribute of one name in the tag; else SHAPE (P3).
 unfoldable pub tagAllows : Tag → Event Text → Bool
 tagAllows t e = isNew (t .attributes) (attributeName e)
 

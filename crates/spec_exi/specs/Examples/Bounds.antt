@@ -2,8 +2,7 @@
 -- where a size is passed, too.
 use Rattle.spec_fields.specs.Prelude.{ℕ, suc, _+_, String, _≡_, List, [], _∷_, _++_, map, getD}
 use Rattle.spec_fields.specs.Prelude.{replicate}
-use Rattle.spec_fields.specs.Refusal.{Refusal, long, character, loose, name, limit, Answer, refused}
-use Rattle.spec_fields.specs.Refusal.{accepted}
+use Rattle.spec_fields.specs.Refusal.{Refusal, long, loose, name, limit, Answer, refused, accepted}
 use Rattle.spec_exi.specs.Settings.{settingsOf}
 use Rattle.spec_exi.specs.Sizes.{Sizes}
 use Rattle.spec_exi.specs.Reader.{Reading, readSized, read, listOf, readReply}
