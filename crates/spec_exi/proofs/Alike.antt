@@ -15,6 +15,7 @@ use Rattle.spec_exi.specs.Settings.{Settings}
 use Rattle.spec_exi.specs.Tables.{Placed, nameText, Tables, Role, partitionsOf, Form, hit}
 use Rattle.spec_exi.specs.Tables.{literal, formOf, formBits, added, tablesAfter}
 use Rattle.spec_exi.specs.Grammar.{isWildcard, State, Code, codeBits, codeOf, isFinished}
+use Rattle.spec_exi.specs.Grammar.{tagAllows}
 use Rattle.spec_exi.specs.Context.{Context, levelsIn, Item, items, afterItem, afterItems}
 use Rattle.spec_exi.specs.Context.{after, entriesOf, afterCode, next}
 use Rattle.spec_exi.specs.Strict.{itemBits, itemsBits, codedBits, eventBits}
@@ -183,10 +184,19 @@ entries-alike t n p h = same-texts (Option·map (entriesOf t) n) p (entries-name
 
 -- Contexts with alike parts.
 pub alike : {c d : Context} → c .state ≡ d .state → AlikeTables (c .tables) (d .tables)
-    → map unplacedLearned (c .learned) ≡ map unplacedLearned (d .learned) → c .grammars ≡ d .grammars → Alike c d
+    → map unplacedLearned (c .learned) ≡ map unplacedLearned (d .learned)
+    → c .grammars ≡ d .grammars → c .tag ≡ d .tag → Alike c d
 unfolding unplacedContext
-alike st t ls gs =
-    record { same = λ i. record { state = st i; tables = t .same i; learned = ls i; grammars = gs i } }
+alike st t ls gs tag =
+    record {
+      same = λ i. record {
+        state = st i;
+        tables = t .same i;
+        learned = ls i;
+        grammars = gs i;
+        tag = tag i;
+      };
+    }
 
 -- What events with alike codes leave, where their strings leave alike tables, is alike.
 pub after-alike : {c d : Context} {x y : Code} {t u : Tables} {p q : Option (QName Placed)} (s : Settings) → Alike c d
@@ -209,6 +219,11 @@ module _ {c d : Context} (a : Alike c d) where
   pub tables-alike : AlikeTables (c .tables) (d .tables)
   unfolding unplacedContext
   tables-alike = record { same = ap (λ (b : Context). b .tables) (a .same) }
+
+  -- The start tag goes by texts alone.
+  pub tag-alike : c .tag ≡ d .tag
+  unfolding unplacedContext
+  tag-alike = ap (λ (b : Context). b .tag) (a .same)
 
   pub finished-alike : isFinished (c .state) ≡ isFinished (d .state)
   finished-alike = ap isFinished state-alike
@@ -293,6 +308,7 @@ module _ {c d : Context} (a : Alike c d) where
           rw (
             strings-alike k f,
             content-tests-alike z tables-alike (items (d .state) (w .production) f),
+            ap (λ t. tagAllows t f) tag-alike,
             within-grammars-alike (next-alike f) z,
           )
 

@@ -22,7 +22,9 @@ use Rattle.spec_exi.specs.Grammar.{openElements, eqSite, siteOf, learned
 use Rattle.spec_exi.specs.Grammar.{levelsWith, levels, allEmpty, choices, atLevel, below}
 use Rattle.spec_exi.specs.Grammar.{codeBits, raised, firstFit, codeOr, codeOf, sameCode}
 use Rattle.spec_exi.specs.Grammar.{hasKind, teaches, taught, learn, hasName, withGrammar}
-use Rattle.spec_exi.specs.Grammar.{grammarsAfter, inContent, closed, stateAfter, isFinished}
+use Rattle.spec_exi.specs.Grammar.{grammarsAfter, inContent, closed, stateAfter, emptyTag}
+use Rattle.spec_exi.specs.Grammar.{isAttribute, attributeName, withAttribute, tagAfter, isNew}
+use Rattle.spec_exi.specs.Grammar.{tagAllows, isFinished}
 use Rattle.spec_exi.specs.Context.{start, levelsIn, item, characterRole, nameItems, items}
 use Rattle.spec_exi.specs.Context.{afterItem, afterItems, after, entryOf, entriesOf}
 use Rattle.spec_exi.specs.Context.{afterCode, next, contextAfter}
@@ -58,7 +60,8 @@ unfolding bitsOf valueOf each unpack octetsFrom octetsFor pack allZero isPadding
     tablesAfter xmlUri xsiUri initialEntries addedAll startTables nameAllowed unnamed kindNumber
     isWildcard fitsName fits openElements eqSite siteOf learnedIn learnedAt kept levelsWith levels
     allEmpty choices atLevel below codeBits raised firstFit codeOr codeOf sameCode hasKind teaches
-    taught learn hasName withGrammar grammarsAfter inContent closed stateAfter isFinished start
+    taught learn hasName withGrammar grammarsAfter inContent closed stateAfter
+    emptyTag isAttribute attributeName withAttribute tagAfter isNew tagAllows isFinished start
     levelsIn item characterRole nameItems items afterItem afterItems after entryOf entriesOf
     afterCode next contextAfter itemBits itemsBits codedBits eventBits listBits strict every
     namesAllowed charsOnly withinTables withinGrammars within staysWithin short shortStrings

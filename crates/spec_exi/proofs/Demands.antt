@@ -52,7 +52,7 @@ good-of : (s : Settings) (l : List (Event Text)) → ListFit s (start s) l → l
 good-of s l h m o =
     let g = good-of-fit s l h in
     record {
-      wellFormed = record { shape = g .shape; chars = g .chars; names = g .names };
+      wellFormed = g .formed;
       limits = record { list = record { events = m; strings = g .strings; sizes = g .sizes }; octets = o };
     }
 
@@ -60,9 +60,7 @@ fit-of : (s : Settings) (l : List (Event Text)) → Good s l → ListFit s (star
 fit-of s l g =
     fit-of-good s l
     (record {
-      shape = g .wellFormed .shape;
-      chars = g .wellFormed .chars;
-      names = g .wellFormed .names;
+      formed = g .wellFormed;
       strings = g .limits .list .strings;
       sizes = g .limits .list .sizes;
     })

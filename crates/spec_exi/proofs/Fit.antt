@@ -11,7 +11,7 @@ use Rattle.spec_exi.specs.Sizes.{sizes}
 use Rattle.spec_exi.specs.Event.{Event}
 use Rattle.spec_exi.specs.Settings.{Settings}
 use Rattle.spec_exi.specs.Tables.{Tables, nameAllowed}
-use Rattle.spec_exi.specs.Grammar.{Code, codeOf, finished}
+use Rattle.spec_exi.specs.Grammar.{Code, codeOf, finished, tagAllows}
 use Rattle.spec_exi.specs.Context.{Context, levelsIn, Item, items, afterItem, next}
 use Rattle.spec_exi.specs.Lists.{short, withinTables, withinGrammars}
 
@@ -32,6 +32,7 @@ pub record EventFit (s : Settings) (c : Context) (e : Event Text) : Type 0 where
   pub code : Code
   pub coded : codeOf (levelsIn s c) e ≡ some code
   pub strings : ItemsFit (c .tables) (items (c .state) (code .production) e)
+  pub tag : T (tagAllows (c .tag) e)
   pub grammars : T (withinGrammars sizes (next s c e))
 
 -- A list may come next, up to the end of the document.

@@ -19,14 +19,16 @@ use Rattle.spec_exi.specs.Tables.{Tables, Form, hit, literal, partitions
 use Rattle.spec_exi.specs.Tables.{tablesAfter, nameAllowed}
 use Rattle.spec_exi.specs.Grammar.{Production, State, document, docContent, docEnd, finished}
 use Rattle.spec_exi.specs.Grammar.{startTag, elementContent, Code, codeOf, stateAfter}
+use Rattle.spec_exi.specs.Grammar.{tagAfter, tagAllows}
 use Rattle.spec_exi.specs.Context.{Context, start, levelsIn, Item, item, characterRole}
 use Rattle.spec_exi.specs.Context.{nameItems, items, afterItem, afterItems, after, afterCode}
 use Rattle.spec_exi.specs.Context.{next}
-use Rattle.spec_exi.specs.Lists.{every, Document, namesAllowed, charsOnly, withinTables}
+use Rattle.spec_exi.specs.Lists.{every, namesAllowed, charsOnly, WellFormed, withinTables}
 use Rattle.spec_exi.specs.Lists.{within, staysWithin, short, shortStrings}
 use Rattle.spec_exi.proofs.Step.{sane-start}
 use Rattle.spec_exi.proofs.Fit.{ItemsFit, EventFit, ListFit, done, also}
 use Rattle.spec_exi.proofs.Shape.{allowed, Run, stop, go, run-of-document, document-of-run}
+use Rattle.spec_exi.proofs.Attributes.{tagsAllow, tags-differ}
 use Rattle.spec_exi.proofs.Codes.{LearnedOk, learned-ok-start, learned-ok-after}
 use Rattle.spec_exi.proofs.Codes.{code-of-allowed, allowed-of-code}
 
@@ -121,6 +123,7 @@ record Meet (s : Settings) (c : Context) (e : Event Text) : Type 0 where
   shape : T (allowed s (c .state) e)
   chars : T (charsOnly e)
   names : T (namesAllowed e)
+  tag : T (tagAllows (c .tag) e)
   strings : T (shortStrings sizes e)
   sizes : T (within sizes (next s c e))
 
@@ -143,6 +146,7 @@ module _ (s : Settings) (c : Context) (e : Event Text) where
           named = rw names-are (m .names);
           room = rw (next-is x h) at room;
         });
+        tag = m .tag;
         grammars = search right;
       }
 
@@ -150,6 +154,10 @@ module _ (s : Settings) (c : Context) (e : Event Text) where
     state-next : next s c e .state ≡ stateAfter s (c .state) e
     unfolding afterCode after
     state-next = rw (next-is (f .code) (f .coded))
+
+    tag-next : next s c e .tag ≡ tagAfter (c .tag) e
+    unfolding afterCode after
+    tag-next = rw (next-is (f .code) (f .coded))
 
     module _ (o : Sound s c) where
       strings-fit : StringsFit (c .tables) (items (c .state) (f .code .production) e)
@@ -174,6 +182,7 @@ module _ (s : Settings) (c : Context) (e : Event Text) where
             shape = shape-fits;
             chars = rw (strings-are allChars) at (strings-fit .chars);
             names = rw names-are at (strings-fit .named);
+            tag = f .tag;
             strings = rw (strings-are (short sizes)) at (strings-fit .small);
             sizes = search (both, sound-next .room);
           }
@@ -182,9 +191,7 @@ module _ (s : Settings) (c : Context) (e : Event Text) where
 
 -- What is asked of a good list, but for its numbers of events and octets.
 pub record Meets (s : Settings) (l : List (Event Text)) : Type 0 where
-  pub shape : Document s l
-  pub chars : T (every charsOnly l)
-  pub names : T (every namesAllowed l)
+  pub formed : WellFormed s l
   pub strings : T (every (shortStrings sizes) l)
   pub sizes : T (staysWithin sizes s (start s) l)
 
@@ -193,6 +200,7 @@ record MeetsFrom (s : Settings) (c : Context) (l : List (Event Text)) : Type 0 w
   shape : Run s (c .state) l
   chars : T (every charsOnly l)
   names : T (every namesAllowed l)
+  tags : T (tagsAllow (c .tag) l)
   strings : T (every (shortStrings sizes) l)
   sizes : T (staysWithin sizes s c l)
 
@@ -204,27 +212,52 @@ module _ {s : Settings} where
   run-goes (go e t r) = (t, r)
 
   fit-from : (c : Context) (l : List (Event Text)) → Sound s c → MeetsFrom s c l → ListFit s c l
-  unfolding every staysWithin
+  unfolding every staysWithin tagsAllow
   fit-from c [] o m = done (run-ends (m .shape))
   fit-from c (e ∷ l) o m =
       let (first, rest) = run-goes (m .shape) in
       let f = fit-of-meet s c e (search left) in
-      also e f (fit-from (next s c e) l (sound-next s c e f o) (search (right, state-next s c e f)))
+      also e f (fit-from (next s c e) l (sound-next s c e f o)
+      (search (right, state-next s c e f, tag-next s c e f)))
 
   meets-from : {c : Context} {l : List (Event Text)} → Sound s c → ListFit s c l → MeetsFrom s c l
-  unfolding every staysWithin
-  meets-from o (done h) = record { shape = rw h stop; chars = tt; names = tt; strings = tt; sizes = tt }
+  unfolding every staysWithin tagsAllow
+  meets-from o (done h) =
+      record { shape = rw h stop; chars = tt; names = tt; tags = tt; strings = tt; sizes = tt }
   meets-from {c} o (also e f r) =
       let first = meet-of-fit s c e f o in
       let later = meets-from (sound-next s c e f o) r in
-      search (both, go e (first .shape) (rw (state-next s c e f) at (later .shape)))
+      let shape = go e (first .shape) (rw (state-next s c e f) at (later .shape)) in
+      search (both, shape, rw (tag-next s c e f) at (later .tags))
 
 -- The events of a good list may come one after the other.
 pub fit-of-good : (s : Settings) (l : List (Event Text)) → Meets s l → ListFit s (start s) l
 unfolding start
-fit-of-good s l m = fit-from (start s) l (sound-start s) (search run-of-document)
+fit-of-good s l m =
+    let w = m .formed .base in
+    fit-from (start s) l (sound-start s) (record {
+      shape = run-of-document s l (w .shape);
+      chars = w .chars;
+      names = w .names;
+      tags = rw (tags-differ l) (m .formed .attributes);
+      strings = m .strings;
+      sizes = m .sizes;
+    })
 
 -- A list whose events may come one after the other is good.
 pub good-of-fit : (s : Settings) (l : List (Event Text)) → ListFit s (start s) l → Meets s l
 unfolding start
-good-of-fit s l f = let m = meets-from (sound-start s) f in search document-of-run
+good-of-fit s l f =
+    let m = meets-from (sound-start s) f in
+    record {
+      formed = record {
+        base = record {
+          shape = document-of-run s l (m .shape);
+          chars = m .chars;
+          names = m .names;
+        };
+        attributes = rw (tags-differ l) at (m .tags);
+      };
+      strings = m .strings;
+      sizes = m .sizes;
+    }

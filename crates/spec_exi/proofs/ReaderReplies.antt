@@ -11,7 +11,7 @@ use lib.Dec.{T, leb, leb→le}
 use borrow.Author.Tests.{leb-false}
 use Rattle.spec_fields.specs.Bits.{Bits, unpack, isPadding}
 use Rattle.spec_fields.specs.Refusal.{Refusal, numberOf, room, settings, long, header, ended, code}
-use Rattle.spec_fields.specs.Refusal.{number, character, reference, loose, name, limit, tail}
+use Rattle.spec_fields.specs.Refusal.{number, character, reference, loose, name, limit, tail, shape}
 use Rattle.spec_fields.specs.Refusal.{Answer, refused, accepted}
 use Rattle.spec_fields.specs.Parser.{Result, bad, got, Parser}
 use Rattle.spec_fields.specs.Field.{Alignment}
@@ -38,7 +38,7 @@ use Rattle.spec_exi.proofs.Entries.{store-within}
 use Rattle.spec_exi.proofs.Step.{StepRead, sane-start}
 use Rattle.spec_exi.proofs.Body.{Run, ends, goes, read-runs, not-accepted, refused-same}
 
--- ---- the refusals of events: ENDED to TAIL
+-- ---- the refusals of events: ENDED to SHAPE
 
 unfoldable between : Refusal → Refusal → Refusal → Bool
 between a b k = leb (numberOf a) (numberOf k) && leb (numberOf k) (numberOf b)
@@ -55,7 +55,7 @@ bounds a b k t =
     )
 
 unfoldable ofEvents : Refusal → Bool
-ofEvents = between ended tail
+ofEvents = between ended shape
 
 module _ (z : Sizes) (s : Settings) where
   says-character : Says ofEvents (readCharacter s)
@@ -129,7 +129,8 @@ says-step : (z : Sizes) (s : Settings) (c : Context) → Says ofEvents (step z s
 unfolding step ofEvents between numberOf
 says-step z s c =
     says-then _ (says-code _ _) (λ x. says-then _ (says-content z s _ _ _ _)
-    (λ e. says-guard _ _ loose tt (says-guard _ _ limit tt (says-return _ _))))
+    (λ e. says-guard _ _ shape tt
+    (says-guard _ _ loose tt (says-guard _ _ limit tt (says-return _ _)))))
 
 -- ---- the events
 
@@ -219,7 +220,7 @@ says-header (h ∷ hs) = says-then _ (says-octet _ tt) (λ o. says-guard _ _ hea
 
 -- What the octets can lead to.
 pub data Inside : Answer Reading → Type 0 where
-  stopped : {k : Refusal} {i : ℕ} → numberOf header ≤ numberOf k → numberOf k ≤ numberOf tail
+  stopped : {k : Refusal} {i : ℕ} → numberOf header ≤ numberOf k → numberOf k ≤ numberOf shape
       → i ≤ maxEvents
       → (numberOf k ≤ numberOf header → i ≡ 0) → Inside (refused k i)
   whole : {x : Reading} → length (x .events) ≤ maxEvents → length (x .store) ≤ maxStore
@@ -231,7 +232,7 @@ module _ (s : Settings) where
   unfolding ofEvents numberOf
   events-inside bs (refused k i) e =
       let h = events-refuse sizes s maxEvents (start s) bs k i e in
-      let (least, most) = bounds ended tail k (h .by) in
+      let (least, most) = bounds ended shape k (h .by) in
       stopped {k = k} (omega arith) most (h .index) (λ l. absurd (omega arith))
   events-inside bs (accepted x) e =
       let h = read-runs sizes s maxEvents (start s) bs x e in
@@ -281,8 +282,8 @@ contrary true t f = absurd f
 contrary false t f = absurd t
 
 module _ {r : ReaderRoom} {o : SettingNumbers} {stream : List ℕ} where
-  -- SHAPE and PLACE are not among the reader's numbers.
-  pub numbers : {a : Answer Reading} → Outcome r o stream a → readReply a .number ≤ numberOf tail
+  -- PLACE is not among the reader's numbers.
+  pub numbers : {a : Answer Reading} → Outcome r o stream a → readReply a .number ≤ numberOf shape
   unfolding readReply numberOf
   numbers (noRoom e) = omega arith
   numbers (noMeaning e m) = omega arith

@@ -8,7 +8,7 @@ use mathlib.Core.Option.{Option, none, some}
 use lib.ListN.{length, getElem?}
 use lib.Dec.{T, leb, leb→le, le→leb}
 use Rattle.spec_fields.specs.Bits.{Bits, unpack}
-use Rattle.spec_fields.specs.Refusal.{Refusal, loose, name, limit, Answer, refused, accepted}
+use Rattle.spec_fields.specs.Refusal.{Refusal, loose, name, limit, shape, Answer, refused, accepted}
 use Rattle.spec_fields.specs.Parser.{Result, bad, got, Parser, return, fail, need, andThen, _>>=_}
 use Rattle.spec_fields.specs.Parser.{_>>_}
 use Rattle.spec_fields.proofs.Tests.{T-is, is-T, both, left, right, split}
@@ -144,7 +144,8 @@ module _ (y z : Sizes) (h : NoLarger y z) where
     unfolding step
     step-also c =
         also-then (also-same _) (λ x. also-then (content-also (c .tables) (c .state) (x .production .kind) (x .production .qname))
-        (λ e. also-when _ loose (also-need _ _ limit (grammars-larger _) (also-same _))))
+        (λ e. also-when _ shape
+        (also-when _ loose (also-need _ _ limit (grammars-larger _) (also-same _)))))
 
     events-still : (n m : ℕ) → n ≤ m → (c : Context) (bs : Bits) (r : Reading)
         → readEvents n y s c bs ≡ accepted r → readEvents m z s c bs ≡ accepted r

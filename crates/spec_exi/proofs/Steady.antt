@@ -86,7 +86,7 @@ pub steady-step : (z : Sizes) (s : Settings) (c : Context) → Steady (step z s 
 unfolding step
 steady-step z s c =
     steady-then (steady-code _ _) (λ x. steady-then (steady-content z s _ _ _ _)
-    (λ e. steady-guard _ _ (steady-guard _ _ (steady-return _))))
+    (λ e. steady-guard _ _ (steady-guard _ _ (steady-guard _ _ (steady-return _)))))
 
 -- The header.
 pub steady-header : (hs : List ℕ) → Steady (readHeader hs)

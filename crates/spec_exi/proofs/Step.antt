@@ -6,7 +6,7 @@ use mathlib.Core.Bool.{Bool, true, false}
 use mathlib.Core.Option.{Option, none, some, Option·map}
 use lib.Dec.{T}
 use Rattle.spec_fields.specs.Bits.{Bits}
-use Rattle.spec_fields.specs.Refusal.{loose, limit}
+use Rattle.spec_fields.specs.Refusal.{loose, limit, shape}
 use Rattle.spec_fields.proofs.Tests.{split, is-T}
 use Rattle.spec_fields.proofs.Exact.{Reads, Every, reads-as, reads-return, reads-then, reads-guard}
 use Rattle.text.specs.Text.{Text, text, isEmpty, isChar, allChars}
@@ -22,7 +22,7 @@ use Rattle.spec_exi.specs.Grammar.{Production, unnamed, State, document,
 use Rattle.spec_exi.specs.Grammar.{finished, startTag, elementContent, Site, eqSite, siteOf}
 use Rattle.spec_exi.specs.Grammar.{Learned, learnedIn, learnedAt, kept, levelsWith, levels}
 use Rattle.spec_exi.specs.Grammar.{Code, isWildcard, codeOf, sameCode, codeBits, teaches}
-use Rattle.spec_exi.specs.Grammar.{taught, learn}
+use Rattle.spec_exi.specs.Grammar.{taught, learn, tagAllows}
 use Rattle.spec_exi.specs.Context.{Context, start, levelsIn, Item, item, nameItems, items}
 use Rattle.spec_exi.specs.Context.{afterItem, afterItems, entriesOf, after, afterCode, next}
 use Rattle.spec_exi.specs.Strict.{itemsBits, codedBits, eventBits}
@@ -48,6 +48,7 @@ pub record StepRead (z : Sizes) (s : Settings) (c : Context) (y : Event Placed �
   pub tables : Tables
   pub content : Bits
   pub read : ContentRead z s (c .tables) (c .state) (code .production .qname) (y .0, tables) content (code .production .kind)
+  pub tag : T (tagAllows (c .tag) (eventText (y .0)))
   pub strictly : T (sameCode (code .parts) (codeOf (levelsIn s c) (eventText (y .0))))
   pub leaves : y .1 ≡ after s c code tables (nameOf (y .0)) (eventText (y .0))
   pub grammars : T (withinGrammars z (y .1))
@@ -60,12 +61,13 @@ step-reads z s c =
     reads-as
     (reads-then (code-reads (s .alignment) (levelsIn s c)) (λ x u h.
     reads-then (content-reads z s (c .tables) (c .state) (x .production .qname) (x .production .kind)) (λ a v k.
+    reads-guard (tagAllows (c .tag) (eventText (a .0))) shape (λ t.
     reads-guard (sameCode (x .parts) (codeOf (levelsIn s c) (eventText (a .0)))) loose (λ p.
     reads-guard (withinGrammars z (after s c x (a .1) (nameOf (a .0)) (eventText (a .0)))) limit (λ q.
-    reads-return (a .0, after s c x (a .1) (nameOf (a .0)) (eventText (a .0))))))))
+    reads-return (a .0, after s c x (a .1) (nameOf (a .0)) (eventText (a .0)))))))))
     (λ y w h.
     let m = h .two in
-    let r = m .two .1 .1 in
+    let r = m .two .1 .1 .1 in
     rw (r .is)
     (record {
       code = h .first;
@@ -73,9 +75,10 @@ step-reads z s c =
       tables = m .first .1;
       content = m .front;
       read = m .one;
-      strictly = m .two .0;
+      tag = m .two .0;
+      strictly = m .two .1 .0;
       leaves = refl;
-      grammars = m .two .1 .0;
+      grammars = m .two .1 .1 .0;
       joined = h .joined ∙ ap (λ b. h .front ++ b) (m .joined ∙ ap (λ b. m .front ++ b) (r .empty) ∙ append-nil (m .front))
           ∙ ap (λ b. b ++ m .front) (h .one .1);
     }))
@@ -91,8 +94,14 @@ step-reads z s c =
         back = [];
         one = h .read;
         two = (
-          h .strictly,
-          (rw (h .leaves) at (h .grammars), record { is = ap (λ d. (y .0, d)) (h .leaves); empty = refl }),
+          h .tag,
+          (
+            h .strictly,
+            (
+              rw (h .leaves) at (h .grammars),
+              record { is = ap (λ d. (y .0, d)) (h .leaves); empty = refl },
+            ),
+          ),
         );
         joined = sym (append-nil (h .content));
       };
@@ -217,6 +226,7 @@ step-fit s c y w g h =
         code = h .code;
         coded = coded;
         strings = m .strings;
+        tag = h .tag;
         grammars = subst (λ d. T (withinGrammars sizes d)) (step-next s c y w g h) (h .grammars);
       },
       h .joined ∙ ap (λ b. codeBits (s .alignment) (levelsIn s c) (h .code .parts) ++ b) (m .bits)
@@ -247,6 +257,7 @@ step-found s c e h =
         tables = m .tables;
         content = itemsBits (s .alignment) (c .tables) (items (c .state) (x .production) e);
         read = m .read;
+        tag = rw (m .is) (h .tag);
         strictly = code-same (x .parts) (codeOf (levelsIn s c) (eventText (m .event))) x coded refl;
         leaves = sym (after ∙ ap (next s c) (m .is));
         grammars = h .grammars;

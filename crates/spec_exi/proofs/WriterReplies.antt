@@ -74,7 +74,7 @@ module _ (z : Sizes) where
       let content = contentTests z (c .tables) is in
       every-append (λ t. OfList (t .1)) (places ++ content) _
       (every-append (λ t. OfList (t .1)) places content (place-faults store (stringsOf e)) (content-faults (c .tables) is))
-      (aLimit, tt)
+      (aShape, (aLimit, tt))
 
   fault-of-list : (s : Settings) (c : Context) (store : Text) (e : Event Span) (k : Refusal)
       → faultOf z s c store e ≡ some k → OfList k
@@ -147,7 +147,7 @@ list-outcome {r} {o} xs store e m =
         (λ t. rw t (tooLong e m (subst (λ x. TooLong x xs store) i (record {
           list = l;
           meaning = means;
-          formed = record { shape = g .shape; chars = g .chars; names = g .names };
+          formed = g .formed;
           inside = record { events = few; strings = g .strings; sizes = g .sizes };
           octets = subst (λ b. maxStream < length b) is (leb-false _ _ t);
         }))))
@@ -170,9 +170,7 @@ unfolding write writeList asOctets strict
 too-long-refused r o xs store e m h =
     let s = settingsOf o in
     let fit = fit-of-good s (h .list) (record {
-      shape = h .formed .shape;
-      chars = h .formed .chars;
-      names = h .formed .names;
+      formed = h .formed;
       strings = h .inside .strings;
       sizes = h .inside .sizes;
     }) in

@@ -1,6 +1,6 @@
--- Contexts that differ at most in where their strings lie: same state and grammars, same texts
--- under the same keys in the same order, same learned productions by the texts of their names, text
--- stores of the same length.
+-- Contexts that differ at most in where their strings lie: same state, grammars and start tag, same
+-- texts under the same keys in the same order, same learned productions by the texts of their
+-- names, text stores of the same length.
 use mathlib.Core.Path.{_≡_}
 use mathlib.Core.List.{map}
 use mathlib.Core.Option.{Option, none, some, Option·map}
@@ -47,6 +47,7 @@ unplacedContext c =
       tables = unplacedTables (c .tables);
       learned = map unplacedLearned (c .learned);
       grammars = c .grammars;
+      tag = c .tag;
     }
 
 -- ---- alike: the same but for places. Reader and writer lay a text at different places; no bit,

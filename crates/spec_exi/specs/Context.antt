@@ -1,6 +1,6 @@
--- Everything that the events before leave: state, string tables, learned productions and element
--- grammars. One definition says what an event leaves, for the strict form, the reader and the
--- writer.
+-- Everything that the events before leave: state, string tables, learned productions, element
+-- grammars and the start tag that is open. One definition says what an event leaves, for the strict
+-- form, the reader and the writer.
 use Rattle.spec_fields.specs.Prelude.{Bool, true, false, cond, List, [], _∷_, _++_, Option, none}
 use Rattle.spec_fields.specs.Prelude.{some, Option·map}
 use Rattle.text.specs.Text.{Text, eqText}
@@ -13,7 +13,7 @@ use Rattle.spec_exi.specs.Tables.{plain, partitionsOf, formOf, tablesAft
 use Rattle.spec_exi.specs.Grammar.{Production, State, document, docContent, docEnd, finished}
 use Rattle.spec_exi.specs.Grammar.{startTag, elementContent, Learned, Code, isWildcard}
 use Rattle.spec_exi.specs.Grammar.{levels, codeOf, siteOf, learnedAt, taught, learn}
-use Rattle.spec_exi.specs.Grammar.{grammarsAfter, stateAfter}
+use Rattle.spec_exi.specs.Grammar.{grammarsAfter, stateAfter, Tag, emptyTag, tagAfter}
 
 -- What an event is read and written by: string tables (EXI 7.3) and grammars (EXI 8.4).
 pub record Context : Type 0 where
@@ -22,10 +22,19 @@ pub record Context : Type 0 where
   pub learned : List Learned
   -- the names of the elements that have a grammar
   pub grammars : List (QName Text)
+  -- what has come in the start tag that is open
+  pub tag : Tag
 
 -- The start of a stream (scope, "Grammars": the strict form).
 unfoldable pub start : Settings → Context
-start s = record { state = document; tables = startTables s; learned = []; grammars = [] }
+start s =
+    record {
+      state = document;
+      tables = startTables s;
+      learned = [];
+      grammars = [];
+      tag = emptyTag;
+    }
 
 -- The productions of the context's state, level by level.
 unfoldable pub levelsIn : Settings → Context → List (List Production)
@@ -96,6 +105,7 @@ after s c x t q e =
           let k = siteOf (c .state) in
           learn k (taught (learnedAt k (c .learned)) x (kindOf e) q) (c .learned);
       grammars = grammarsAfter (c .grammars) e;
+      tag = tagAfter (c .tag) e;
     }
 
 -- The first entry with this text. (The first clause is not reached: what is looked for is there.)

@@ -18,6 +18,7 @@ pub mod Refusals
 pub mod Bounds
 pub mod Numbers
 pub mod Written
+pub mod Attributes
 pub mod Pieces
 pub mod All
 

@@ -258,6 +258,43 @@ stateAfter s st (characters v) = inContent st
 stateAfter s st (comment x) = inContent st
 stateAfter s st (instruction x y) = inContent st
 
+-- ---- the start tag that is open (P3, "Equal attributes")
+
+-- What has come in it.
+pub record Tag : Type 0 where
+  -- the names of its attributes, by their texts, the newest first
+  pub attributes : List (QName Text)
+
+-- Nothing has after a start element, and where no start tag is open.
+unfoldable pub emptyTag : Tag
+emptyTag = record { attributes = [] }
+
+-- The event is an attribute.
+unfoldable pub isAttribute : Event Text → Bool
+isAttribute e = eqb (kindNumber (kindOf e)) (kindNumber AT)
+
+-- The name of an attribute; other events have none.
+unfoldable pub attributeName : Event Text → Option (QName Text)
+attributeName e = cond (isAttribute e) (nameOf e) none
+
+-- The tag with one attribute more. Any other event ends it, or begins another.
+unfoldable pub withAttribute : Tag → Option (QName Text) → Tag
+withAttribute t none = emptyTag
+withAttribute t (some q) = record { attributes = q ∷ t .attributes }
+
+-- What an event leaves of it.
+unfoldable pub tagAfter : Tag → Event Text → Tag
+tagAfter t e = withAttribute t (attributeName e)
+
+-- The name, if there is one, is not among these.
+unfoldable pub isNew : List (QName Text) → Option (QName Text) → Bool
+isNew qs none = true
+isNew qs (some q) = not (hasName qs q)
+
+-- The event is no second attribute of one name in the tag; else SHAPE (P3).
+unfoldable pub tagAllows : Tag → Event Text → Bool
+tagAllows t e = isNew (t .attributes) (attributeName e)
+
 -- The end document has come (EXI 6: nothing is coded after it).
 unfoldable pub isFinished : State → Bool
 isFinished document = false

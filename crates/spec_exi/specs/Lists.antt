@@ -1,7 +1,7 @@
 -- Which lists are well-formed and which are inside the limits (scope, "What is bought" and
 -- "Sizes"), by the lists themselves and their strict forms.
-use Rattle.spec_fields.specs.Prelude.{_≤_, Bool, true, false, _&&_, List, [], _∷_, _++_, length, T}
-use Rattle.spec_fields.specs.Prelude.{leb}
+use Rattle.spec_fields.specs.Prelude.{_≤_, _≡_, Bool, true, false, _&&_, List, [], _∷_, _++_}
+use Rattle.spec_fields.specs.Prelude.{Option, none, some, length, leb, T}
 use Rattle.text.specs.Text.{Text, allChars}
 use Rattle.spec_exi.specs.Event.{QName, Event, startDocument, endDocument, endElement}
 use Rattle.spec_exi.specs.Event.{startElement, attribute, characters, comment, instruction}
@@ -9,7 +9,7 @@ use Rattle.spec_exi.specs.Event.{stringsOf}
 use Rattle.spec_exi.specs.Settings.{Settings}
 use Rattle.spec_exi.specs.Sizes.{Sizes, sizes}
 use Rattle.spec_exi.specs.Tables.{Tables, local, target, nameAllowed}
-use Rattle.spec_exi.specs.Grammar.{openElements}
+use Rattle.spec_exi.specs.Grammar.{openElements, isAttribute, attributeName, isNew}
 use Rattle.spec_exi.specs.Context.{Context, start, next}
 use Rattle.spec_exi.specs.Strict.{strict}
 
@@ -71,12 +71,47 @@ namesAllowed (instruction x y) = nameAllowed target x
 unfoldable pub charsOnly : Event Text → Bool
 charsOnly e = every allChars (stringsOf e)
 
--- The scope's "well-formed list", over the texts. (That no stored event is SHAPE by itself and
--- every string lies inside its store is said by `meant`, in Meaning.)
-pub record WellFormed (s : Settings) (l : List (Event Text)) : Type 0 where
+-- The scope's "well-formed list", over the texts, where equal attributes are allowed (as before
+-- P3). (That no stored event is SHAPE by itself and every string lies inside its store is said by
+-- `meant`, in Meaning.)
+pub record BaseWellFormed (s : Settings) (l : List (Event Text)) : Type 0 where
   pub shape : Document s l
   pub chars : T (every charsOnly l)
   pub names : T (every namesAllowed l)
+
+-- ---- equal attributes (P3): no two attributes of one start tag have one name
+
+-- A name in front of others; they end where there is none.
+unfoldable pub inFront : Option (QName Text) → List (QName Text) → List (QName Text)
+inFront none qs = []
+inFront (some q) qs = q ∷ qs
+
+-- The names of the attributes that a list begins with: behind a start element, those of its start
+-- tag; behind an attribute, those that follow it there.
+unfoldable pub attributesFirst : List (Event Text) → List (QName Text)
+attributesFirst [] = []
+attributesFirst (e ∷ l) = inFront (attributeName e) (attributesFirst l)
+
+-- No attribute has the name of one that follows it in its start tag.
+unfoldable pub attributesDiffer : List (Event Text) → Bool
+attributesDiffer [] = true
+attributesDiffer (e ∷ l) = isNew (attributesFirst l) (attributeName e) && attributesDiffer l
+
+-- Two attributes of one start tag that have one name: attributes alone stand between them.
+pub record EqualAttributes (l : List (Event Text)) : Type 0 where
+  pub before : List (Event Text)
+  pub between : List (Event Text)
+  pub behind : List (Event Text)
+  pub name : QName Text
+  pub values : Text × Text
+  pub is : l
+      ≡ before ++ attribute name (values .0) ∷ (between ++ attribute name (values .1) ∷ behind)
+  pub one-tag : T (every isAttribute between)
+
+-- The well-formed lists.
+pub record WellFormed (s : Settings) (l : List (Event Text)) : Type 0 where
+  pub base : BaseWellFormed s l
+  pub attributes : T (attributesDiffer l)
 
 -- ---- inside the limits (scope, "Sizes"): the list and its strict form pass no size (z)
 

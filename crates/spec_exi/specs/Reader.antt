@@ -5,7 +5,7 @@ use Rattle.spec_fields.specs.Prelude.{not, List, [], _∷_, map, Option, none, 
 use Rattle.spec_fields.specs.Prelude.{leb, eqb}
 use Rattle.spec_fields.specs.Bits.{Bits, unpack, isPadding}
 use Rattle.spec_fields.specs.Refusal.{numberOf, room, settings, long, header, code, character}
-use Rattle.spec_fields.specs.Refusal.{reference, loose, name, limit, tail, Answer, refused}
+use Rattle.spec_fields.specs.Refusal.{reference, loose, name, limit, tail, shape, Answer, refused}
 use Rattle.spec_fields.specs.Refusal.{accepted}
 use Rattle.spec_fields.specs.Parser.{Result, bad, got, Parser, return, fail, present, need, times}
 use Rattle.spec_fields.specs.Parser.{_>>=_, _>>_}
@@ -22,7 +22,7 @@ use Rattle.spec_exi.specs.Tables.{value, target, plain, Partitions, comp
 use Rattle.spec_exi.specs.Tables.{partitionsOf, Form, hit, literal, eqForm, formOf, laid}
 use Rattle.spec_exi.specs.Tables.{tablesAfter, nameAllowed}
 use Rattle.spec_exi.specs.Grammar.{Production, Code, State, isFinished, choices, atLevel}
-use Rattle.spec_exi.specs.Grammar.{below, codeOf, sameCode}
+use Rattle.spec_exi.specs.Grammar.{below, codeOf, sameCode, tagAllows}
 use Rattle.spec_exi.specs.Context.{Context, start, levelsIn, characterRole, after}
 use Rattle.spec_exi.specs.Lists.{withinTables, withinGrammars}
 
@@ -143,13 +143,14 @@ readCode a (l ∷ ls) = do
   (v, p) ← choice a code (choices l ls)
   readPart v p (readCode a ls)
 
--- One event and the context that it leaves: its code, its content, LOOSE for the production, then
--- open elements, element grammars and learned productions (EXI 6; scope, "Refusal numbers",
--- "Order").
+-- One event and the context that it leaves: its code, its content, SHAPE for a second attribute of
+-- one name (P3), LOOSE for the production, then open elements, element grammars and learned
+-- productions (EXI 6; scope, "Refusal numbers", "Order").
 unfoldable pub step : Sizes → Settings → Context → Parser (Event Placed × Context)
 step z s c = do
   x ← readCode (s .alignment) (levelsIn s c)
   (e, t) ← readContent z s (c .tables) (c .state) (x .production .kind) (x .production .qname)
+  need (tagAllows (c .tag) (eventText e)) shape
   need (sameCode (x .parts) (codeOf (levelsIn s c) (eventText e))) loose
   let c′ = after s c x t (nameOf e) (eventText e)
   need (withinGrammars z c′) limit

@@ -11,7 +11,7 @@ use Rattle.spec_exi.specs.Settings.{Settings, SettingNumbers, meaningful
 use Rattle.spec_exi.specs.Settings.{headerOf}
 use Rattle.spec_exi.specs.Sizes.{Sizes, sizes}
 use Rattle.spec_exi.specs.Tables.{Tables, nameAllowed}
-use Rattle.spec_exi.specs.Grammar.{Code, codeOf, isFinished}
+use Rattle.spec_exi.specs.Grammar.{Code, codeOf, tagAllows, isFinished}
 use Rattle.spec_exi.specs.Context.{Context, start, levelsIn, Item, items, afterItem, next}
 use Rattle.spec_exi.specs.Strict.{eventBits}
 use Rattle.spec_exi.specs.Lists.{short, withinTables, withinGrammars}
@@ -54,14 +54,16 @@ module _ (z : Sizes) where
   contentTests t [] = []
   contentTests t (i ∷ is) = stringTests t i ++ contentTests (afterItem t i) is
 
-  -- SHAPE comes first: no production fits (scope, "Refusal numbers", 14); then PLACE, the strings,
-  -- and the three limits that follow an event's content.
+  -- SHAPE comes first where no production fits (scope, "Refusal numbers", 14); then PLACE, the
+  -- strings, SHAPE for a second attribute of one name (P3), and the three limits that follow an
+  -- event's content.
   unfoldable pub eventTests : Settings → Context → Text → Event Span → Option Code → List Test
   eventTests s c store e none = (false, shape) ∷ []
   eventTests s c store e (some x) =
       placeTests store (stringsOf e)
       ++ contentTests (c .tables) (items (c .state) (x .production) (mapEvent (part store) e))
-      ++ ((withinGrammars z (next s c (mapEvent (part store) e)), limit) ∷ [])
+      ++ ((tagAllows (c .tag) (mapEvent (part store) e), shape)
+      ∷ (withinGrammars z (next s c (mapEvent (part store) e)), limit) ∷ [])
 
   -- The refusal of an event, if any.
   unfoldable pub faultOf : Settings → Context → Text → Event Span → Option Refusal

@@ -11,10 +11,10 @@ use Words.*
 
 -- ---- demand 1: any octets, and any list, get an answer in the scope's numbers
 
--- The reader's reply. SHAPE and PLACE are the writer's; ROOM, SETTINGS and LONG come first.
+-- The reader's reply. PLACE is the writer's; ROOM, SETTINGS and LONG come first.
 pub record Demand1Reader (r : ReaderRoom) (o : SettingNumbers) (stream : List ℕ) (y : ReadReply)
     : Type 0 where
-  pub numbers : y .number ≤ numberOf tail
+  pub numbers : y .number ≤ numberOf shape
   pub no-room : (y .number ≡ numberOf room) ↔ T (not (enoughToRead sizes r))
   pub no-meaning : (y .number ≡ numberOf settings)
       ↔ (T (enoughToRead sizes r) × T (not (meaningful o)))
@@ -93,6 +93,11 @@ pub record LargerSizes (y z : Sizes) : Type 0 where
       → T (enoughToRead z r) → readSized y p o stream ≡ accepted x
       → readSized z r o stream ≡ accepted x
 
+-- ---- equal attributes (02, P3): of the lists that were well-formed before, just those are lost that
+-- have two attributes of one name in a start tag
+pub record EqualAttributesLost (s : Settings) (l : List (Event Text)) : Type 0 where
+  pub well-formed : WellFormed s l ↔ (BaseWellFormed s l × (EqualAttributes l → ⊥))
+
 -- ---- all of it, of every input
 pub record Theorems : Type 0 where
   pub demand-1-reader : (r : ReaderRoom) (o : SettingNumbers) (stream : List ℕ)
@@ -106,5 +111,6 @@ pub record Theorems : Type 0 where
   pub larger-sizes : (y z : Sizes) → NoLarger y z → LargerSizes y z
   -- from the scope's own sizes to ours
   pub scope-sizes : LargerSizes baseSizes sizes
+  pub equal-attributes : (s : Settings) (l : List (Event Text)) → EqualAttributesLost s l
   -- K1 to K12, their replies in numbers, each number pinned, and examples by topic.
   pub worked-examples : WorkedExamples

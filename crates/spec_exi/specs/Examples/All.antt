@@ -9,6 +9,7 @@ use Rattle.spec_exi.specs.Examples.Numbers.{Pinned}
 use Rattle.spec_exi.specs.Examples.Bounds.{RefusedUnder, inOrder}
 use Rattle.spec_exi.specs.Examples.Written.{Written, WriteReplied, writes, writeReplies}
 use Rattle.spec_exi.specs.Examples.Written.{WrittenUnder, writesInOrder, atSizes}
+use Rattle.spec_exi.specs.Examples.Attributes.{equalRead, equalWritten}
 use Rattle.spec_exi.specs.Examples.Pieces.{Tell, pieces}
 
 -- Each holds.
@@ -27,4 +28,6 @@ pub record WorkedExamples : Type 0 where
   pub writes-replied : WriteReplied writes writeReplies
   pub writes-in-order : WrittenUnder writesInOrder
   pub at-sizes : Written atSizes
+  pub equal-read : Hold equalRead
+  pub equal-written : Written equalWritten
   pub pieces-told : Tell pieces

@@ -2,8 +2,7 @@
 -- where a size is passed, too.
 use Rattle.spec_fields.specs.Prelude.{ℕ, suc, _+_, String, _≡_, List, [], _∷_, _++_, map, getD}
 use Rattle.spec_fields.specs.Prelude.{replicate}
-use Rattle.spec_fields.specs.Refusal.{Refusal, long, character, loose, name, limit, Answer, refused}
-use Rattle.spec_fields.specs.Refusal.{accepted}
+use Rattle.spec_fields.specs.Refusal.{Refusal, long, loose, name, limit, Answer, refused, accepted}
 use Rattle.spec_exi.specs.Settings.{settingsOf}
 use Rattle.spec_exi.specs.Sizes.{Sizes}
 use Rattle.spec_exi.specs.Reader.{Reading, readSized, read, listOf, readReply}
@@ -106,7 +105,11 @@ inOrder =
     ∷ bound 1 2 "80 01 02 61" limit 2
     -- LOOSE for the production, before open elements, but after the limit of a value's table
     ∷ bound 2 2 "80 01 02 61 02 01 00 01 02 01 00" loose 3
-    ∷ bound 5 1 "80 01 02 61 01 01 02 6B 03 78 01 01 01 00 01 03 79" limit 3
+    ∷ bound 5 2 "80 01 02 61 03 03 78 01 01 03 79 02 01 03 7A" limit 4
+    -- SHAPE for <a k="x" k="y" (P3), after the limits of the value: length, store, its table
+    ∷ bound 8 1 "80 01 02 61 01 01 02 6B 03 78 00 04 79 79" limit 3
+    ∷ bound 9 102 "80 01 02 61 01 01 02 6B 03 78 00 03 79" limit 3
+    ∷ bound 5 1 "80 01 02 61 01 01 02 6B 03 78 00 03 79" limit 3
     -- the limit of the URIs, before the local name: not ENDED
     ∷ bound 3 3 "80 00 01 75" limit 1
     -- NAME, before the limit of its table

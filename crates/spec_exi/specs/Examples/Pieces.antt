@@ -21,4 +21,7 @@ pieces =
     -- One octet more: TAIL.
     ∷ ("80 01 02 61 03 04 62 62 00 00", reply 13 5 0 0)
     -- An attribute's name is there, and its value is to come.
-    ∷ ("80 01 02 61 01 01 02 6B", reply 0 0 2 100) ∷ []
+    ∷ ("80 01 02 61 01 01 02 6B", reply 0 0 2 100)
+    -- A second one with that name is SHAPE (P3) once its value is there.
+    ∷ ("80 01 02 61 01 01 02 6B 03 78 00", reply 0 0 3 102)
+    ∷ ("80 01 02 61 01 01 02 6B 03 78 00 02", reply 14 3 0 0) ∷ []

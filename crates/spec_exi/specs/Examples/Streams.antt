@@ -14,9 +14,10 @@ mistakes =
     "00 00 00 00 00 01"
     (whole (begin "r" ∷ begin "a" ∷ chars "x" ∷ end ∷ begin "b" ∷ chars "x" ∷ end
     ∷ begin "b" ∷ chars "y" ∷ end ∷ begin "b" ∷ chars "y" ∷ end ∷ end ∷ []))
-    -- 2: <a k="" j="x" k="x"/>. The empty value joins no table, so x is the one value.
-    ∷ example inOctets "80 01 02 61 01 01 02 6B 02 01 01 01 02 6A 03 78 01 01 02 00"
-    (whole (begin "a" ∷ attr "k" "" ∷ attr "j" "x" ∷ attr "k" "x" ∷ end ∷ []))
+    -- 2: <a k="" j="x"><b k="x"/></a>. The empty value joins no table, so x is the one value.
+    ∷ twoLines inOctets "80 01 02 61 01 01 02 6B 02 01 01 01 02 6A 03 78 02 02 01 02 62"
+    "01 01 00 01 01 01 00 00"
+    (whole (begin "a" ∷ attr "k" "" ∷ attr "j" "x" ∷ begin "b" ∷ attr "k" "x" ∷ end ∷ end ∷ []))
     -- 3: <a><b><a><b/></a></b></a>. The inner a finds SE(b) learned, and the inner b SE(a).
     ∷ example inOctets "80 01 02 61 02 01 02 62 02 01 00 00 00 01 00 00 00 00"
     (whole (begin "a" ∷ begin "b" ∷ begin "a" ∷ begin "b" ∷ end ∷ end ∷ end ∷ end ∷ []))
@@ -56,14 +57,15 @@ mistakes =
     "03 01 01 00 01 00 00 02"
     (whole (begin "a" ∷ attr "a" "x" ∷ chars "x" ∷ chars "y" ∷ beginIn "u" "a" ∷ chars "y" ∷ end
     ∷ chars "x" ∷ end ∷ []))
-    -- <a k="x" u:k="y"/>. A name is learned with its URI.
+    -- <a k="x" u:k="y"/>. A name is learned with its URI, and with another it is another name (P3).
     ∷ example inOctets "80 01 02 61 01 01 02 6B 03 78 01 01 00 01 75 02 6B 03 79 02 00"
     (whole (begin "a" ∷ attr "k" "x" ∷ attrIn "u" "k" "y" ∷ end ∷ []))
-    -- <a k="x" k="x"/> with AT(*) for the second k, where the learned AT(k) fits: LOOSE after its
+    -- <a k="x"><a k="x" with AT(*) for the second k, where the learned AT(k) fits: LOOSE after its
     -- content.
-    ∷ example inOctets "80 01 02 61 01 01 02 6B 03 78 01 01 01 00 01 00" (refused loose 3)
-    -- <a k="x" k="x"/> with a global hit for the second x, where a local one exists.
-    ∷ example inOctets "80 01 02 61 01 01 02 6B 03 78 00 01" (refused loose 3) ∷ []
+    ∷ example inOctets "80 01 02 61 01 01 02 6B 03 78 01 02 01 00 00 02 01 01 00 01 00"
+    (refused loose 4)
+    -- The same with a global hit for the second x, where a local one exists.
+    ∷ example inOctets "80 01 02 61 01 01 02 6B 03 78 01 02 01 00 00 01 01" (refused loose 4) ∷ []
 
 -- Comments and instructions kept, and the cookie.
 unfoldable pub kept : List Example

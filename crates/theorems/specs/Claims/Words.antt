@@ -3,7 +3,7 @@ pub use Rattle.spec_fields.specs.Prelude.{ℕ, _≤_, _<_, _≡_, _↔_, not, L
 pub use Rattle.spec_fields.specs.Prelude.{some, length, T}
 pub use Rattle.text.specs.Text.{Text}
 pub use Rattle.spec_fields.specs.Refusal.{numberOf, isZeroOr, room, settings, long, header}
-pub use Rattle.spec_fields.specs.Refusal.{character, name, limit, tail, shape, place, accepted}
+pub use Rattle.spec_fields.specs.Refusal.{character, name, limit, shape, place, accepted}
 pub use Rattle.spec_exi.specs.Event.{Event}
 pub use Rattle.spec_exi.specs.Settings.{Settings, SettingNumbers, meaningful, settingsOf}
 pub use Rattle.spec_exi.specs.Sizes.{maxStream, maxEvents, maxStore, Sizes, sizes, baseSizes}
@@ -11,7 +11,7 @@ pub use Rattle.spec_exi.specs.Sizes.{NoLarger}
 pub use Rattle.spec_exi.specs.Tables.{eventText}
 pub use Rattle.spec_exi.specs.Context.{start, contextAfter}
 pub use Rattle.spec_exi.specs.Strict.{strict}
-pub use Rattle.spec_exi.specs.Lists.{Good}
+pub use Rattle.spec_exi.specs.Lists.{EqualAttributes, BaseWellFormed, WellFormed, Good}
 pub use Rattle.spec_exi.specs.Reader.{Reading, ReaderRoom, enoughToRead, readSized, read, ReadReply}
 pub use Rattle.spec_exi.specs.Reader.{readReply}
 pub use Rattle.spec_exi.specs.Writer.{Stored, WriterRoom, enoughToWrite, write, WriteReply}
