@@ -232,9 +232,9 @@ start-bounded at =
 -- ---- what it means
 
 rows-mean : (s : Settings) → contextOf startRows initialText 0 [] ≡ start s
-unfolding contextOf stateOf tablesOf learnedOf backward grammarsOf tagIn emptyTag named nameAt placedAt entryAt
-    uriAt initialRows plusUris plusNames withUri withName initialText urisText namesText together
-    initialUris initialNames start startTables addedAll initialEntries added newUri newName newEntry
+unfolding contextOf stateOf tablesOf learnedOf backward grammarsOf tagIn emptyTag named nameAt
+    placedAt entryAt uriAt initialRows plusUris plusNames withUri withName initialText urisText
+    namesText together initialUris initialNames start startTables addedAll initialEntries added newUri newName newEntry
     newValue laid xmlUri xsiUri text
 rows-mean s = refl
 

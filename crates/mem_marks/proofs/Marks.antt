@@ -37,7 +37,8 @@ unfolding markedIn
 marks-kept {tag = tag} s h =
     record {
       room = s .room;
-      most = λ i l. omega (arith, s .cells (nameMarks + i) (omega arith) (omega arith), h .most i l);
+      most = λ i l.
+          omega (arith, s .cells (nameMarks + i) (omega arith) (omega arith), h .most i l);
       are = λ i l. ap (λ m. eqb m tag) (s .cells (nameMarks + i) (omega arith) (omega arith))
           ∙ h .are i l;
     }

@@ -20,8 +20,9 @@ use Rattle.mem_entries.specs.Entries.{entryAt, named, noEntry}
 use Rattle.mem_names.specs.Uris.{noUri, uriAt, uriText}
 use Rattle.mem_rows.specs.Rows.{Learnt, Rows, placedAt}
 use Rattle.mem_rows.specs.Rows.{nameAt, tablesOf, kindAt, carries, siteAt, carriedAt}
-use Rattle.mem_rows.specs.Rows.{productionOf, learntAs, backward, learnedOf, grammarsOf, tagIn, stateOf}
-use Rattle.mem_rows.specs.Rows.{contextOf, withUri, withName, withValue, modeAfter, openedAfter}
+use Rattle.mem_rows.specs.Rows.{productionOf, learntAs, backward, learnedOf, grammarsOf}
+use Rattle.mem_rows.specs.Rows.{tagIn, stateOf, contextOf, withUri, withName, withValue}
+use Rattle.mem_rows.specs.Rows.{modeAfter, openedAfter}
 use Rattle.mem_rows.specs.Valid.{Refers, Valid}
 use Rattle.mem_rows.proofs.Joins.{map-snoc, uri-joins, name-joins, value-joins}
 use Rattle.mem_rows.specs.Rows.{leaves}

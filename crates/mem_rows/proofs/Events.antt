@@ -23,8 +23,8 @@ use Rattle.mem_entries.specs.Entries.{named}
 use Rattle.mem_rows.specs.Rows.{Learnt, Rows, placedAt, nameAt, siteAt, kindAt, carries, carriedAt}
 use Rattle.mem_rows.specs.Rows.{productionOf, learntAs, learnedOf, grammarsOf, isAmong, stateOf}
 use Rattle.mem_rows.specs.Rows.{modeAfter, openedAfter, ModeFits, tablesOf, contextOf, tagIn}
-use Rattle.mem_rows.specs.Rows.{withGrammar, withLearned, afterGrammar, afterLearned, attributesAfter}
-use Rattle.mem_rows.specs.Rows.{withAttributes, leaves}
+use Rattle.mem_rows.specs.Rows.{withGrammar, withLearned, afterGrammar, afterLearned}
+use Rattle.mem_rows.specs.Rows.{attributesAfter, withAttributes, leaves}
 use Rattle.mem_rows.specs.Valid.{learntAt, LearntFits, Refers, Valid}
 use Rattle.mem_rows.proofs.Grown.{learned-grows, grammar-grows, attributes-turn}
 use Rattle.mem_rows.proofs.Kept.{Kept, All, name-kept, learnt-kept, names-kept, learned-kept, grammars-kept}
@@ -93,7 +93,8 @@ module _ (kind n : ℕ) (b : Bool) (l : Learnt) (v : Rows) where
       go false c false = refl
 
   pub leaves-tables : (store : Text) → tablesOf (leaves kind n b l v) store ≡ tablesOf v store
-  unfolding leaves withAttributes afterLearned afterGrammar withLearned withGrammar tablesOf named nameAt placedAt
+  unfolding leaves withAttributes afterLearned afterGrammar withLearned withGrammar tablesOf named
+      nameAt placedAt
   leaves-tables store = go (eqb kind (kindNumber SE)) (isAmong n (v .grammars)) b
     where
       go : (a c d : Bool) → tablesOf (afterLearned d l (cond a (cond c v (withGrammar v n)) v)) store ≡ tablesOf v store
@@ -122,7 +123,8 @@ module _ (kind n : ℕ) (b : Bool) (l : Learnt) (v : Rows) where
       go false c false = (refl, refl, refl)
 
   leaves-learned : learnedOf (leaves kind n b l v) ≡ learnedOf (afterLearned b l v)
-  unfolding leaves withAttributes afterLearned afterGrammar withLearned withGrammar learnedOf learntAs productionOf carriedAt siteAt nameAt placedAt
+  unfolding leaves withAttributes afterLearned afterGrammar withLearned withGrammar learnedOf
+      learntAs productionOf carriedAt siteAt nameAt placedAt
   leaves-learned = go (eqb kind (kindNumber SE)) (isAmong n (v .grammars)) b
     where
       go : (a c d : Bool) → learnedOf (afterLearned d l (cond a (cond c v (withGrammar v n)) v)) ≡ learnedOf (afterLearned d l v)
@@ -142,7 +144,9 @@ module _ (kind n : ℕ) (b : Bool) (l : Learnt) (v : Rows) where
       go false = refl
 
   leaves-tag : tagIn (leaves kind n b l v)
-      ≡ record { attributes = map (nameAt (leaves kind n b l v)) (attributesAfter kind n (v .attributes)) }
+      ≡ record {
+        attributes = map (nameAt (leaves kind n b l v)) (attributesAfter kind n (v .attributes));
+      }
   unfolding leaves withAttributes tagIn
   leaves-tag = refl
 
@@ -151,7 +155,9 @@ module _ (kind n : ℕ) (b : Bool) (l : Learnt) (v : Rows) where
 -- An attribute's name has this row.
 tag-after : {w v : Rows} → Joined w v → Refers w → (n : ℕ) (e : Event Text)
     → (kindNumber (kindOf e) ≡ kindNumber AT → nameOf e ≡ some (nameAt v n))
-    → record { attributes = map (nameAt v) (attributesAfter (kindNumber (kindOf e)) n (v .attributes)) }
+    → record {
+      attributes = map (nameAt v) (attributesAfter (kindNumber (kindOf e)) n (v .attributes));
+    }
     ≡ tagAfter (tagIn w) e
 unfolding attributesAfter tagAfter withAttribute attributeName isAttribute emptyTag tagIn
 tag-after {w} {v} j r n e f =
@@ -186,10 +192,12 @@ pub record EventRows (w v : Rows) (mode : ℕ) (opened : List ℕ) (n : ℕ) (b 
 
 module _ (s : Settings) {w v : Rows} (refers : Refers w) (valid : Valid v) {mode n : ℕ} {opened : List ℕ} {b : Bool} {l : Learnt} {x : Code}
     {q : Option (QName Placed)} {e : Event Text} (h : EventRows w v mode opened n b l x q e) (store store′ : Text) where
-  map-names : (ns : List ℕ) → map (nameAt (leaves (kindNumber (kindOf e)) n b l v)) ns ≡ map (nameAt v) ns
+  map-names : (ns : List ℕ)
+      → map (nameAt (leaves (kindNumber (kindOf e)) n b l v)) ns ≡ map (nameAt v) ns
   map-names [] = refl
   map-names (m ∷ ns) =
-      cc (name-text (leaves (kindNumber (kindOf e)) n b l v) v m m (leaves-names (kindNumber (kindOf e)) n b l v m), map-names ns)
+      let k = kindNumber (kindOf e) in
+      cc (name-text (leaves k n b l v) v m m (leaves-names k n b l v m), map-names ns)
 
   state-is : stateOf (modeAfter (kindNumber (kindOf e)) mode (length opened))
       (map (nameAt (leaves (kindNumber (kindOf e)) n b l v)) (openedAfter (kindNumber (kindOf e)) n opened))

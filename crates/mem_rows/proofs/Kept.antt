@@ -67,4 +67,5 @@ module _ {w v : Rows} (k : Kept w v) where
     unfolding tagIn
     tag-kept e =
         ap (λ qs. record { attributes = qs })
-        (ap (map (nameAt v)) e ∙ names-kept (w .attributes) (all-at 0 (w .attributes) (r .attributes)))
+        (ap (map (nameAt v)) e
+        ∙ names-kept (w .attributes) (all-at 0 (w .attributes) (r .attributes)))

@@ -257,4 +257,5 @@ withAttributes ns w =
 -- The rows that an event leaves, where its strings have left v: its name has row n, and l is learned.
 unfoldable pub leaves : ℕ → ℕ → Bool → Learnt → Rows → Rows
 leaves kind n b l v =
-    withAttributes (attributesAfter kind n (v .attributes)) (afterLearned b l (afterGrammar kind n v))
+    withAttributes (attributesAfter kind n (v .attributes))
+    (afterLearned b l (afterGrammar kind n v))

@@ -31,8 +31,8 @@ use Rattle.mem_state.specs.declared.Joining.{Joining}
 use Rattle.mem_state.specs.declared.Strings.{Strings}
 use Rattle.mem_state.specs.declared.Growth.{Growth}
 use Rattle.mem_state.specs.Commit.{joinedUri, joinedName, joinedValue, joinedStrings, entered}
-use Rattle.mem_state.specs.Commit.{learnt, marked, grown, ValuePre, NamePre, StringsPre, EnterPre}
-use Rattle.mem_state.specs.Commit.{LearnPre, GrowPre}
+use Rattle.mem_state.specs.Commit.{learnt, marked, grown, ValuePre, NamePre, StringsPre}
+use Rattle.mem_state.specs.Commit.{EnterPre, LearnPre, GrowPre}
 
 -- Tests of a negation.
 off : (b : Bool) → not b ≡ true → b ≡ false

@@ -6,9 +6,6 @@ use Rattle.spec_exi.specs.Grammar.{kindNumber}
 use borrow.Author.Needs.{needs}
 use Rattle.mem_state.proofs.turn.Statement.{statement}
 use Rattle.mem_state.proofs.turn.Tie as tie
-use Rattle.mem_state.proofs.turn.Reads as reads
-use Rattle.mem_state.proofs.turn.Lts as lts
-use Rattle.mem_state.proofs.mode_after.Reads as mode-after-reads
 
 -- src/lib.rt:217:5
 mode-after-requires : tie.Need-mode-after-requires
@@ -39,17 +36,27 @@ returns-2 c = rw (c .before .before .before .mode-after .ensures, c .before .if2
 -- src/lib.rt:228:19
 sub-d : tie.Need-sub-d
 unfolding kindNumber
-sub-d c = omega (arith, c .before .before .before .before .before .pre .some (c .before .if3 .taken))
+sub-d c =
+    let asks = c .before .before .before .before .before .pre in
+    omega (arith, asks .some (c .before .if3 .taken))
 
 -- src/lib.rt:229:9
 returns-3 : tie.Need-returns-3
 unfolding turned topAfter depthAfter tagNumber kindNumber
-returns-3 c = rw (c .before .before .before .before .mode-after .ensures, c .before .if3 .taken) refl
+returns-3 c =
+    let mode = c .before .before .before .before in
+    rw (mode .mode-after .ensures, c .before .if3 .taken) refl
 
 -- src/lib.rt:212:1
 returns-4 : tie.Need-returns-4
 unfolding turned topAfter depthAfter tagNumber kindNumber
-returns-4 c = rw (c .before .before .before .mode-after .ensures, ne-eqb _ _ (c .before .before .if1 .left), ne-eqb _ _ (c .before .if2 .left), ne-eqb _ _ (c .if3 .left)) refl
+returns-4 c =
+    rw (
+      c .before .before .before .mode-after .ensures,
+      ne-eqb _ _ (c .before .before .if1 .left),
+      ne-eqb _ _ (c .before .if2 .left),
+      ne-eqb _ _ (c .if3 .left),
+    ) refl
 
 pub turn-spec : {M : Type 1} → statement M
 turn-spec =
