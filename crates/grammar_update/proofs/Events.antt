@@ -18,9 +18,11 @@ use Rattle.spec_exi.specs.Event.{attribute, characters, comment, instruction, m
 use Rattle.spec_exi.specs.Event.{Kind, SD, ED, SE, AT, EE, CH, CM, PI, kindOf, nameOf}
 use Rattle.spec_exi.specs.Tables.{Placed, nameText}
 use Rattle.spec_exi.specs.Grammar.{kindNumber, Production, Code, Site, siteOf, State, taught, codeOf}
+use Rattle.spec_exi.specs.Grammar.{hasName, Tag, isAttribute, attributeName, tagAllows}
 use Rattle.spec_exi.specs.Context.{levelsIn, items, afterItems, after, next}
 use Rattle.spec_exi.specs.Lists.{withinGrammars}
 use Rattle.spec_exi.specs.Alike.{Alike, AlikeTables}
+use Rattle.spec_exi.proofs.Attributes.{tag-attribute, tag-other}
 use Rattle.event_code.specs.Numbers.{teachesIn}
 use Rattle.event_code.proofs.Numbers.{teaches-in}
 use Rattle.grammar_codes.specs.Table.{Stands}
@@ -29,9 +31,10 @@ use Rattle.mem_entries.specs.Entries.{keyAt}
 use Rattle.mem_learned.proofs.Grammars.{flag-is}
 use Rattle.mem_rows.specs.Rows.{Rows, placedAt, nameAt, kindAt, carries, carriedAt, siteAt}
 use Rattle.mem_rows.specs.Rows.{productionOf, stateOf, inTag, isAmong, modeAfter, openedAfter}
-use Rattle.mem_rows.specs.Rows.{leaves, contextOf, tablesOf}
+use Rattle.mem_rows.specs.Rows.{leaves, contextOf, tablesOf, tagIn}
 use Rattle.mem_rows.specs.Valid.{learntAt, Valid}
-use Rattle.mem_rows.proofs.Kept.{Kept, all-at, name-kept}
+use Rattle.mem_rows.proofs.Kept.{Kept, all-at, name-kept, tag-kept}
+use Rattle.mem_rows.proofs.Grammars.{has-attribute}
 use Rattle.mem_rows.proofs.States.{site-none}
 use Rattle.mem_rows.proofs.Events.{EventRows, event-context, Fresh, leaves-valid}
 use Rattle.mem_rows.proofs.Alike.{event-alike}
@@ -47,7 +50,7 @@ use Rattle.grammar_match.specs.Codes.{Strict, Unlearned}
 use Rattle.grammar_match.specs.Found.{NamedBy, FoundHere}
 use Rattle.grammar_match.proofs.Here.{site-half, site-low, site-here, tag-site}
 use Rattle.grammar_match.proofs.Unfit.{number-kind, kind-number}
-use Rattle.grammar_update.specs.Growth.{growthOf, fitsIn}
+use Rattle.grammar_update.specs.Growth.{growthOf, allowedIn, fitsIn}
 use Rattle.grammar_update.proofs.Tests.{fits-learned, fits-within}
 use Rattle.grammar_update.proofs.Represented.{code-rows, inner-state}
 
@@ -126,16 +129,16 @@ module _ (v : Rows) where
   unfolding nameText mapName nameAt
   text-of n = refl
 
-carries-start : (k : Kind) → kindNumber k ≡ 2 → carries k ≡ true
+carries-name : (k : Kind) → 2 ≤ kindNumber k → kindNumber k ≤ 3 → carries k ≡ true
 unfolding kindNumber carries
-carries-start SD h = absurd (omega arith)
-carries-start ED h = absurd (omega arith)
-carries-start SE h = refl
-carries-start AT h = refl
-carries-start EE h = absurd (omega arith)
-carries-start CH h = absurd (omega arith)
-carries-start CM h = absurd (omega arith)
-carries-start PI h = absurd (omega arith)
+carries-name SD h l = absurd (omega arith)
+carries-name ED h l = absurd (omega arith)
+carries-name SE h l = refl
+carries-name AT h l = refl
+carries-name EE h l = absurd (omega arith)
+carries-name CH h l = absurd (omega arith)
+carries-name CM h l = absurd (omega arith)
+carries-name PI h l = absurd (omega arith)
 
 -- ---- sites
 
@@ -274,6 +277,7 @@ module _ {work : List ℕ} {from : Stores} {c : Core} {w : Rows} {opened : List 
           kept = kept;
           learned = ahead .learned;
           grammars = ahead .grammars;
+          attributes = ahead .attributes;
         };
         fits = here .fits;
         opens = all-at 0 opened (rep .opens .rows);
@@ -281,9 +285,11 @@ module _ {work : List ℕ} {from : Stores} {c : Core} {w : Rows} {opened : List 
           outside = λ h. here .fits .outer (known .stands .outside (omega (arith, k)));
           inside = λ h. here .fits .inner
               (known .stands .inside (omega (arith, k)) (omega (arith, k)));
-          named = λ h. known .named .is (carries-start (kindOf e) h);
+          named = λ h. known .named .is (carries-name (kindOf e) (omega arith) (omega arith));
         };
-        name = λ h. known .named .low (carries-start (kindOf e) h);
+        name = λ h. known .named .low (carries-name (kindOf e) (omega arith) (omega arith));
+        attribute = λ h. known .named .is
+            (carries-name (kindOf e) (omega arith) (omega arith));
         taught-is = taught-yes;
         taught-none = taught-no;
       }
@@ -330,6 +336,41 @@ module _ {work : List ℕ} {from : Stores} {c : Core} {w : Rows} {opened : List 
               (λ k. rw k (known .plain (carries-as k)));
         }
 
+  -- ---- equal attributes
+
+  named-low : 2 ≤ kind → kind ≤ 3 → row < length (v .names)
+  named-low h l =
+      let k = known .kind-is in
+      known .named .low (carries-name (kindOf e) (omega (arith, k)) (omega (arith, k)))
+
+  attribute-name : eqb kind (kindNumber AT) ≡ true → attributeName e ≡ some (nameAt v row)
+  unfolding attributeName isAttribute kindNumber
+  attribute-name t =
+      let k : kind ≡ 3 = eqb-true kind 3 t in
+      rw (known .kind-is, t)
+      (known .named .is (carries-name (kindOf e) (omega (arith, known .kind-is))
+      (omega (arith, known .kind-is))))
+
+  no-attribute : eqb kind (kindNumber AT) ≡ false → attributeName e ≡ none
+  unfolding attributeName isAttribute
+  no-attribute t = rw (known .kind-is, t)
+
+  -- The mark's test is the definitions'.
+  pub allows-is : row < nameRows → (store : Text)
+      → tagAllows (contextOf w store (c .mode) opened .tag) e ≡ allowedIn work (c .tag) kind row
+  unfolding contextOf allowedIn kindNumber
+  allows-is low store =
+      split (eqb kind 3)
+      (λ t.
+      let k : kind ≡ 3 = eqb-true kind 3 t in
+      tag-attribute (tagIn w) e (nameAt v row) (attribute-name t) .1
+      ∙ ap not (ap (λ (z : Tag). hasName (z .attributes) (nameAt v row))
+      (sym (tag-kept kept (rep .valid .refers) (ahead .attributes)))
+      ∙ has-attribute valid row (named-low (omega arith) (omega arith))
+      ∙ ap (isAmong row) (ahead .attributes) ∙ sym (rep .marks .are row low))
+      ∙ rw t)
+      (λ t. tag-other (tagIn w) e (no-attribute t) .1 ∙ rw t)
+
   fresh : g .teaches ≡ true → Fresh v (learntOf g)
   unfolding growthOf
   fresh t =
@@ -357,10 +398,16 @@ module _ {work : List ℕ} {from : Stores} {c : Core} {w : Rows} {opened : List 
 
   pub start-named : g .kind ≡ kindNumber SE → g .name < length (v .names)
   unfolding growthOf kindNumber
-  start-named z = known .named .low (carries-start (kindOf e) (known .kind-is ∙ z))
+  start-named z = named-low (omega arith) (omega arith)
+
+  attribute-named : g .kind ≡ kindNumber AT → g .name < length (v .names)
+  unfolding growthOf kindNumber
+  attribute-named z = named-low (omega arith) (omega arith)
 
   pub left-valid : Valid (leaves (g .kind) (g .name) (g .teaches) (learntOf g) v)
-  left-valid = leaves-valid (g .kind) (g .name) (learntOf g) valid (g .teaches) start-named fresh
+  left-valid =
+      leaves-valid (g .kind) (g .name) (learntOf g) valid (g .teaches) start-named attribute-named
+      fresh
 
   -- ---- the context after it
 
