@@ -126,16 +126,29 @@ module _ (v : Rows) where
   unfolding nameText mapName nameAt
   text-of n = refl
 
-carries-start : (k : Kind) → kindNumber k ≡ 2 → carries k ≡ true
+carries-name : (k : Kind) → 2 ≤ kindNumber k → kindNumber k ≤ 3 → carries k ≡ true
 unfolding kindNumber carries
-carries-start SD h = absurd (omega arith)
-carries-start ED h = absurd (omega arith)
-carries-start SE h = refl
-carries-start AT h = refl
-carries-start EE h = absurd (omega arith)
-carries-start CH h = absurd (omega arith)
-carries-start CM h = absurd (omega arith)
-carries-start PI h = absurd (omega arith)
+carries-name SD h l = absurd (omega arith)
+carries-name ED h l = absurd (omega arith)
+carries-name SE h l = refl
+carries-name AT h l = refl
+carries-name EE h l = absurd (omega arith)
+carries-name CH h l = absurd (omega arith)
+carries-name CM h l = absurd (omega arith)
+carries-name PI h l = absurd (omega arith)
+
+-- Where it has one, by its kind.
+module _ {v : Rows} {mode : ℕ} {s : Strings} {kind : ℕ} {e : Event Text}
+    (known : EventNamed v mode s kind e) (from : 2 ≤ kind) (upTo : kind ≤ 3) where
+  carries-known : carries (kindOf e) ≡ true
+  carries-known =
+      carries-name (kindOf e) (omega (arith, known .kind-is)) (omega (arith, known .kind-is))
+
+  pub named-low : s .«name_row» < length (v .names)
+  named-low = known .named .low carries-known
+
+  pub named-as : nameOf e ≡ some (nameAt v (s .«name_row»))
+  named-as = known .named .is carries-known
 
 -- ---- sites
 
@@ -274,6 +287,7 @@ module _ {work : List ℕ} {from : Stores} {c : Core} {w : Rows} {opened : List 
           kept = kept;
           learned = ahead .learned;
           grammars = ahead .grammars;
+          attributes = ahead .attributes;
         };
         fits = here .fits;
         opens = all-at 0 opened (rep .opens .rows);
@@ -281,9 +295,10 @@ module _ {work : List ℕ} {from : Stores} {c : Core} {w : Rows} {opened : List 
           outside = λ h. here .fits .outer (known .stands .outside (omega (arith, k)));
           inside = λ h. here .fits .inner
               (known .stands .inside (omega (arith, k)) (omega (arith, k)));
-          named = λ h. known .named .is (carries-start (kindOf e) h);
+          named = λ h. named-as known (omega (arith, k)) (omega (arith, k));
         };
-        name = λ h. known .named .low (carries-start (kindOf e) h);
+        name = λ h. named-low known (omega (arith, k)) (omega (arith, k));
+        attribute = λ h. named-as known (omega (arith, k)) (omega (arith, k));
         taught-is = taught-yes;
         taught-none = taught-no;
       }
@@ -357,10 +372,16 @@ module _ {work : List ℕ} {from : Stores} {c : Core} {w : Rows} {opened : List 
 
   pub start-named : g .kind ≡ kindNumber SE → g .name < length (v .names)
   unfolding growthOf kindNumber
-  start-named z = known .named .low (carries-start (kindOf e) (known .kind-is ∙ z))
+  start-named z = named-low known (omega arith) (omega arith)
+
+  attribute-named : g .kind ≡ kindNumber AT → g .name < length (v .names)
+  unfolding growthOf kindNumber
+  attribute-named z = named-low known (omega arith) (omega arith)
 
   pub left-valid : Valid (leaves (g .kind) (g .name) (g .teaches) (learntOf g) v)
-  left-valid = leaves-valid (g .kind) (g .name) (learntOf g) valid (g .teaches) start-named fresh
+  left-valid =
+      leaves-valid (g .kind) (g .name) (learntOf g) valid (g .teaches) start-named attribute-named
+      fresh
 
   -- ---- the context after it
 

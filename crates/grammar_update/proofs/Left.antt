@@ -1,24 +1,26 @@
 -- Memory after an event: it represents the rows that the event leaves.
-use Prim.Native.Nat.{ℕ, _+_, _<_}
+use Prim.Native.Nat.{ℕ, _+_, _≤_, _<_}
 use native.Mathlib.Omega.{arith}
-use mathlib.Core.Path.{_≡_, refl, sym, ap, _∙_}
+use mathlib.Core.Path.{_≡_, refl, sym, ap, subst, _∙_}
 use mathlib.Core.Bool.{cond}
 use mathlib.Core.List.{List}
 use lib.ListN.{length}
 use Rattle.spec_exi.specs.Event.{SE}
 use Rattle.spec_exi.specs.Grammar.{kindNumber}
-use Rattle.mem_rows.specs.Rows.{Rows, openedAfter, leaves}
+use Rattle.mem_marks.specs.Marks.{MarksHold}
+use Rattle.mem_rows.specs.Rows.{Rows, isAmong, openedAfter, leaves}
 use Rattle.mem_rows.specs.Valid.{Valid}
 use Rattle.mem_rows.proofs.Events.{leaves-lists}
 use Rattle.mem_state.specs.declared.Core.{Core}
 use Rattle.mem_state.specs.declared.Strings.{Strings}
 use Rattle.mem_state.specs.declared.Growth.{Growth}
-use Rattle.mem_state.specs.Holds.{Stores, Holds, Counts, Opens, Topped, Represents}
+use Rattle.mem_state.specs.Holds.{Stores, Holds, Counts, Opens, Topped, inTagOf, Represents}
 use Rattle.mem_state.specs.Commit.{joinedStrings, grown, turned, counted, depthAfter, StringsPre}
 use Rattle.mem_state.specs.Strung.{StringsJoin}
 use Rattle.mem_state.specs.Grows.{learntOf, Grows}
 use Rattle.mem_state.proofs.Strung.{strings-ahead, uris-counted, names-counted, values-counted}
 use Rattle.mem_state.proofs.Strung.{strings-hold}
+use Rattle.mem_state.proofs.Marks.{strings-marked, grown-marked}
 use Rattle.mem_state.proofs.Grows.{grown-holds}
 use Rattle.open_elements.specs.Opened.{Turned}
 use Rattle.open_elements.proofs.Turns.{opened-turned, opened-rows}
@@ -31,9 +33,9 @@ module _ {from : Stores} {c : Core} {s : Strings} {g : Growth} {w v : Rows} {ope
   abbrev left : Rows
   left = leaves (g .kind) (g .name) (g .teaches) (learntOf g) v
 
-  left-counts : (at stored : ℕ) → Counts (coreAfter c at stored s g) left
+  left-counts : (at stored n : ℕ) → Counts (coreAfter c at stored s g n) left
   unfolding turned counted
-  left-counts at stored =
+  left-counts at stored n =
       let ls = leaves-lists (g .kind) (g .name) (g .teaches) (learntOf g) v in
       let a = strings-ahead joins in
       record {
@@ -49,33 +51,39 @@ module _ {from : Stores} {c : Core} {s : Strings} {g : Growth} {w v : Rows} {ope
             ∙ sym (grammars-after v (g .kind) (g .name) (g .teaches) (learntOf g));
       }
 
+  -- The event has come after n others, and marks are older.
   pub left-represents : {work : List ℕ} → StringsPre work c s → Holds work from w
+      → MarksHold work (c .tag) (inTagOf w)
       → Valid (leaves (g .kind) (g .name) (g .teaches) (learntOf g) v)
-      → (g .kind ≡ kindNumber SE → g .name < length (v .names)) → (at stored : ℕ)
-      → Represents (grown c g (joinedStrings c s work)) from (coreAfter c at stored s g)
+      → (g .kind ≡ kindNumber SE → g .name < length (v .names)) → (at stored n : ℕ)
+      → c .tag ≤ n + 1
+      → Represents (grown c g (joinedStrings c s work)) from (coreAfter c at stored s g n)
       (leaves (g .kind) (g .name) (g .teaches) (learntOf g) v)
       (openedAfter (g .kind) (g .name) opened)
   unfolding turned counted
-  left-represents asks holds valid named at stored =
+  left-represents {work} asks holds marks valid named at stored n late =
       let ls = leaves-lists (g .kind) (g .name) (g .teaches) (learntOf g) v in
-      let n = ap length (ls .1) in
+      let m = ap length (ls .1) in
       record {
         valid = valid;
         holds = grown-holds grows (strings-hold joins counts asks holds);
-        counts = left-counts at stored;
+        counts = left-counts at stored n;
         opens = record {
           size = opened-after (g .kind) (g .name) opened
               ∙ ap (depthAfter (g .kind)) (opens .size);
           rows = opened-rows (g .kind) (g .name) opened
-              (omega (arith, n, strings-ahead joins .fewerNames)) (opens .rows)
-              (λ k. omega (arith, n, named k));
+              (omega (arith, m, strings-ahead joins .fewerNames)) (opens .rows)
+              (λ k. omega (arith, m, named k));
         };
+        marks = grown-marked grows n late
+            (subst (λ ns. MarksHold (joinedStrings c s work) (c .tag) (λ i. isAmong i ns))
+            (sym (strings-ahead joins .attributes)) (strings-marked asks marks));
       }
 
 -- The open elements after it.
-pub left-turned : {c : Core} (s : Strings) {g : Growth} {w : Rows} {opened : List ℕ} → AfterPre c g
-    → Opens c w opened → Topped c opened → (at stored : ℕ)
-    → Turned c (coreAfter c at stored s g) opened (openedAfter (g .kind) (g .name) opened)
+pub left-turned : {c : Core} (s : Strings) {g : Growth} {n : ℕ} {w : Rows} {opened : List ℕ}
+    → AfterPre c g n → Opens c w opened → Topped c opened → (at stored : ℕ)
+    → Turned c (coreAfter c at stored s g n) opened (openedAfter (g .kind) (g .name) opened)
 unfolding turned counted kindNumber
 left-turned s {g} {opened = opened} a opens top at stored =
     opened-turned (g .kind) (g .name) opened (opens .size)

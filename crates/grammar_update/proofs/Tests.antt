@@ -19,6 +19,7 @@ use Rattle.mem_rows.specs.Rows.{Learnt, Rows, nameAt}
 use Rattle.mem_rows.specs.Rows.{stateOf, isAmong}
 use Rattle.mem_rows.specs.Rows.{openedAfter, afterGrammar, afterLearned, leaves, learnedOf}
 use Rattle.mem_rows.specs.Rows.{grammarsOf, contextOf, backward, withGrammar, withLearned}
+use Rattle.mem_rows.specs.Rows.{withAttributes}
 use Rattle.mem_rows.proofs.States.{open-of}
 use Rattle.mem_state.specs.declared.Core.{Core}
 use Rattle.mem_state.specs.declared.Growth.{Growth}
@@ -31,7 +32,7 @@ use Rattle.grammar_update.specs.Growth.{fitsIn}
 
 module _ (v : Rows) (kind n : ℕ) (b : Bool) (l : Learnt) where
   pub learned-after : length (leaves kind n b l v .learned) ≡ length (v .learned) + cond b 1 0
-  unfolding leaves afterLearned afterGrammar withLearned withGrammar
+  unfolding leaves withAttributes afterLearned afterGrammar withLearned withGrammar
   learned-after = go (eqb kind (kindNumber SE)) (isAmong n (v .grammars)) b
     where
       go : (p q d : Bool)
@@ -46,7 +47,7 @@ module _ (v : Rows) (kind n : ℕ) (b : Bool) (l : Learnt) where
 
   pub grammars-after : length (leaves kind n b l v .grammars)
       ≡ length (v .grammars) + cond (entersIn v kind n) 1 0
-  unfolding leaves afterLearned afterGrammar withLearned withGrammar
+  unfolding leaves withAttributes afterLearned afterGrammar withLearned withGrammar
   grammars-after = go (eqb kind (kindNumber SE)) (isAmong n (v .grammars)) b
     where
       go : (p q d : Bool)

@@ -1,5 +1,6 @@
 -- The numbers after an event.
-use Prim.Native.Nat.{ℕ}
+use Prim.Native.Nat.{ℕ, _<_}
+use Rattle.spec_exi.specs.Sizes.{maxEvents}
 use Rattle.grammar_codes.specs.Table.{Stands}
 use Rattle.mem_state.specs.declared.Core.{Core}
 use Rattle.mem_state.specs.declared.Strings.{Strings}
@@ -20,11 +21,14 @@ movedTo c at stored =
       mode = c .mode;
       top = c .top;
       depth = c .depth;
+      tag = c .tag;
     }
 
-abbrev pub coreAfter : Core → ℕ → ℕ → Strings → Growth → Core
-coreAfter c at stored s g = turned (counted (movedTo c at stored) s g) (g .kind) (g .name)
+-- So many events have come before it.
+abbrev pub coreAfter : Core → ℕ → ℕ → Strings → Growth → ℕ → Core
+coreAfter c at stored s g n = turned (counted (movedTo c at stored) s g) (g .kind) (g .name) n
 
-pub record AfterPre (c : Core) (g : Growth) : Type 0 where
+pub record AfterPre (c : Core) (g : Growth) (n : ℕ) : Type 0 where
   pub bounded : Bounded c
+  pub early : n < maxEvents
   pub stands : Stands (c .mode) (g .kind)

@@ -1,9 +1,11 @@
 // What an event leaves in the grammars and in the numbers that go from event to event (EXI 8.4.3),
-// and whether the sizes have room for it. Memory is not written. What the functions ask and leave
-// is in specs/.
+// and whether the start tag and the sizes have room for it. Memory is not written. What the
+// functions ask and leave is in specs/.
 ghost use mathlib.Core.Path.{_≡_};
-ghost use Rattle.grammar_update.specs.Growth.{growthOf, fitsIn, GrowthPre};
+ghost use Rattle.mem_marks.specs.Marks.{MarkCell};
+ghost use Rattle.grammar_update.specs.Growth.{growthOf, allowedIn, fitsIn, GrowthPre};
 ghost use Rattle.grammar_update.specs.After.{coreAfter, AfterPre};
+use event_code::AT;
 use event_code::SE;
 use mem_state::Core;
 use mem_state::Growth;
@@ -31,6 +33,16 @@ pub fn growth(c: Core, kind: u32, learned: bool, s: Strings, work: &[u32]) -> Gr
     }
 }
 
+// Whether the start tag, which has this mark, may have an event of this kind whose name has this
+// row: no second attribute of one name.
+pub fn allows(tag: u32, kind: u32, name: u32, work: &[u32]) -> bool
+    requires { ⌜ MarkCell (now work) name ⌝ }
+    ensures { λ r. ⌜ r ≡ allowedIn (now (work .entry)) tag kind name ⌝ }
+{
+    let marked = mem_marks::is_marked(work, name, tag);
+    !((kind == AT) & marked)
+}
+
 // Whether open elements, element grammars and learned productions have room for it.
 pub fn fits(c: Core, g: Growth) -> bool
     ensures { λ r. ⌜ r ≡ fitsIn c g ⌝ }
@@ -47,13 +59,14 @@ pub fn fits(c: Core, g: Growth) -> bool
     true
 }
 
-// The numbers after an event, at this position and with so many code points in the store.
-pub fn after(c: Core, at: usize, stored: usize, s: Strings, g: Growth) -> Core
-    requires { ⌜ AfterPre c g ⌝ }
-    ensures { λ d. ⌜ d ≡ coreAfter c at stored s g ⌝ }
+// The numbers after an event before which n have come, at this position and with so many code
+// points in the store.
+pub fn after(c: Core, at: usize, stored: usize, s: Strings, g: Growth, n: usize) -> Core
+    requires { ⌜ AfterPre c g n ⌝ }
+    ensures { λ d. ⌜ d ≡ coreAfter c at stored s g n ⌝ }
 {
     let mut d = c;
     d.at = at;
     d.stored = stored;
-    mem_state::turn(mem_state::count(d, s, g), g.kind, g.name)
+    mem_state::turn(mem_state::count(d, s, g), g.kind, g.name, n)
 }

@@ -9,11 +9,12 @@ use lib.Seq.{length-take-le, take-at, getD-take}
 use lib.Dec.{T}
 use Rattle.text.specs.Text.{Text, text, eqText, isEmpty}
 use Rattle.spec_exi.specs.Sizes.{maxStore, maxUris, maxNames, maxValues, maxLearned, maxGrammars}
-use Rattle.spec_exi.specs.Sizes.{maxOpen}
+use Rattle.spec_exi.specs.Sizes.{maxOpen, maxEvents}
 use Rattle.spec_exi.specs.Settings.{Settings}
 use Rattle.spec_exi.specs.Event.{eqName}
 use Rattle.spec_exi.specs.Tables.{nameAllowed, newUri, newName, newEntry, newValue, laid, added}
 use Rattle.spec_exi.specs.Tables.{xmlUri, xsiUri, initialEntries, addedAll, startTables}
+use Rattle.spec_exi.specs.Grammar.{emptyTag}
 use Rattle.spec_exi.specs.Context.{start}
 use Rattle.spec_exi.specs.Alike.{Alike}
 use Rattle.spec_exi.proofs.Alike.{alike-same}
@@ -24,11 +25,13 @@ use Rattle.mem_entries.specs.Entries.{entryAt, named}
 use Rattle.mem_names.specs.Uris.{uriAt}
 use Rattle.mem_names.proofs.Uris.{uris-none}
 use Rattle.mem_names.proofs.Joined.{names-none}
+use Rattle.mem_marks.proofs.Marks.{marks-none}
 use Rattle.mem_values.specs.Window.{replaced, globalNumber, unbounded}
 use Rattle.mem_values.proofs.Joined.{values-none}
 use Rattle.mem_learned.proofs.Joined.{learned-none}
 use Rattle.mem_learned.proofs.Grammars.{grammars-none}
 use Rattle.mem_rows.specs.Rows.{placedAt, nameAt, tablesOf, backward, learnedOf, grammarsOf}
+use Rattle.mem_rows.specs.Rows.{tagIn, isAmong}
 use Rattle.mem_rows.specs.Rows.{inDocument, stateOf, contextOf, withUri, withName}
 use Rattle.mem_rows.specs.Valid.{Valid}
 use Rattle.mem_rows.proofs.Alike.{rows-context}
@@ -53,6 +56,7 @@ none-valid =
         values = record { below = λ i h. absurd (omega arith) };
         learned = λ i h. absurd (omega arith);
         grammars = λ i h. absurd (omega arith);
+        attributes = λ i h. absurd (omega arith);
       };
       distinct = record {
         uris = λ i j h k e. absurd (omega arith);
@@ -172,7 +176,11 @@ module _ (work : List ℕ) (room : workCells ≤ length work)
   initial-stands origin f =
       names-stand from (f .store) (f .stored) origin initialNames (length urisText) 0
       (uris-stand from (f .store) (f .stored) origin initialUris 0 0
-      (record { valid = none-valid; holds = none-holds work room zeros from (f .values) })
+      (record {
+        valid = none-valid;
+        holds = none-holds work room zeros from (f .values);
+        marks = marks-none work room zeros (omega arith);
+      })
       refl (f .uris) (first-has urisText namesText (f .has) (origin + 0) (omega arith))
       (uris-fresh origin))
       (sym (uris-counted origin)) (f .names)
@@ -180,7 +188,7 @@ module _ (work : List ℕ) (room : workCells ≤ length work)
 
   pub start-represents : Sourced from 0 → (at : ℕ)
       → Represents (withRows work 0) from (startAt at) startRows []
-  unfolding startAt initialRows plusUris plusNames withUri withName initialUris initialNames
+  unfolding startAt initialRows plusUris plusNames withUri withName initialUris initialNames isAmong
   start-represents f at =
       let s = initial-stands 0 f in
       record {
@@ -194,6 +202,7 @@ module _ (work : List ℕ) (room : workCells ≤ length work)
           grammars = refl;
         };
         opens = record { size = refl; rows = λ i h. absurd (omega arith) };
+        marks = s .marks;
       }
 
 pub start-topped : (at : ℕ) → Topped (startAt at) []
@@ -201,7 +210,7 @@ unfolding startAt
 start-topped at = record { is = λ h. absurd (omega arith) }
 
 pub start-bounded : (at : ℕ) → Bounded (startAt at)
-unfolding startAt maxStore maxUris maxNames maxValues maxLearned maxGrammars maxOpen
+unfolding startAt maxStore maxUris maxNames maxValues maxLearned maxGrammars maxOpen maxEvents
 start-bounded at =
     record {
       stored = omega arith;
@@ -217,15 +226,16 @@ start-bounded at =
         outer = λ h. refl;
         inner = λ h. absurd (omega arith);
       };
+      tag = omega arith;
     }
 
 -- ---- what it means
 
 rows-mean : (s : Settings) → contextOf startRows initialText 0 [] ≡ start s
-unfolding contextOf stateOf tablesOf learnedOf backward grammarsOf named nameAt placedAt entryAt
-    uriAt initialRows plusUris plusNames withUri withName initialText urisText namesText together
-    initialUris initialNames start startTables addedAll initialEntries added newUri newName newEntry
-    newValue laid xmlUri xsiUri text
+unfolding contextOf stateOf tablesOf learnedOf backward grammarsOf tagIn emptyTag named nameAt
+    placedAt entryAt uriAt initialRows plusUris plusNames withUri withName initialText urisText
+    namesText together initialUris initialNames start startTables addedAll initialEntries added
+    newUri newName newEntry newValue laid xmlUri xsiUri text
 rows-mean s = refl
 
 text-first : (text : List ℕ) → take 99 (withText text 0) ≡ initialText

@@ -19,10 +19,13 @@ use Rattle.mem_entries.specs.Texts.{Source, upTo, hashOf, Lies}
 use Rattle.mem_names.specs.Uris.{uriText, hasUri}
 use Rattle.mem_names.specs.Uris as cells
 use Rattle.mem_names.specs.Names as names
+use Rattle.mem_marks.specs.Marks.{MarksHold}
+use Rattle.mem_marks.proofs.Marks.{marks-kept}
 use Rattle.mem_rows.specs.Rows.{Rows, nameAt, withUri, withName}
 use Rattle.mem_rows.specs.Valid.{Valid}
 use Rattle.mem_rows.proofs.Grown.{uri-grows, name-grows}
 use Rattle.mem_state.specs.Holds.{Stores, Holds}
+use Rattle.mem_state.proofs.Frames.{uri-marks, name-marks}
 use Rattle.mem_state.proofs.Joins.{holds-uri, holds-name}
 use Rattle.mem_initial.specs.Initial.{Local, together, withUris, withNames, plusUris}
 use Rattle.mem_initial.specs.Initial.{plusNames}
@@ -31,6 +34,8 @@ use Rattle.mem_initial.proofs.Texts.{Has, first-lies, rest-has}
 pub record Stands (work : List ℕ) (from : Stores) (w : Rows) : Type 0 where
   pub valid : Valid w
   pub holds : Holds work from w
+  -- no name has the first mark
+  pub marks : MarksHold work 1 (λ _. false)
 
 -- ---- tests of what joins: there is room, and it is not there yet
 
@@ -100,11 +105,15 @@ module _ {work : List ℕ} {from : Stores} {w : Rows} (h : Stands work from w) w
     unfolding freshUri
     uri-stands n e lies =
         let v : Valid (withUri w x) = uri-grows (h .valid) x uri-new in
+        let room : length (w .uris) < uriRows =
+        ltb→lt _ _ (left (uriRoom w) (uriNew w (x .text)) t) in
         record {
           valid = v;
           holds = rw e (holds-uri w x v (h .holds)
-              (ltb→lt _ _ (left (uriRoom w) (uriNew w (x .text)) t))
-              (subst (λ m. LiesIn (from .uris m) x) e lies));
+              room (subst (λ m. LiesIn (from .uris m) x) e lies));
+          marks = marks-kept
+              (uri-marks work n (x .place) (length (x .text)) n (h .marks .room)
+              (omega (arith, room, e))) (h .marks);
         }
 
   module _ (u : ℕ) (x : Placed) (t : T (freshName w u (x .text))) where
@@ -133,15 +142,18 @@ module _ {work : List ℕ} {from : Stores} {w : Rows} (h : Stands work from w) w
         ltb→lt _ _ (left (nameRoom w) (uriThere w u) fits) in
         let below : u < length (w .uris) =
         ltb→lt _ _ (right (nameRoom w) (uriThere w u) fits) in
+        let low : u < uriRows = omega (arith, below, h .holds .uris .few) in
         let v : Valid (withName w u x) =
         name-grows (h .valid) u x below name-new
         (is-true (allowed w u (x .text))
         (right (nameNew w u (x .text)) (allowed w u (x .text)) good)) in
         record {
           valid = v;
-          holds = rw e (holds-name w (h .valid .refers) u x v (h .holds) room
-              (omega (arith, below, h .holds .uris .few))
+          holds = rw e (holds-name w (h .valid .refers) u x v (h .holds) room low
               (subst (λ m. LiesIn (from .names m) x) e lies));
+          marks = marks-kept
+              (name-marks work n u (x .place) (length (x .text)) (hashOf (x .text))
+              (h .marks .room) (omega (arith, room, e)) low) (h .marks);
         }
 
 -- ---- lists of them, whose rows lie in one store

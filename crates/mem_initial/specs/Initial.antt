@@ -99,7 +99,8 @@ plusNames w origin k (l ∷ ls) =
     (k + length (l .name)) ls
 
 abbrev pub noRows : Rows
-noRows = record { uris = []; names = []; values = []; learned = []; grammars = [] }
+noRows =
+    record { uris = []; names = []; values = []; learned = []; grammars = []; attributes = [] }
 
 unfoldable pub initialRows : ℕ → Rows
 initialRows origin =
@@ -124,4 +125,5 @@ startAt at =
       mode = inDocument;
       top = 0;
       depth = 0;
+      tag = 1;
     }

@@ -122,5 +122,6 @@ pub fn start(at: usize) -> Core
         mode: 0,
         top: 0,
         depth: 0,
+        tag: 1,
     }
 }

@@ -20,8 +20,9 @@ use Rattle.mem_entries.specs.Entries.{entryAt, named, noEntry}
 use Rattle.mem_names.specs.Uris.{noUri, uriAt, uriText}
 use Rattle.mem_rows.specs.Rows.{Learnt, Rows, placedAt}
 use Rattle.mem_rows.specs.Rows.{nameAt, tablesOf, kindAt, carries, siteAt, carriedAt}
-use Rattle.mem_rows.specs.Rows.{productionOf, learntAs, backward, learnedOf, grammarsOf, stateOf}
-use Rattle.mem_rows.specs.Rows.{contextOf, withUri, withName, withValue, modeAfter, openedAfter}
+use Rattle.mem_rows.specs.Rows.{productionOf, learntAs, backward, learnedOf, grammarsOf}
+use Rattle.mem_rows.specs.Rows.{tagIn, stateOf, contextOf, withUri, withName, withValue}
+use Rattle.mem_rows.specs.Rows.{modeAfter, openedAfter}
 use Rattle.mem_rows.specs.Valid.{Refers, Valid}
 use Rattle.mem_rows.proofs.Joins.{map-snoc, uri-joins, name-joins, value-joins}
 use Rattle.mem_rows.specs.Rows.{leaves}
@@ -36,6 +37,7 @@ unplacedRows w =
       values = map unplacedEntry (w .values);
       learned = w .learned;
       grammars = w .grammars;
+      attributes = w .attributes;
     }
 
 abbrev pub AlikeRows : Rows → Rows → Type 0
@@ -99,13 +101,14 @@ module _ (w : Rows) where
   context-unplaced : (store : Text) (mode : ℕ) (opened : List ℕ)
       → contextOf (unplacedRows w) (replicate (length store) 0) mode opened
       ≡ unplacedContext (contextOf w store mode opened)
-  unfolding contextOf learnedOf grammarsOf unplacedContext unplacedRows
+  unfolding contextOf learnedOf grammarsOf tagIn unplacedContext unplacedRows
   context-unplaced store mode opened =
       λ i. record {
         state = stateOf mode (map (names-unplaced i) opened);
         tables = tables-unplaced store i;
         learned = learnt-unplaced (backward (w .learned)) i;
         grammars = map (names-unplaced i) (w .grammars);
+        tag = record { attributes = map (names-unplaced i) (w .attributes) };
       }
 
 -- ---- alike rows

@@ -15,17 +15,20 @@ use Rattle.spec_exi.specs.Event.{QName, Event, Kind, SD, ED, SE, AT, EE, CH, CM
 use Rattle.spec_exi.specs.Settings.{Settings}
 use Rattle.spec_exi.specs.Tables.{Placed, Tables, nameText}
 use Rattle.spec_exi.specs.Grammar.{Production, Learned, Code, kindNumber, siteOf, learnedAt, teaches, taught}
-use Rattle.spec_exi.specs.Grammar.{Site, learn, hasName, grammarsAfter, stateAfter}
+use Rattle.spec_exi.specs.Grammar.{Site, learn, hasName, grammarsAfter, stateAfter, Tag, emptyTag}
+use Rattle.spec_exi.specs.Grammar.{isAttribute, attributeName, withAttribute, tagAfter}
 use Rattle.spec_exi.specs.Grammar as grammar
 use Rattle.spec_exi.specs.Context.{Context, after}
 use Rattle.mem_entries.specs.Entries.{named}
 use Rattle.mem_rows.specs.Rows.{Learnt, Rows, placedAt, nameAt, siteAt, kindAt, carries, carriedAt}
 use Rattle.mem_rows.specs.Rows.{productionOf, learntAs, learnedOf, grammarsOf, isAmong, stateOf}
-use Rattle.mem_rows.specs.Rows.{modeAfter, openedAfter, ModeFits, tablesOf, contextOf}
-use Rattle.mem_rows.specs.Rows.{withGrammar, withLearned, afterGrammar, afterLearned, leaves}
+use Rattle.mem_rows.specs.Rows.{modeAfter, openedAfter, ModeFits, tablesOf, contextOf, tagIn}
+use Rattle.mem_rows.specs.Rows.{withGrammar, withLearned, afterGrammar, afterLearned}
+use Rattle.mem_rows.specs.Rows.{attributesAfter, withAttributes, leaves}
 use Rattle.mem_rows.specs.Valid.{learntAt, LearntFits, Refers, Valid}
-use Rattle.mem_rows.proofs.Grown.{learned-grows, grammar-grows}
+use Rattle.mem_rows.proofs.Grown.{learned-grows, grammar-grows, attributes-turn}
 use Rattle.mem_rows.proofs.Kept.{Kept, All, name-kept, learnt-kept, names-kept, learned-kept, grammars-kept}
+use Rattle.mem_rows.proofs.Kept.{tag-kept}
 use Rattle.mem_rows.proofs.Joins.{name-text}
 use Rattle.mem_rows.proofs.Grammars.{learned-more, grammars-more, has-grammar}
 use Rattle.mem_rows.proofs.States.{Leads, state-after}
@@ -35,6 +38,7 @@ pub record Joined (w v : Rows) : Type 0 where
   pub kept : Kept w v
   pub learned : v .learned ≡ w .learned
   pub grammars : v .grammars ≡ w .grammars
+  pub attributes : v .attributes ≡ w .attributes
 
 -- ---- the grammars
 
@@ -77,7 +81,7 @@ module _ {w v : Rows} (j : Joined w v) (r : Refers w) where
 
 module _ (kind n : ℕ) (b : Bool) (l : Learnt) (v : Rows) where
   pub leaves-names : (m : ℕ) → placedAt (leaves kind n b l v) m ≡ placedAt v m
-  unfolding leaves afterLearned afterGrammar withLearned withGrammar placedAt
+  unfolding leaves withAttributes afterLearned afterGrammar withLearned withGrammar placedAt
   leaves-names m = go (eqb kind (kindNumber SE)) (isAmong n (v .grammars)) b
     where
       go : (a c d : Bool) → placedAt (afterLearned d l (cond a (cond c v (withGrammar v n)) v)) m ≡ placedAt v m
@@ -89,7 +93,8 @@ module _ (kind n : ℕ) (b : Bool) (l : Learnt) (v : Rows) where
       go false c false = refl
 
   pub leaves-tables : (store : Text) → tablesOf (leaves kind n b l v) store ≡ tablesOf v store
-  unfolding leaves afterLearned afterGrammar withLearned withGrammar tablesOf named nameAt placedAt
+  unfolding leaves withAttributes afterLearned afterGrammar withLearned withGrammar tablesOf named
+      nameAt placedAt
   leaves-tables store = go (eqb kind (kindNumber SE)) (isAmong n (v .grammars)) b
     where
       go : (a c d : Bool) → tablesOf (afterLearned d l (cond a (cond c v (withGrammar v n)) v)) store ≡ tablesOf v store
@@ -103,7 +108,7 @@ module _ (kind n : ℕ) (b : Bool) (l : Learnt) (v : Rows) where
   -- The lists that it does not touch.
   pub leaves-lists : (leaves kind n b l v .uris ≡ v .uris) × (leaves kind n b l v .names ≡ v .names)
       × (leaves kind n b l v .values ≡ v .values)
-  unfolding leaves afterLearned afterGrammar withLearned withGrammar
+  unfolding leaves withAttributes afterLearned afterGrammar withLearned withGrammar
   leaves-lists = go (eqb kind (kindNumber SE)) (isAmong n (v .grammars)) b
     where
       go : (a c d : Bool)
@@ -118,7 +123,8 @@ module _ (kind n : ℕ) (b : Bool) (l : Learnt) (v : Rows) where
       go false c false = (refl, refl, refl)
 
   leaves-learned : learnedOf (leaves kind n b l v) ≡ learnedOf (afterLearned b l v)
-  unfolding leaves afterLearned afterGrammar withLearned withGrammar learnedOf learntAs productionOf carriedAt siteAt nameAt placedAt
+  unfolding leaves withAttributes afterLearned afterGrammar withLearned withGrammar learnedOf
+      learntAs productionOf carriedAt siteAt nameAt placedAt
   leaves-learned = go (eqb kind (kindNumber SE)) (isAmong n (v .grammars)) b
     where
       go : (a c d : Bool) → learnedOf (afterLearned d l (cond a (cond c v (withGrammar v n)) v)) ≡ learnedOf (afterLearned d l v)
@@ -130,12 +136,39 @@ module _ (kind n : ℕ) (b : Bool) (l : Learnt) (v : Rows) where
       go false c false = refl
 
   leaves-grammars : grammarsOf (leaves kind n b l v) ≡ grammarsOf (afterGrammar kind n v)
-  unfolding leaves afterLearned withLearned grammarsOf nameAt placedAt
+  unfolding leaves withAttributes afterLearned withLearned grammarsOf nameAt placedAt
   leaves-grammars = go b
     where
       go : (d : Bool) → grammarsOf (afterLearned d l (afterGrammar kind n v)) ≡ grammarsOf (afterGrammar kind n v)
       go true = refl
       go false = refl
+
+  leaves-tag : tagIn (leaves kind n b l v)
+      ≡ record {
+        attributes = map (nameAt (leaves kind n b l v)) (attributesAfter kind n (v .attributes));
+      }
+  unfolding leaves withAttributes tagIn
+  leaves-tag = refl
+
+-- ---- the start tag
+
+-- An attribute's name has this row.
+tag-after : {w v : Rows} → Joined w v → Refers w → (n : ℕ) (e : Event Text)
+    → (kindNumber (kindOf e) ≡ kindNumber AT → nameOf e ≡ some (nameAt v n))
+    → record {
+      attributes = map (nameAt v) (attributesAfter (kindNumber (kindOf e)) n (v .attributes));
+    }
+    ≡ tagAfter (tagIn w) e
+unfolding attributesAfter tagAfter withAttribute attributeName isAttribute emptyTag tagIn
+tag-after {w} {v} j r n e f =
+    split (eqb (kindNumber (kindOf e)) (kindNumber AT))
+    (λ t.
+    rw (t, f (eqb-true (kindNumber (kindOf e)) (kindNumber AT) t))
+    (ap (λ (x : Tag). record { attributes = nameAt v n ∷ x .attributes }) same))
+    (λ t. rw t)
+  where
+    same : record { attributes = map (nameAt v) (v .attributes) } ≡ tagIn w
+    same = tag-kept (j .kept) r (j .attributes)
 
 -- ---- the context
 
@@ -148,6 +181,7 @@ pub record EventRows (w v : Rows) (mode : ℕ) (opened : List ℕ) (n : ℕ) (b 
   pub opens : All (λ m. m < length (w .names)) opened
   pub leads : Leads v n (length opened) e
   pub name : kindNumber (kindOf e) ≡ 2 → n < length (v .names)
+  pub attribute : kindNumber (kindOf e) ≡ kindNumber AT → nameOf e ≡ some (nameAt v n)
   -- what it teaches, and where
   pub taught-is : b ≡ true
       → (siteOf (stateOf mode (map (nameAt w) opened)) ≡ some (siteAt v (l .site)))
@@ -158,6 +192,13 @@ pub record EventRows (w v : Rows) (mode : ℕ) (opened : List ℕ) (n : ℕ) (b 
 
 module _ (s : Settings) {w v : Rows} (refers : Refers w) (valid : Valid v) {mode n : ℕ} {opened : List ℕ} {b : Bool} {l : Learnt} {x : Code}
     {q : Option (QName Placed)} {e : Event Text} (h : EventRows w v mode opened n b l x q e) (store store′ : Text) where
+  map-names : (ns : List ℕ)
+      → map (nameAt (leaves (kindNumber (kindOf e)) n b l v)) ns ≡ map (nameAt v) ns
+  map-names [] = refl
+  map-names (m ∷ ns) =
+      let k = kindNumber (kindOf e) in
+      cc (name-text (leaves k n b l v) v m m (leaves-names k n b l v m), map-names ns)
+
   state-is : stateOf (modeAfter (kindNumber (kindOf e)) mode (length opened))
       (map (nameAt (leaves (kindNumber (kindOf e)) n b l v)) (openedAfter (kindNumber (kindOf e)) n opened))
       ≡ stateAfter s (stateOf mode (map (nameAt w) opened)) e
@@ -166,11 +207,6 @@ module _ (s : Settings) {w v : Rows} (refers : Refers w) (valid : Valid v) {mode
       (map-names (openedAfter (kindNumber (kindOf e)) n opened))
       ∙ sym (state-after s v mode n opened (h .fits) e (h .leads))
       ∙ ap (λ (qs : List (QName Text)). stateAfter s (stateOf mode qs) e) (names-kept (h .joined .kept) opened (h .opens))
-    where
-      map-names : (ns : List ℕ) → map (nameAt (leaves (kindNumber (kindOf e)) n b l v)) ns ≡ map (nameAt v) ns
-      map-names [] = refl
-      map-names (m ∷ ns) =
-          cc (name-text (leaves (kindNumber (kindOf e)) n b l v) v m m (leaves-names (kindNumber (kindOf e)) n b l v m), map-names ns)
 
   -- The rows that the event leaves are the context that the definitions have after it.
   pub event-context :
@@ -185,7 +221,16 @@ module _ (s : Settings) {w v : Rows} (refers : Refers w) (valid : Valid v) {mode
       ∙ learned-after (h .joined) refers site b l (taught (learnedAt site (learnedOf w)) x (kindOf e) q) (h .taught-is) (h .taught-none) in
       let gs = leaves-grammars k n b l v
       ∙ grammars-after (h .joined) refers valid n e (λ z. (h .name z, h .leads .named z)) in
-      λ i. record { state = state-is i; tables = leaves-tables k n b l v store′ i; learned = ls i; grammars = gs i }
+      let tag = leaves-tag k n b l v
+      ∙ ap (λ qs. record { attributes = qs }) (map-names (attributesAfter k n (v .attributes)))
+      ∙ tag-after (h .joined) refers n e (h .attribute) in
+      λ i. record {
+        state = state-is i;
+        tables = leaves-tables k n b l v store′ i;
+        learned = ls i;
+        grammars = gs i;
+        tag = tag i;
+      }
 
 -- ---- what an event leaves is valid
 
@@ -223,10 +268,10 @@ module _ (kind n : ℕ) (l : Learnt) {v : Rows} (x : Valid v) where
       go true false = refl
       go false b = refl
 
-  pub leaves-valid : (b : Bool) → (kind ≡ kindNumber SE → n < length (v .names))
-      → (b ≡ true → Fresh v l) → Valid (leaves kind n b l v)
-  unfolding leaves afterLearned
-  leaves-valid true h f =
+  learned-valid : (b : Bool) → (kind ≡ kindNumber SE → n < length (v .names))
+      → (b ≡ true → Fresh v l) → Valid (afterLearned b l (afterGrammar kind n v))
+  unfolding afterLearned
+  learned-valid true h f =
       let u = f refl in
       learned-grows (grammar-valid h) l
       (subst (λ es. LearntFits (length es) l) (sym grammar-names) (u .fits))
@@ -234,4 +279,31 @@ module _ (kind n : ℕ) (l : Learnt) {v : Rows} (x : Valid v) where
       let c : length (afterGrammar kind n v .learned) ≡ length (v .learned) =
       ap length grammar-learned in
       u .new i (omega (arith, c, m)) (ap (λ ls. learntAt ls i) (sym grammar-learned) ∙ e))
-  leaves-valid false h f = grammar-valid h
+  learned-valid false h f = grammar-valid h
+
+  learned-names : (b : Bool) → afterLearned b l (afterGrammar kind n v) .names ≡ v .names
+  unfolding afterLearned withLearned
+  learned-names true = grammar-names
+  learned-names false = grammar-names
+
+  attribute-rows : (kind ≡ kindNumber AT → n < length (v .names)) → (i : ℕ)
+      → i < length (attributesAfter kind n (v .attributes))
+      → getD (attributesAfter kind n (v .attributes)) i 0 < length (v .names)
+  unfolding attributesAfter
+  attribute-rows a =
+      split (eqb kind (kindNumber AT))
+      (λ t. rw t (λ i m. joined (a (eqb-true kind (kindNumber AT) t)) i m))
+      (λ t. rw t (λ i m. absurd (omega (arith, m))))
+    where
+      joined : n < length (v .names) → (i : ℕ) → i < length (n ∷ v .attributes)
+          → getD (n ∷ v .attributes) i 0 < length (v .names)
+      joined low zero m = low
+      joined low (suc i) m = x .refers .attributes i (omega arith)
+
+  pub leaves-valid : (b : Bool) → (kind ≡ kindNumber SE → n < length (v .names))
+      → (kind ≡ kindNumber AT → n < length (v .names)) → (b ≡ true → Fresh v l)
+      → Valid (leaves kind n b l v)
+  unfolding leaves
+  leaves-valid b h a f =
+      attributes-turn (learned-valid b h f) (attributesAfter kind n (v .attributes))
+      (λ i m. omega (arith, attribute-rows a i m, ap length (learned-names b)))

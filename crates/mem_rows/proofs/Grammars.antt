@@ -12,7 +12,7 @@ use Rattle.spec_exi.specs.Grammar.{Learned, hasName}
 use Rattle.spec_exi.proofs.Codes.{eqName-refl, eqName-eq}
 use Rattle.mem_rows.specs.Rows.{Learnt, Rows, nameAt, placedAt, learntAs, productionOf, carriedAt}
 use Rattle.mem_rows.specs.Rows.{siteAt, backward, learnedOf, grammarsOf, withLearned, withGrammar}
-use Rattle.mem_rows.specs.Rows.{isAmong}
+use Rattle.mem_rows.specs.Rows.{tagIn, isAmong}
 use Rattle.mem_rows.specs.Valid.{Refers, Valid}
 use Rattle.mem_rows.proofs.Partitions.{key-test}
 use Rattle.mem_rows.proofs.Joins.{map-snoc}
@@ -39,6 +39,12 @@ has-among v n h none = refl
 has-among {w} v n h (more {x} {xs} l a) =
     let t = key-test eqName eqName-refl eqName-eq (nameAt w) (length (w .names)) (v .distinct .names) x n l h in
     rw (t, has-among v n h a)
+
+-- An attribute has come in the start tag exactly if its row is among theirs.
+pub has-attribute : {w : Rows} → Valid w → (n : ℕ) → n < length (w .names)
+    → hasName (tagIn w .attributes) (nameAt w n) ≡ isAmong n (w .attributes)
+unfolding tagIn
+has-attribute {w} v n h = has-among v n h (all-at 0 (w .attributes) (v .refers .attributes))
 
 -- An element has a grammar exactly if its row is among them.
 pub has-grammar : {w : Rows} → Valid w → (n : ℕ) → n < length (w .names)

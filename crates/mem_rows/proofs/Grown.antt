@@ -17,6 +17,7 @@ use Rattle.mem_entries.proofs.Entries.{entry-old, entry-new}
 use Rattle.mem_names.specs.Uris.{noUri, uriAt, uriText}
 use Rattle.mem_rows.specs.Rows.{Learnt, Rows, placedAt, nameAt}
 use Rattle.mem_rows.specs.Rows.{isAmong, withUri, withName, withValue, withLearned, withGrammar}
+use Rattle.mem_rows.specs.Rows.{withAttributes}
 use Rattle.mem_rows.specs.Valid.{noLearnt, learntAt, KeysBelow, LearntFits, Refers, Distinct}
 use Rattle.mem_rows.specs.Valid.{Judged, Valid}
 use Rattle.mem_rows.proofs.Entries.{last-or, keys-more, keys-up}
@@ -88,6 +89,7 @@ module _ {w : Rows} (v : Valid w) (x : Placed) where
           values = r .values;
           learned = r .learned;
           grammars = r .grammars;
+          attributes = r .attributes;
         };
         distinct = record {
           uris = apart-more (w .uris) x (uriText (w .uris)) (uriText (w .uris ++ (x ∷ [])))
@@ -136,6 +138,7 @@ module _ {w : Rows} (v : Valid w) (u : ℕ) (x : Placed) where
           values = keys-up more (r .values);
           learned = λ i l. fits-up more (r .learned i l);
           grammars = λ i l. omega (arith, r .grammars i l, more);
+          attributes = λ i l. omega (arith, r .attributes i l, more);
         };
         distinct = record {
           uris = d .uris;
@@ -179,6 +182,7 @@ module _ {w : Rows} (v : Valid w) (n : ℕ) (x : Placed) where
           values = keys-more (w .values) e (r .values) h;
           learned = r .learned;
           grammars = r .grammars;
+          attributes = r .attributes;
         };
         distinct = record {
           uris = d .uris;
@@ -217,6 +221,7 @@ module _ {w : Rows} (v : Valid w) (l : Learnt) where
               (λ i h. subst (LearntFits (length (w .names))) (sym (old i h)) (r .learned i h))
               (subst (LearntFits (length (w .names))) (sym new) f);
           grammars = r .grammars;
+          attributes = r .attributes;
         };
         distinct = record {
           uris = d .uris;
@@ -263,6 +268,7 @@ module _ {w : Rows} (v : Valid w) (n : ℕ) where
           grammars = last-or {P = λ i. getD (w .grammars ++ (n ∷ [])) i 0 < length (w .names)} (w .grammars) n
               (λ i l. omega (arith, old i l, r .grammars i l))
               (omega (arith, new, h));
+          attributes = r .attributes;
         };
         distinct = record {
           uris = d .uris;
@@ -273,4 +279,35 @@ module _ {w : Rows} (v : Valid w) (n : ℕ) where
               (λ i l z. among-at (w .grammars) n i fresh l (z ∙ new));
         };
         judged = judged-kept grammar-keeps refl (v .judged);
+      }
+
+-- ---- the attributes of a start tag
+
+module _ {w : Rows} (v : Valid w) (ns : List ℕ) where
+  attributes-keeps : Kept w (withAttributes ns w)
+  unfolding withAttributes placedAt
+  attributes-keeps = record { fewer = omega arith; names = λ m h. refl }
+
+  pub attributes-turn : ((i : ℕ) → i < length ns → getD ns i 0 < length (w .names))
+      → Valid (withAttributes ns w)
+  unfolding withAttributes nameAt placedAt
+  attributes-turn h =
+      let r = v .refers in
+      let d = v .distinct in
+      record {
+        refers = record {
+          names = r .names;
+          values = r .values;
+          learned = r .learned;
+          grammars = r .grammars;
+          attributes = h;
+        };
+        distinct = record {
+          uris = d .uris;
+          names = d .names;
+          values = d .values;
+          learned = d .learned;
+          grammars = d .grammars;
+        };
+        judged = judged-kept attributes-keeps refl (v .judged);
       }

@@ -10,7 +10,7 @@ use Rattle.spec_exi.specs.Event.{QName}
 use Rattle.spec_exi.specs.Tables.{Placed, Entry}
 use Rattle.spec_exi.specs.Grammar.{Production, Learned}
 use Rattle.mem_rows.specs.Rows.{Learnt, Rows, placedAt, nameAt, siteAt, carriedAt, productionOf}
-use Rattle.mem_rows.specs.Rows.{kindAt, learntAs, backward, learnedOf, grammarsOf}
+use Rattle.mem_rows.specs.Rows.{kindAt, learntAs, backward, learnedOf, grammarsOf, tagIn}
 use Rattle.mem_rows.specs.Valid.{noLearnt, learntAt, LearntFits, Refers}
 
 -- The names of w are those of v too, at the same rows.
@@ -62,3 +62,10 @@ module _ {w v : Rows} (k : Kept w v) where
     pub grammars-kept : v .grammars ≡ w .grammars → grammarsOf v ≡ grammarsOf w
     unfolding grammarsOf
     grammars-kept e = ap (map (nameAt v)) e ∙ names-kept (w .grammars) (all-at 0 (w .grammars) (r .grammars))
+
+    pub tag-kept : v .attributes ≡ w .attributes → tagIn v ≡ tagIn w
+    unfolding tagIn
+    tag-kept e =
+        ap (λ qs. record { attributes = qs })
+        (ap (map (nameAt v)) e
+        ∙ names-kept (w .attributes) (all-at 0 (w .attributes) (r .attributes)))

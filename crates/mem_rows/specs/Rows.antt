@@ -13,6 +13,7 @@ use Rattle.spec_exi.specs.Event.{QName, Kind, SD, ED, SE, AT, EE, CH, CM, PI}
 use Rattle.spec_exi.specs.Tables.{Placed, Entry, Tables, partition}
 use Rattle.spec_exi.specs.Grammar.{Production, Site, tagOf, contentOf, Learned, State, document}
 use Rattle.spec_exi.specs.Grammar.{docContent, docEnd, finished, startTag, elementContent, kindNumber}
+use Rattle.spec_exi.specs.Grammar.{Tag}
 use Rattle.spec_exi.specs.Context.{Context}
 use Rattle.mem_entries.specs.Entries.{Entries, entryAt, named}
 use Rattle.mem_names.specs.Uris.{uriAt, uriText}
@@ -38,6 +39,8 @@ pub record Rows : Type 0 where
   pub learned : List Learnt
   -- the elements that have a grammar, by the row of their name
   pub grammars : List ℕ
+  -- the attributes of the start tag that is open, by the row of their name, the newest first
+  pub attributes : List ℕ
 
 -- ---- as the definitions' tables
 
@@ -104,6 +107,9 @@ learnedOf w = map (learntAs w) (backward (w .learned))
 unfoldable pub grammarsOf : Rows → List (QName Text)
 grammarsOf w = map (nameAt w) (w .grammars)
 
+unfoldable pub tagIn : Rows → Tag
+tagIn w = record { attributes = map (nameAt w) (w .attributes) }
+
 -- A number is among these.
 unfoldable pub isAmong : ℕ → List ℕ → Bool
 isAmong n [] = false
@@ -163,6 +169,7 @@ contextOf w store mode opened =
       tables = tablesOf w store;
       learned = learnedOf w;
       grammars = grammarsOf w;
+      tag = tagIn w;
     }
 
 -- ---- one row more
@@ -175,6 +182,7 @@ withUri w x =
       values = w .values;
       learned = w .learned;
       grammars = w .grammars;
+      attributes = w .attributes;
     }
 
 unfoldable pub withName : Rows → ℕ → Placed → Rows
@@ -185,6 +193,7 @@ withName w u x =
       values = w .values;
       learned = w .learned;
       grammars = w .grammars;
+      attributes = w .attributes;
     }
 
 unfoldable pub withValue : Rows → ℕ → Placed → Rows
@@ -195,6 +204,7 @@ withValue w n x =
       values = w .values ++ (record { key = n; string = x } ∷ []);
       learned = w .learned;
       grammars = w .grammars;
+      attributes = w .attributes;
     }
 
 unfoldable pub withLearned : Rows → Learnt → Rows
@@ -205,6 +215,7 @@ withLearned w l =
       values = w .values;
       learned = w .learned ++ (l ∷ []);
       grammars = w .grammars;
+      attributes = w .attributes;
     }
 
 unfoldable pub withGrammar : Rows → ℕ → Rows
@@ -215,6 +226,7 @@ withGrammar w n =
       values = w .values;
       learned = w .learned;
       grammars = w .grammars ++ (n ∷ []);
+      attributes = w .attributes;
     }
 
 -- ---- what an event leaves, where its strings have joined
@@ -227,6 +239,23 @@ afterGrammar kind n w =
 unfoldable pub afterLearned : Bool → Learnt → Rows → Rows
 afterLearned teaches l w = cond teaches (withLearned w l) w
 
+-- The attributes of the start tag: one more, or those of another, which has none.
+unfoldable pub attributesAfter : ℕ → ℕ → List ℕ → List ℕ
+attributesAfter kind n ns = cond (eqb kind (kindNumber AT)) (n ∷ ns) []
+
+unfoldable pub withAttributes : List ℕ → Rows → Rows
+withAttributes ns w =
+    record {
+      uris = w .uris;
+      names = w .names;
+      values = w .values;
+      learned = w .learned;
+      grammars = w .grammars;
+      attributes = ns;
+    }
+
 -- The rows that an event leaves, where its strings have left v: its name has row n, and l is learned.
 unfoldable pub leaves : ℕ → ℕ → Bool → Learnt → Rows → Rows
-leaves kind n b l v = afterLearned b l (afterGrammar kind n v)
+leaves kind n b l v =
+    withAttributes (attributesAfter kind n (v .attributes))
+    (afterLearned b l (afterGrammar kind n v))

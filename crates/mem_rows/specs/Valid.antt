@@ -36,6 +36,8 @@ pub record Refers (w : Rows) : Type 0 where
   pub learned : (i : ℕ) → i < length (w .learned)
       → LearntFits (length (w .names)) (learntAt (w .learned) i)
   pub grammars : (i : ℕ) → i < length (w .grammars) → getD (w .grammars) i 0 < length (w .names)
+  pub attributes : (i : ℕ) → i < length (w .attributes)
+      → getD (w .attributes) i 0 < length (w .names)
 
 -- Strict reading and writing keep entries apart.
 pub record Distinct (w : Rows) : Type 0 where

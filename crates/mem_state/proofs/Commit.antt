@@ -5,10 +5,14 @@ use mathlib.Core.Path.{_≡_, refl, sym, ap, _∙_}
 use mathlib.Core.Bool.{Bool, true, false, cond, not}
 use mathlib.Core.List.{List}
 use lib.ListN.{length, length-set}
+use lib.Dec.{eqb}
+use borrow.Author.Tests.{eq-eqb, ne-eqb}
 use Rattle.spec_fields.proofs.Tests.{split}
 use Rattle.mem_layout.specs.Layout.{workCells}
 use Rattle.mem_names.specs.Uris.{withUri}
 use Rattle.mem_names.specs.Names.{withName}
+use Rattle.mem_marks.specs.Marks.{withMark}
+use Rattle.mem_marks.proofs.Marks.{mark-length}
 use Rattle.mem_values.specs.Values.{withValue}
 use Rattle.mem_learned.specs.Learned.{siteIndex, nameIndex, nameCode, withRows, withLearned}
 use Rattle.mem_layout.specs.Layout.{learnedCounts}
@@ -19,6 +23,7 @@ use Rattle.mem_names.proofs.Joined as names
 use Rattle.mem_values.specs.Hold.{Addable}
 use Rattle.mem_values.proofs.Joined as values
 use Rattle.mem_learned.proofs.Grammars.{grammar-length}
+use Rattle.spec_exi.specs.Event.{AT}
 use Rattle.spec_exi.specs.Grammar.{kindNumber}
 use Rattle.mem_rows.specs.Rows.{modeAfter}
 use Rattle.mem_state.specs.declared.Core.{Core}
@@ -26,8 +31,8 @@ use Rattle.mem_state.specs.declared.Joining.{Joining}
 use Rattle.mem_state.specs.declared.Strings.{Strings}
 use Rattle.mem_state.specs.declared.Growth.{Growth}
 use Rattle.mem_state.specs.Commit.{joinedUri, joinedName, joinedValue, joinedStrings, entered}
-use Rattle.mem_state.specs.Commit.{learnt, grown, ValuePre, NamePre, StringsPre, LearnPre}
-use Rattle.mem_state.specs.Commit.{GrowPre}
+use Rattle.mem_state.specs.Commit.{learnt, marked, grown, ValuePre, NamePre, StringsPre}
+use Rattle.mem_state.specs.Commit.{EnterPre, LearnPre, GrowPre}
 
 -- Tests of a negation.
 off : (b : Bool) → not b ≡ true → b ≡ false
@@ -94,6 +99,16 @@ module _ (n : ℕ) (g : Growth) (work : List ℕ) where
   unfolding learnt
   learn-joins e h = rw (on (g .teaches) e) h
 
+module _ (tag kind name : ℕ) (work : List ℕ) where
+  pub mark-not : (kind ≡ kindNumber AT → ⊥) → work ≡ marked tag kind name work
+  unfolding marked
+  mark-not e = rw (ne-eqb kind (kindNumber AT) e)
+
+  pub mark-joins : {after : List ℕ} → kind ≡ kindNumber AT → after ≡ withMark work tag name
+      → after ≡ marked tag kind name work
+  unfolding marked
+  mark-joins e h = rw (eq-eqb kind (kindNumber AT) e) h
+
 -- ---- lengths
 
 uri-size : (n : ℕ) (x : Joining) (work : List ℕ) → length (joinedUri n x work) ≡ length work
@@ -113,6 +128,26 @@ enter-size : (b : Bool) (k : ℕ) (work : List ℕ) → length (entered b k work
 unfolding entered
 enter-size true k work = grammar-length work k
 enter-size false k work = refl
+
+rows-size : (work : List ℕ) (n u k : ℕ) → length (withRows work n u k) ≡ length work
+unfolding withRows
+rows-size work n u k = simp length-set
+
+learn-size : (n : ℕ) (g : Growth) (work : List ℕ) → length (learnt n g work) ≡ length work
+unfolding learnt withLearned
+learn-size n g work =
+    split (g .teaches)
+    (λ e.
+    rw e (joined-length _ siteIndex learnedCounts n (g .site)
+    ∙ entered-length _ nameIndex n (nameCode (g .site) (g .kind) (g .name))
+    ∙ rows-size work n (g .uri) (g .name)))
+    (λ e. rw e)
+
+mark-size : (tag kind name : ℕ) (work : List ℕ)
+    → length (marked tag kind name work) ≡ length work
+unfolding marked
+mark-size tag kind name work =
+    split (eqb kind (kindNumber AT)) (λ e. rw e (mark-length work tag name)) (λ e. rw e)
 
 -- ---- `join_strings`
 
@@ -162,9 +197,18 @@ module _ {work a : List ℕ} {c : Core} {g : Growth} (p : GrowPre work c g)
         name = p .name;
       }
 
-  pub grow-steps : {b : List ℕ} → b ≡ learnt (c .learned) g a → b ≡ grown c g work
-  unfolding grown
-  grow-steps ub = ub ∙ ap (learnt (c .learned) g) ua
+  module _ {b : List ℕ} (ub : b ≡ learnt (c .learned) g a) where
+    pub mark-asks : EnterPre b (g .name)
+    mark-asks =
+        record {
+          room = omega (arith, ap length ub, learn-size (c .learned) g a, learn-asks .room);
+          low = p .name;
+        }
+
+    pub grow-steps : {d : List ℕ} → d ≡ marked (c .tag) (g .kind) (g .name) b → d ≡ grown c g work
+    unfolding grown
+    grow-steps ud =
+        ud ∙ ap (marked (c .tag) (g .kind) (g .name)) (ub ∙ ap (learnt (c .learned) g) ua)
 
 -- ---- lengths of the whole
 
@@ -183,21 +227,8 @@ strings-size c s work =
     value-size (c .values) (s .owner) (s .value) _
     ∙ name-size (c .names) (s .«uri_row») (s .name) _ ∙ uri-size (c .uris) (s .uri) work
 
-rows-size : (work : List ℕ) (n u k : ℕ) → length (withRows work n u k) ≡ length work
-unfolding withRows
-rows-size work n u k = simp length-set
-
-learn-size : (n : ℕ) (g : Growth) (work : List ℕ) → length (learnt n g work) ≡ length work
-unfolding learnt withLearned
-learn-size n g work =
-    split (g .teaches)
-    (λ e.
-    rw e (joined-length _ siteIndex learnedCounts n (g .site)
-    ∙ entered-length _ nameIndex n (nameCode (g .site) (g .kind) (g .name))
-    ∙ rows-size work n (g .uri) (g .name)))
-    (λ e. rw e)
-
 pub grown-size : (c : Core) (g : Growth) (work : List ℕ) → length (grown c g work) ≡ length work
 unfolding grown
 grown-size c g work =
-    learn-size (c .learned) g _ ∙ enter-size (g .enters) (g .name) work
+    mark-size (c .tag) (g .kind) (g .name) _ ∙ learn-size (c .learned) g _
+    ∙ enter-size (g .enters) (g .name) work

@@ -10,12 +10,14 @@ use Rattle.mem_layout.specs.Layout.{valueTextHeads, valueCodeHeads, valueBucket
 use Rattle.mem_layout.specs.Layout.{nameTextHeads, valueCounts, learnedCounts, grammarFlags}
 use Rattle.mem_layout.specs.Layout.{nameCounts, nameMarks, uriPlaces, namePlaces, learnedNameCodes}
 use Rattle.mem_layout.specs.Layout.{valuePlaces, prefixes, uriRows, nameRows, learnedRows, sites}
-use Rattle.mem_layout.specs.Layout.{workCells}
+use Rattle.mem_layout.specs.Layout.{prefixCounts, workCells}
 use Rattle.mem_names.specs.Uris.{withUri}
 use Rattle.mem_names.specs.Names.{withName}
 use Rattle.mem_names.proofs.Uris.{SameUris, uri-length, uri-other}
 use Rattle.mem_names.proofs.Joined as names
 use Rattle.mem_names.proofs.Joined.{SameNames}
+use Rattle.mem_marks.specs.Marks.{withMark}
+use Rattle.mem_marks.proofs.Marks.{SameMarks, mark-length, mark-other}
 use Rattle.mem_values.specs.Values.{withValue}
 use Rattle.mem_values.proofs.Joined as values
 use Rattle.mem_values.proofs.Joined.{SameValues}
@@ -71,6 +73,9 @@ module _ (work : List ℕ) (n place size first : ℕ) (room : workCells ≤ leng
   pub uri-flags : SameFlags work (withUri work n place size first)
   uri-flags = record { room = uri-room; cells = λ j a b. uri-off j (λ p. omega arith) }
 
+  pub uri-marks : SameMarks work (withUri work n place size first)
+  uri-marks = record { room = uri-room; cells = λ j a b. uri-off j (λ p. omega arith) }
+
 -- ---- a local name
 
 module _ (work : List ℕ) (n uri place size h : ℕ) (room : workCells ≤ length work)
@@ -115,6 +120,13 @@ module _ (work : List ℕ) (n uri place size h : ℕ) (room : workCells ≤ leng
         cells = λ j a b. name-off j (λ p. omega arith) (λ p. omega arith) (λ p. omega arith);
       }
 
+  pub name-marks : SameMarks work (withName work n uri place size h)
+  name-marks =
+      record {
+        room = name-room;
+        cells = λ j a b. name-off j (λ p. omega arith) (λ p. omega arith) (λ p. omega arith);
+      }
+
 -- ---- a value
 
 module _ (work : List ℕ) (n owner place size h : ℕ) (room : workCells ≤ length work)
@@ -154,6 +166,13 @@ module _ (work : List ℕ) (n owner place size h : ℕ) (room : workCells ≤ le
 
   pub value-flags : SameFlags work (withValue work n owner place size h)
   value-flags =
+      record {
+        room = value-room;
+        cells = λ j a b. value-off j (omega arith) (λ p. omega arith) (λ p. omega arith);
+      }
+
+  pub value-marks : SameMarks work (withValue work n owner place size h)
+  value-marks =
       record {
         room = value-room;
         cells = λ j a b. value-off j (omega arith) (λ p. omega arith) (λ p. omega arith);
@@ -206,6 +225,13 @@ module _ (work : List ℕ) (n site : ℕ) (kind : Kind) (name uri local : ℕ)
         cells = λ j a b. learnt-off j (λ p. omega arith) (λ p. omega arith) (λ p. omega arith);
       }
 
+  pub learnt-marks : SameMarks work learnt
+  learnt-marks =
+      record {
+        room = learnt-room;
+        cells = λ j a b. learnt-off j (λ p. omega arith) (λ p. omega arith) (λ p. omega arith);
+      }
+
 -- ---- an element grammar
 
 module _ (work : List ℕ) (k : ℕ) (room : workCells ≤ length work) (low : k < nameRows) where
@@ -245,3 +271,49 @@ module _ (work : List ℕ) (k : ℕ) (room : workCells ≤ length work) (low : k
         counts = λ j a b. grammar-off j (λ p. omega arith);
         columns = λ j a b. grammar-off j (λ p. omega arith);
       }
+
+  pub grammar-marks : SameMarks work (withGrammarOf work k)
+  grammar-marks = record { room = grammar-room; cells = λ j a b. grammar-off j (λ p. omega arith) }
+
+-- ---- a mark
+
+module _ (work : List ℕ) (tag k : ℕ) (room : workCells ≤ length work) (low : k < nameRows) where
+  abbrev mark-room : workCells ≤ length (withMark work tag k)
+  mark-room = omega (arith, mark-length work tag k)
+
+  abbrev mark-off : (j : ℕ) → (nameMarks ≤ j → prefixCounts ≤ j)
+      → getD (withMark work tag k) j 0 ≡ getD work j 0
+  mark-off j f = mark-other work tag k low j f
+
+  pub mark-uris : SameUris work (withMark work tag k)
+  mark-uris = record { room = mark-room; cells = λ j a b. mark-off j (λ p. omega arith) }
+
+  pub mark-names : SameNames work (withMark work tag k)
+  mark-names =
+      record {
+        room = mark-room;
+        heads = λ j a b. mark-off j (λ p. omega arith);
+        counts = λ j a b. mark-off j (λ p. omega arith);
+        columns = λ j a b. mark-off j (λ p. omega arith);
+      }
+
+  pub mark-values : SameValues work (withMark work tag k)
+  mark-values =
+      record {
+        room = mark-room;
+        heads = λ j a. mark-off j (λ p. omega arith);
+        counts = λ j a b. mark-off j (λ p. omega arith);
+        columns = λ j a b. mark-off j (λ p. omega arith);
+      }
+
+  pub mark-learned : SameLearned work (withMark work tag k)
+  mark-learned =
+      record {
+        room = mark-room;
+        heads = λ j a b. mark-off j (λ p. omega arith);
+        counts = λ j a b. mark-off j (λ p. omega arith);
+        columns = λ j a b. mark-off j (λ p. omega arith);
+      }
+
+  pub mark-flags : SameFlags work (withMark work tag k)
+  mark-flags = record { room = mark-room; cells = λ j a b. mark-off j (λ p. omega arith) }

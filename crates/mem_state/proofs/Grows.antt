@@ -7,19 +7,20 @@ use mathlib.Core.List.{List, [], _∷_, _++_}
 use lib.ListN.{length, length-append}
 use lib.Dec.{eqb}
 use Rattle.spec_fields.proofs.Tests.{split}
-use Rattle.spec_exi.specs.Event.{SE}
+use Rattle.spec_exi.specs.Event.{SE, AT}
 use Rattle.spec_exi.specs.Grammar.{kindNumber}
 use Rattle.mem_layout.specs.Layout.{uriRows, nameRows, learnedRows, sites}
 use Rattle.mem_entries.specs.Entries.{keyAt}
 use Rattle.mem_learned.specs.Learned as cells
 use Rattle.mem_rows.specs.Rows.{Learnt, Rows, kindAt, carries, isAmong, withGrammar, withLearned}
-use Rattle.mem_rows.specs.Rows.{afterGrammar, afterLearned, leaves}
+use Rattle.mem_rows.specs.Rows.{afterGrammar, afterLearned, attributesAfter, leaves}
 use Rattle.mem_state.specs.declared.Core.{Core}
 use Rattle.mem_state.specs.declared.Growth.{Growth}
 use Rattle.mem_state.specs.Holds.{taughtOf, Stores, Holds}
-use Rattle.mem_state.specs.Commit.{entered, learnt, grown}
+use Rattle.mem_state.specs.Commit.{entered, learnt, marked, grown}
 use Rattle.mem_state.specs.Grows.{learntOf, entersIn, Grows}
-use Rattle.mem_state.proofs.Joins.{holds-grammar, holds-learned}
+use Rattle.mem_state.proofs.Joins.{holds-grammar, holds-learned, holds-attributes}
+use Rattle.mem_state.proofs.Joins.{holds-mark}
 
 module _ (v : Rows) (kind n : ℕ) where
   enters-yes : entersIn v kind n ≡ true
@@ -78,10 +79,11 @@ module _ {v : Rows} {c : Core} {g : Growth} (q : Grows v c g) where
   uri-same =
       ap (λ es. cond (carries (kindAt (g .kind))) (keyAt es (g .name)) 0) after-names
 
-  pub grown-holds : {work : List ℕ} {from : Stores} → Holds work from v
-      → Holds (grown c g work) from (leaves (g .kind) (g .name) (g .teaches) (learntOf g) v)
-  unfolding grown learnt leaves afterLearned
-  grown-holds {work} {from} h =
+  learnt-holds : {work : List ℕ} {from : Stores} → Holds work from v
+      → Holds (learnt (c .learned) g (entered (g .enters) (g .name) work)) from
+      (afterLearned (g .teaches) (learntOf g) (afterGrammar (g .kind) (g .name) v))
+  unfolding learnt afterLearned
+  learnt-holds {work} {from} h =
       let u = afterGrammar (g .kind) (g .name) v in
       let k = entered-holds h in
       split (g .teaches)
@@ -97,4 +99,14 @@ module _ {v : Rows} {c : Core} {g : Growth} (q : Grows v c g) where
       (g .name) (taughtOf u (learntOf g) .uriRow) (g .name)) from
       (withLearned u (learntOf g))) (q .kind-is)
       (holds-learned u (learntOf g) k f (q .site) (q .name) (omega (arith, m)))))
+      (λ e. rw e k)
+
+  pub grown-holds : {work : List ℕ} {from : Stores} → Holds work from v
+      → Holds (grown c g work) from (leaves (g .kind) (g .name) (g .teaches) (learntOf g) v)
+  unfolding grown marked leaves
+  grown-holds h =
+      let k = holds-attributes _ (attributesAfter (g .kind) (g .name) (v .attributes))
+      (learnt-holds h) in
+      split (eqb (g .kind) (kindNumber AT))
+      (λ e. rw e (holds-mark (c .tag) (g .name) k (q .name)))
       (λ e. rw e k)

@@ -27,6 +27,7 @@ use Rattle.mem_names.specs.Names as names
 use Rattle.mem_names.proofs.Uris.{uri-old, uri-new, first-fresh, uris-kept, uris-grown, uris-more}
 use Rattle.mem_names.proofs.Names.{is-entry}
 use Rattle.mem_names.proofs.Joined.{names-kept, names-longer, names-more}
+use Rattle.mem_marks.specs.Marks.{withMark}
 use Rattle.mem_values.specs.Window.{replaced, globalNumber, Differ, unbounded}
 use Rattle.mem_values.specs.Forms.{ValuesStand}
 use Rattle.mem_values.specs.Values as values
@@ -39,6 +40,7 @@ use Rattle.mem_learned.proofs.Joined.{learned-kept, learned-more}
 use Rattle.mem_learned.proofs.Grammars.{grammars-kept, grammars-more}
 use Rattle.mem_rows.specs.Rows.{Learnt, Rows, placedAt, nameAt, kindAt, carries, isAmong}
 use Rattle.mem_rows.specs.Rows.{withUri, withName, withValue, withLearned, withGrammar}
+use Rattle.mem_rows.specs.Rows.{withAttributes}
 use Rattle.mem_rows.specs.Valid.{noLearnt, LearntFits, Refers, Distinct, Valid}
 use Rattle.mem_rows.proofs.Kept.{map-same, all-at}
 use Rattle.mem_rows.proofs.Joins.{map-snoc}
@@ -48,7 +50,8 @@ use Rattle.mem_state.proofs.Frames.{name-uris, name-values, name-learne
 use Rattle.mem_state.proofs.Frames.{value-uris, value-names, value-learned, value-flags}
 use Rattle.mem_state.proofs.Frames.{learnt-uris, learnt-names, learnt-values, learnt-flags}
 use Rattle.mem_state.proofs.Frames.{grammar-uris, grammar-names, grammar-values}
-use Rattle.mem_state.proofs.Frames.{grammar-learned}
+use Rattle.mem_state.proofs.Frames.{grammar-learned, mark-uris, mark-names, mark-values}
+use Rattle.mem_state.proofs.Frames.{mark-learned, mark-flags}
 
 length-snoc : {A : Type 0} (l : List A) (x : A) → length (l ++ (x ∷ [])) ≡ suc (length l)
 length-snoc l x = omega (arith, length-append l (x ∷ []))
@@ -290,3 +293,30 @@ module _ (w : Rows) (k : ℕ) (fresh : isAmong k (w .grammars) ≡ false) where
             (ap (λ b. cond b (w .grammars) (w .grammars ++ (k ∷ [])))
             (among-row (w .grammars) k ∙ fresh)) (grammars-more work k low (h .grammars));
       }
+
+-- ---- the attributes of a start tag
+
+module _ (w : Rows) (ns : List ℕ) where
+  pub holds-attributes : {work : List ℕ} {from : Stores} → Holds work from w
+      → Holds work from (withAttributes ns w)
+  unfolding withAttributes taughtIn taughtOf
+  holds-attributes h =
+      record {
+        uris = h .uris;
+        names = h .names;
+        values = h .values;
+        learned = h .learned;
+        grammars = h .grammars;
+      }
+
+pub holds-mark : {work : List ℕ} {from : Stores} {w : Rows} (tag k : ℕ) → Holds work from w
+    → k < nameRows → Holds (withMark work tag k) from w
+holds-mark {work} tag k h low =
+    let m : workCells ≤ length work = h .names .room in
+    record {
+      uris = uris-kept (mark-uris work tag k m low) (h .uris);
+      names = names-kept (mark-names work tag k m low) (h .names);
+      values = stand-kept (mark-values work tag k m low) (h .values);
+      learned = learned-kept (mark-learned work tag k m low) (h .learned);
+      grammars = flags-kept (mark-flags work tag k m low) (h .grammars);
+    }

@@ -4,3 +4,4 @@ pub mod Commit
 pub mod Strung
 pub mod Taught
 pub mod Grows
+pub mod Marks

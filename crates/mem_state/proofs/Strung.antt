@@ -127,6 +127,7 @@ ahead-none w =
       names = λ n h. refl;
       learned = refl;
       grammars = refl;
+      attributes = refl;
     }
 
 pub ahead-on : {w v z : Rows} → Ahead w v → Ahead v z → Ahead w z
@@ -138,6 +139,7 @@ ahead-on a b =
       names = λ n h. b .names n (omega (arith, a .fewerNames)) ∙ a .names n h;
       learned = b .learned ∙ a .learned;
       grammars = b .grammars ∙ a .grammars;
+      attributes = b .attributes ∙ a .attributes;
     }
 
 pub ahead-uri : (b : Bool) (w : Rows) (y : Placed) → Ahead w (uriAdded b w y)
@@ -150,6 +152,7 @@ ahead-uri true w y =
       names = λ n h. refl;
       learned = refl;
       grammars = refl;
+      attributes = refl;
     }
 ahead-uri false w y = ahead-none w
 
@@ -164,6 +167,7 @@ ahead-name true u w y =
       names = λ n h. entry-old (w .names) e n h;
       learned = refl;
       grammars = refl;
+      attributes = refl;
     }
 ahead-name false u w y = ahead-none w
 
@@ -177,6 +181,7 @@ ahead-value true k w y =
       names = λ n h. refl;
       learned = refl;
       grammars = refl;
+      attributes = refl;
     }
 ahead-value false k w y = ahead-none w
 

@@ -6,11 +6,12 @@ use mathlib.Core.Bool.{Bool, true, cond}
 use mathlib.Core.List.{List}
 use lib.ListN.{length}
 use lib.Dec.{eqb}
-use Rattle.spec_exi.specs.Event.{SE, EE}
+use Rattle.spec_exi.specs.Event.{SE, AT, EE}
 use Rattle.spec_exi.specs.Grammar.{kindNumber}
 use Rattle.mem_layout.specs.Layout.{uriRows, nameRows, valueRing, learnedRows, sites, workCells}
 use Rattle.mem_names.specs.Uris.{withUri}
 use Rattle.mem_names.specs.Names.{withName}
+use Rattle.mem_marks.specs.Marks.{withMark}
 use Rattle.mem_values.specs.Values.{withValue}
 use Rattle.mem_learned.specs.Learned.{withLearned}
 use Rattle.mem_learned.specs.Grammars.{withGrammarOf}
@@ -45,8 +46,13 @@ unfoldable pub learnt : ℕ → Growth → List ℕ → List ℕ
 learnt n g work =
     cond (g .teaches) (withLearned work n (g .site) (g .kind) (g .name) (g .uri) (g .name)) work
 
+-- An attribute's name gets the start tag's mark.
+unfoldable pub marked : ℕ → ℕ → ℕ → List ℕ → List ℕ
+marked tag kind name work = cond (eqb kind (kindNumber AT)) (withMark work tag name) work
+
 unfoldable pub grown : Core → Growth → List ℕ → List ℕ
-grown c g work = learnt (c .learned) g (entered (g .enters) (g .name) work)
+grown c g work =
+    marked (c .tag) (g .kind) (g .name) (learnt (c .learned) g (entered (g .enters) (g .name) work))
 
 -- ---- numbers
 
@@ -63,6 +69,7 @@ counted c s g =
       mode = c .mode;
       top = c .top;
       depth = c .depth;
+      tag = c .tag;
     }
 
 unfoldable pub topAfter : ℕ → ℕ → ℕ → ℕ
@@ -72,8 +79,12 @@ unfoldable pub depthAfter : ℕ → ℕ → ℕ
 depthAfter kind depth =
     cond (eqb kind (kindNumber SE)) (depth + 1) (cond (eqb kind (kindNumber EE)) (depth - 1) depth)
 
-unfoldable pub turned : Core → ℕ → ℕ → Core
-turned c kind name =
+-- The mark after an event of this kind, before which so many have come.
+unfoldable pub tagNumber : ℕ → ℕ → ℕ → ℕ
+tagNumber kind n tag = cond (eqb kind (kindNumber AT)) tag (n + 2)
+
+unfoldable pub turned : Core → ℕ → ℕ → ℕ → Core
+turned c kind name n =
     record {
       at = c .at;
       stored = c .stored;
@@ -85,6 +96,7 @@ turned c kind name =
       mode = modeAfter kind (c .mode) (c .depth);
       top = topAfter kind name (c .top);
       depth = depthAfter kind (c .depth);
+      tag = tagNumber kind n (c .tag);
     }
 
 -- ---- what the functions ask: bounds alone
@@ -140,6 +152,7 @@ pub record CountPre (c : Core) : Type 0 where
   pub learned : c .learned ≤ 65536
   pub grammars : c .grammars ≤ 65536
 
-pub record TurnPre (c : Core) (kind : ℕ) : Type 0 where
+pub record TurnPre (c : Core) (kind n : ℕ) : Type 0 where
   pub few : c .depth ≤ 65536
+  pub early : n ≤ 65536
   pub some : kind ≡ kindNumber EE → 0 < c .depth

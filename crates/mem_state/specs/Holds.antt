@@ -1,22 +1,23 @@
 -- Which cells hold the rows, and how the numbers that go from event to event stand to both.
-use Prim.Native.Nat.{ℕ, _≤_, _<_}
+use Prim.Native.Nat.{ℕ, _+_, _≤_, _<_}
 use mathlib.Core.Path.{_≡_}
-use mathlib.Core.Bool.{true, cond}
+use mathlib.Core.Bool.{Bool, cond}
 use mathlib.Core.List.{List, map}
 use mathlib.Core.Option.{none}
 use lib.ListN.{length, take, getD}
 use Rattle.spec_exi.specs.Sizes.{maxStore, maxUris, maxNames, maxValues, maxLearned, maxGrammars}
-use Rattle.spec_exi.specs.Sizes.{maxOpen}
+use Rattle.spec_exi.specs.Sizes.{maxOpen, maxEvents}
 use Rattle.spec_exi.specs.Context.{Context}
 use Rattle.mem_layout.specs.Layout.{nameRows}
 use Rattle.mem_entries.specs.Texts.{Source, upTo, throughout}
 use Rattle.mem_entries.specs.Entries.{entryAt, keyAt}
 use Rattle.mem_names.specs.Uris.{uriAt, UrisHold}
 use Rattle.mem_names.specs.Names.{NamesHold}
+use Rattle.mem_marks.specs.Marks.{MarksHold}
 use Rattle.mem_values.specs.Forms.{ValuesStand}
 use Rattle.mem_learned.specs.Learned.{Taught, LearnedHold}
 use Rattle.mem_learned.specs.Grammars.{GrammarsHold}
-use Rattle.mem_rows.specs.Rows.{Learnt, Rows, kindAt, carries, ModeFits, contextOf}
+use Rattle.mem_rows.specs.Rows.{Learnt, Rows, kindAt, carries, isAmong, ModeFits, contextOf}
 use Rattle.mem_rows.specs.Valid.{Valid}
 use Rattle.mem_state.specs.declared.Core.{Core}
 
@@ -66,6 +67,7 @@ pub record Ahead (w v : Rows) : Type 0 where
   pub names : (n : ℕ) → n < length (w .names) → entryAt (v .names) n ≡ entryAt (w .names) n
   pub learned : v .learned ≡ w .learned
   pub grammars : v .grammars ≡ w .grammars
+  pub attributes : v .attributes ≡ w .attributes
 
 -- ---- the numbers
 
@@ -81,6 +83,7 @@ pub record Bounded (c : Core) : Type 0 where
   pub top : c .top < nameRows
   pub depth : c .depth ≤ maxOpen
   pub fits : ModeFits (c .mode) (c .depth)
+  pub tag : c .tag ≤ maxEvents + 1
 
 -- They count the rows.
 pub record Counts (c : Core) (w : Rows) : Type 0 where
@@ -99,6 +102,10 @@ pub record Opens (c : Core) (w : Rows) (opened : List ℕ) : Type 0 where
 pub record Topped (c : Core) (opened : List ℕ) : Type 0 where
   pub is : 0 < c .depth → getD opened 0 0 ≡ c .top
 
+-- A name is one of the start tag's attributes.
+abbrev pub inTagOf : Rows → ℕ → Bool
+inTagOf w n = isAmong n (w .attributes)
+
 -- Memory and numbers are those of these rows and open elements. (The top is said apart: it is the one
 -- number that memory does not know.)
 pub record Represents (work : List ℕ) (from : Stores) (c : Core) (w : Rows) (opened : List ℕ) :
@@ -107,6 +114,7 @@ pub record Represents (work : List ℕ) (from : Stores) (c : Core) (w : Rows) (o
   pub holds : Holds work from w
   pub counts : Counts c w
   pub opens : Opens c w opened
+  pub marks : MarksHold work (c .tag) (inTagOf w)
 
 -- The definitions' context that they stand for.
 abbrev pub contextAt : List ℕ → Core → Rows → List ℕ → Context

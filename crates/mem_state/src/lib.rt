@@ -5,7 +5,7 @@ ghost use mathlib.Core.Path.{_≡_};
 ghost use Prim.Native.Nat.{_<_};
 ghost use Rattle.mem_rows.specs.Rows.{modeAfter};
 ghost use Rattle.mem_state.specs.Commit.{joinedUri, joinedName, joinedValue, joinedStrings};
-ghost use Rattle.mem_state.specs.Commit.{entered, learnt, grown, counted, turned};
+ghost use Rattle.mem_state.specs.Commit.{entered, learnt, marked, grown, counted, turned};
 ghost use Rattle.mem_state.specs.Commit.{UriPre, NamePre, ValuePre, StringsPre, EnterPre};
 ghost use Rattle.mem_state.specs.Commit.{LearnPre, GrowPre, CountPre, TurnPre, One};
 use event_code::AT;
@@ -26,7 +26,9 @@ pub const IN_TAG: u32 = event_code::IN_TAG;
 pub const IN_ELEMENT: u32 = event_code::IN_ELEMENT;
 
 // The position in the stream; the code points in the store; the rows of each table; the grammar's
-// state, by its number; the row of the innermost open element's name, or 0; and how many are open.
+// state, by its number; the row of the innermost open element's name, or 0; how many are open; and
+// the mark of the start tag's attributes: one more than how many events had come up to the newest
+// that is no attribute, that one counted.
 pub struct Core {
     pub at: usize,
     pub stored: usize,
@@ -38,6 +40,7 @@ pub struct Core {
     pub mode: u32,
     pub top: u32,
     pub depth: usize,
+    pub tag: u32,
 }
 
 // Whether a string joins its table; where it lies, and the hash of its text.
@@ -133,13 +136,25 @@ fn learn(work: &mut [u32], n: u32, g: Growth)
     mem_learned::add(work, n, g.site, g.kind, g.name, g.uri, g.name);
 }
 
-// Adds what an event leaves in the grammars.
+// Marks an attribute's name.
+fn mark(work: &mut [u32], tag: u32, kind: u32, name: u32)
+    requires { ⌜ EnterPre (now work) name ⌝ }
+    ensures { λ _. ⌜ now (work .exit) ≡ marked tag kind name (now (work .entry)) ⌝ }
+{
+    if kind != AT {
+        return;
+    }
+    mem_marks::mark(work, name, tag);
+}
+
+// Adds what an event leaves in the grammars and in the start tag.
 pub fn grow(work: &mut [u32], c: Core, g: Growth)
     requires { ⌜ GrowPre (now work) c g ⌝ }
     ensures { λ _. ⌜ now (work .exit) ≡ grown c g (now (work .entry)) ⌝ }
 {
     enter(work, g.enters, g.name);
     learn(work, c.learned, g);
+    mark(work, c.tag, g.kind, g.name);
 }
 
 // ---- numbers
@@ -195,14 +210,18 @@ pub fn mode_after(kind: u32, mode: u32, depth: usize) -> u32
     }
 }
 
-// State and open elements after an event of this kind, whose name has this row. After an end tag the
-// top stays the ended element's.
-pub fn turn(c: Core, kind: u32, name: u32) -> Core
-    requires { ⌜ TurnPre c kind ⌝ }
-    ensures { λ r. ⌜ r ≡ turned c kind name ⌝ }
+// State, open elements and mark after an event of this kind, whose name has this row and before
+// which so many events have come. After an end tag the top stays the ended element's.
+pub fn turn(c: Core, kind: u32, name: u32, n: usize) -> Core
+    requires { ⌜ TurnPre c kind n ⌝ }
+    ensures { λ r. ⌜ r ≡ turned c kind name n ⌝ }
 {
     let mut d = c;
     d.mode = mode_after(kind, c.mode, c.depth);
+    if kind == AT {
+        return d;
+    }
+    d.tag = n as u32 + 2;
     if kind == SE {
         d.top = name;
         d.depth = c.depth + 1;

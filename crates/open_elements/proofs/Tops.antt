@@ -31,6 +31,7 @@ represents-top top h =
             grammars = h .counts .grammars;
           };
       opens = record { size = h .opens .size; rows = h .opens .rows };
+      marks = h .marks;
     }
 
 pub bounded-top : {c : Core} (top : ℕ) → top < nameRows → Bounded c → Bounded (withTop c top)
@@ -45,6 +46,7 @@ bounded-top top h b =
       top = h;
       depth = b .depth;
       fits = b .fits;
+      tag = b .tag;
     }
 
 -- ---- the array

@@ -41,6 +41,7 @@ withTop c top =
       mode = c .mode;
       top = top;
       depth = c .depth;
+      tag = c .tag;
     }
 
 -- What an event leaves of the open elements. (After an end tag the top is the ended element's: only

@@ -14,7 +14,8 @@ turn-requires c κs = turn-asks _ _ _ (c .before .pre) (c .count .ensures)
 returns : tie.Need-returns
 returns c =
     let g = c .before .before .args .g in
-    c .turn .ensures ∙ ap (λ (d : Core). turned d (g .kind) (g .name)) (c .before .count .ensures)
+    let n = c .before .before .args .n in
+    c .turn .ensures ∙ ap (λ (d : Core). turned d (g .kind) (g .name) n) (c .before .count .ensures)
 
 pub after-spec : {M : Type 1} → statement M
 after-spec = tie.close (tie.spec count-requires turn-requires returns)
