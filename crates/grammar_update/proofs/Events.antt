@@ -18,11 +18,9 @@ use Rattle.spec_exi.specs.Event.{attribute, characters, comment, instruction, m
 use Rattle.spec_exi.specs.Event.{Kind, SD, ED, SE, AT, EE, CH, CM, PI, kindOf, nameOf}
 use Rattle.spec_exi.specs.Tables.{Placed, nameText}
 use Rattle.spec_exi.specs.Grammar.{kindNumber, Production, Code, Site, siteOf, State, taught, codeOf}
-use Rattle.spec_exi.specs.Grammar.{hasName, Tag, isAttribute, attributeName, tagAllows}
 use Rattle.spec_exi.specs.Context.{levelsIn, items, afterItems, after, next}
 use Rattle.spec_exi.specs.Lists.{withinGrammars}
 use Rattle.spec_exi.specs.Alike.{Alike, AlikeTables}
-use Rattle.spec_exi.proofs.Attributes.{tag-attribute, tag-other}
 use Rattle.event_code.specs.Numbers.{teachesIn}
 use Rattle.event_code.proofs.Numbers.{teaches-in}
 use Rattle.grammar_codes.specs.Table.{Stands}
@@ -31,10 +29,9 @@ use Rattle.mem_entries.specs.Entries.{keyAt}
 use Rattle.mem_learned.proofs.Grammars.{flag-is}
 use Rattle.mem_rows.specs.Rows.{Rows, placedAt, nameAt, kindAt, carries, carriedAt, siteAt}
 use Rattle.mem_rows.specs.Rows.{productionOf, stateOf, inTag, isAmong, modeAfter, openedAfter}
-use Rattle.mem_rows.specs.Rows.{leaves, contextOf, tablesOf, tagIn}
+use Rattle.mem_rows.specs.Rows.{leaves, contextOf, tablesOf}
 use Rattle.mem_rows.specs.Valid.{learntAt, Valid}
-use Rattle.mem_rows.proofs.Kept.{Kept, all-at, name-kept, tag-kept}
-use Rattle.mem_rows.proofs.Grammars.{has-attribute}
+use Rattle.mem_rows.proofs.Kept.{Kept, all-at, name-kept}
 use Rattle.mem_rows.proofs.States.{site-none}
 use Rattle.mem_rows.proofs.Events.{EventRows, event-context, Fresh, leaves-valid}
 use Rattle.mem_rows.proofs.Alike.{event-alike}
@@ -50,7 +47,7 @@ use Rattle.grammar_match.specs.Codes.{Strict, Unlearned}
 use Rattle.grammar_match.specs.Found.{NamedBy, FoundHere}
 use Rattle.grammar_match.proofs.Here.{site-half, site-low, site-here, tag-site}
 use Rattle.grammar_match.proofs.Unfit.{number-kind, kind-number}
-use Rattle.grammar_update.specs.Growth.{growthOf, allowedIn, fitsIn}
+use Rattle.grammar_update.specs.Growth.{growthOf, fitsIn}
 use Rattle.grammar_update.proofs.Tests.{fits-learned, fits-within}
 use Rattle.grammar_update.proofs.Represented.{code-rows, inner-state}
 
@@ -139,6 +136,19 @@ carries-name EE h l = absurd (omega arith)
 carries-name CH h l = absurd (omega arith)
 carries-name CM h l = absurd (omega arith)
 carries-name PI h l = absurd (omega arith)
+
+-- Where it has one, by its kind.
+module _ {v : Rows} {mode : ℕ} {s : Strings} {kind : ℕ} {e : Event Text}
+    (known : EventNamed v mode s kind e) (from : 2 ≤ kind) (upTo : kind ≤ 3) where
+  carries-known : carries (kindOf e) ≡ true
+  carries-known =
+      carries-name (kindOf e) (omega (arith, known .kind-is)) (omega (arith, known .kind-is))
+
+  pub named-low : s .«name_row» < length (v .names)
+  named-low = known .named .low carries-known
+
+  pub named-as : nameOf e ≡ some (nameAt v (s .«name_row»))
+  named-as = known .named .is carries-known
 
 -- ---- sites
 
@@ -285,11 +295,10 @@ module _ {work : List ℕ} {from : Stores} {c : Core} {w : Rows} {opened : List 
           outside = λ h. here .fits .outer (known .stands .outside (omega (arith, k)));
           inside = λ h. here .fits .inner
               (known .stands .inside (omega (arith, k)) (omega (arith, k)));
-          named = λ h. known .named .is (carries-name (kindOf e) (omega arith) (omega arith));
+          named = λ h. named-as known (omega (arith, k)) (omega (arith, k));
         };
-        name = λ h. known .named .low (carries-name (kindOf e) (omega arith) (omega arith));
-        attribute = λ h. known .named .is
-            (carries-name (kindOf e) (omega arith) (omega arith));
+        name = λ h. named-low known (omega (arith, k)) (omega (arith, k));
+        attribute = λ h. named-as known (omega (arith, k)) (omega (arith, k));
         taught-is = taught-yes;
         taught-none = taught-no;
       }
@@ -336,41 +345,6 @@ module _ {work : List ℕ} {from : Stores} {c : Core} {w : Rows} {opened : List 
               (λ k. rw k (known .plain (carries-as k)));
         }
 
-  -- ---- equal attributes
-
-  named-low : 2 ≤ kind → kind ≤ 3 → row < length (v .names)
-  named-low h l =
-      let k = known .kind-is in
-      known .named .low (carries-name (kindOf e) (omega (arith, k)) (omega (arith, k)))
-
-  attribute-name : eqb kind (kindNumber AT) ≡ true → attributeName e ≡ some (nameAt v row)
-  unfolding attributeName isAttribute kindNumber
-  attribute-name t =
-      let k : kind ≡ 3 = eqb-true kind 3 t in
-      rw (known .kind-is, t)
-      (known .named .is (carries-name (kindOf e) (omega (arith, known .kind-is))
-      (omega (arith, known .kind-is))))
-
-  no-attribute : eqb kind (kindNumber AT) ≡ false → attributeName e ≡ none
-  unfolding attributeName isAttribute
-  no-attribute t = rw (known .kind-is, t)
-
-  -- The mark's test is the definitions'.
-  pub allows-is : row < nameRows → (store : Text)
-      → tagAllows (contextOf w store (c .mode) opened .tag) e ≡ allowedIn work (c .tag) kind row
-  unfolding contextOf allowedIn kindNumber
-  allows-is low store =
-      split (eqb kind 3)
-      (λ t.
-      let k : kind ≡ 3 = eqb-true kind 3 t in
-      tag-attribute (tagIn w) e (nameAt v row) (attribute-name t) .1
-      ∙ ap not (ap (λ (z : Tag). hasName (z .attributes) (nameAt v row))
-      (sym (tag-kept kept (rep .valid .refers) (ahead .attributes)))
-      ∙ has-attribute valid row (named-low (omega arith) (omega arith))
-      ∙ ap (isAmong row) (ahead .attributes) ∙ sym (rep .marks .are row low))
-      ∙ rw t)
-      (λ t. tag-other (tagIn w) e (no-attribute t) .1 ∙ rw t)
-
   fresh : g .teaches ≡ true → Fresh v (learntOf g)
   unfolding growthOf
   fresh t =
@@ -398,11 +372,11 @@ module _ {work : List ℕ} {from : Stores} {c : Core} {w : Rows} {opened : List 
 
   pub start-named : g .kind ≡ kindNumber SE → g .name < length (v .names)
   unfolding growthOf kindNumber
-  start-named z = named-low (omega arith) (omega arith)
+  start-named z = named-low known (omega arith) (omega arith)
 
   attribute-named : g .kind ≡ kindNumber AT → g .name < length (v .names)
   unfolding growthOf kindNumber
-  attribute-named z = named-low (omega arith) (omega arith)
+  attribute-named z = named-low known (omega arith) (omega arith)
 
   pub left-valid : Valid (leaves (g .kind) (g .name) (g .teaches) (learntOf g) v)
   left-valid =

@@ -3,3 +3,4 @@ pub mod Turns
 pub mod Represented
 pub mod Events
 pub mod Left
+pub mod Allowed

@@ -234,8 +234,8 @@ start-bounded at =
 rows-mean : (s : Settings) → contextOf startRows initialText 0 [] ≡ start s
 unfolding contextOf stateOf tablesOf learnedOf backward grammarsOf tagIn emptyTag named nameAt
     placedAt entryAt uriAt initialRows plusUris plusNames withUri withName initialText urisText
-    namesText together initialUris initialNames start startTables addedAll initialEntries added newUri newName newEntry
-    newValue laid xmlUri xsiUri text
+    namesText together initialUris initialNames start startTables addedAll initialEntries added
+    newUri newName newEntry newValue laid xmlUri xsiUri text
 rows-mean s = refl
 
 text-first : (text : List ℕ) → take 99 (withText text 0) ≡ initialText
