@@ -29,7 +29,8 @@ use Rattle.event.proofs.Laws.{events-at, events-cut, events-end}
 use Rattle.mem_layout.specs.Layout.{nameRows}
 use Rattle.mem_rows.specs.Rows.{Rows, isOver}
 use Rattle.mem_state.specs.declared.Core.{Core}
-use Rattle.mem_state.specs.Holds.{Topped}
+use Rattle.mem_state.specs.Holds.{Bounded, Topped}
+use Rattle.grammar_update.proofs.Turns.{after-late}
 use Rattle.open_elements.specs.declared.State.{State}
 use Rattle.open_elements.specs.Opened.{openedIn, innermostIn, withTop, Kept}
 use Rattle.open_elements.proofs.Opened.{last-top, innermost-is, innermost-small}
@@ -78,6 +79,7 @@ reached-start {st = st} known h =
             few = omega arith;
             listed = omega arith;
             work-size = refl;
+            late = omega (arith, h .tag);
             joins = none-joined;
             meant = λ w a b.
                 record {
@@ -275,17 +277,19 @@ module _ {s : Settings} {opening cells : List ℕ} {text : Text} {stream₀ work
 
   -- ---- the next is an event
 
-  pub turn-asks : RunPre stream₀ work₀ st → StepPre stream work (t .core)
-  turn-asks pre =
+  pub turn-asks : RunPre stream₀ work₀ st → (n ≡ 4096 → ⊥) → StepPre stream work (t .core) n
+  unfolding maxEvents
+  turn-asks pre more =
       record {
         blank = put-blank (i .so-far .put);
         near = progress-near (i .so-far);
         rows = omega (arith, pre .rows, i .so-far .work-size);
         bounded = i .so-far .bounded;
+        early = omega (arith, i .so-far .few, more);
       }
 
   module _ {e : Event Span} {stream′ work′ : List ℕ} {r : Stepped}
-      (p : StepPost s opening text e stream work (t .core) stream′ work′ r) where
+      (p : StepPost s opening text e stream work (t .core) n stream′ work′ r) where
     -- These cells of the array are the open elements after the event.
     abbrev pub KeptAfter : List ℕ → Type 0
     KeptAfter rows = Kept (t .core) (r .core) (openedIn t) rows
@@ -317,13 +321,13 @@ module _ {s : Settings} {opening cells : List ℕ} {text : Text} {stream₀ work
           later-events
           (p .meant v (openedIn t)
           (subst (λ (m : List ℕ). Stands opening text m (t .core) v (openedIn t)) (x .work-is) a)
-          b .fault) some-number))
+          b (i .so-far .late) .fault) some-number))
 
       -- ---- one event more
 
       module _ (z : r .number ≡ 0) {rows : List ℕ} (kept : KeptAfter rows) {top : ℕ}
           (inner : top ≡ innermostIn rows (r .core .depth)) where
-        abbrev written : StepPut stream work (t .core) stream′ work′ r
+        abbrev written : StepPut stream work (t .core) n stream′ work′ r
         written = p .put z
 
         abbrev later : State
@@ -340,9 +344,11 @@ module _ {s : Settings} {opening cells : List ℕ} {text : Text} {stream₀ work
           abbrev event : Event Text
           event = mapEvent (part text) e
 
-          abbrev means : StepMeans s opening text e stream work (t .core) (before .rows)
+          abbrev means : StepMeans s opening text e stream work (t .core) n (before .rows)
               (openedIn t) stream′ work′ r (p .put)
-          means = p .meant (before .rows) (openedIn t) (before .after) (before .topped)
+          means =
+              p .meant (before .rows) (openedIn t) (before .after) (before .topped)
+              (i .so-far .late)
 
           abbrev leaves : StepLeaves s opening text event (t .core) (before .rows) (openedIn t)
               (written .bits) work′ (r .core)
@@ -426,13 +432,22 @@ module _ {s : Settings} {opening cells : List ℕ} {text : Text} {stream₀ work
               }
 
         -- The event's rows are all that joined.
-        joins-after : Joins (st .core) work₀ (withTop (r .core) top) work′
+        joins-after : Joins (st .core) work₀ (n + 1) (withTop (r .core) top) work′
         joins-after =
-            subst (λ (d : Core). Joins (st .core) work₀ (withTop d top) work′)
+            subst (λ (d : Core). Joins (st .core) work₀ (n + 1) (withTop d top) work′)
             (sym (written .core-is))
-            (subst (Joins (st .core) work₀ _) (sym (written .work-is))
+            (subst (Joins (st .core) work₀ (n + 1) _) (sym (written .work-is))
             (one-joined (written .strings) (written .growth) (r .core .at) (r .core .stored) top
             (i .so-far .joins) (i .so-far .bounded) (written .rows)))
+
+        late-after : r .core .tag ≤ n + 2
+        late-after =
+            omega (
+              arith,
+              ap (λ (d : Core). d .tag) (written .core-is),
+              after-late (t .core) (r .core .at) (r .core .stored) (written .strings)
+                  (written .growth) n (i .so-far .late),
+            )
 
         left-after : drop (n + 1) (eventsOf cells) ≡ later-events
         left-after =
@@ -455,6 +470,7 @@ module _ {s : Settings} {opening cells : List ℕ} {text : Text} {stream₀ work
                     listed =
                         omega (arith, ap length first-is, length-drop n (eventsOf cells));
                     work-size = written .work-size ∙ i .so-far .work-size;
+                    late = omega (arith, late-after);
                     joins = joins-after;
                     meant = running;
                   };

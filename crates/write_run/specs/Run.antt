@@ -38,16 +38,18 @@ pub record RunPre (stream work : List ℕ) (st : State) : Type 0 where
   pub rows : workCells ≤ length work
   pub bounded : Bounded (st .core)
   pub array : length (st .opened) ≡ maxOpen
+  pub tag : st .core .tag ≤ 1
 
 -- ---- on every memory
 
--- Events join memory one after the other, each with its strings and its growth in rows after the
--- others, and no other cell is written; after each the top is set.
-pub data Joins : Core → List ℕ → Core → List ℕ → Type 0 where
-  none-joined : {c : Core} {work : List ℕ} → Joins c work c work
-  one-joined : {c d : Core} {work mid : List ℕ} (s : Strings) (g : Growth) (at stored top : ℕ)
-      → Joins c work d mid → Bounded d → RowBounds d s g stored
-      → Joins c work (withTop (coreAfter d at stored s g) top) (grown d g (joinedStrings d s mid))
+-- So many events join memory one after the other, each with its strings and its growth in rows
+-- after the others, and no other cell is written; after each the top is set.
+pub data Joins : Core → List ℕ → ℕ → Core → List ℕ → Type 0 where
+  none-joined : {c : Core} {work : List ℕ} → Joins c work 0 c work
+  one-joined : {c d : Core} {work mid : List ℕ} {n : ℕ} (s : Strings) (g : Growth)
+      (at stored top : ℕ) → Joins c work n d mid → Bounded d → RowBounds d s g stored
+      → Joins c work (n + 1) (withTop (coreAfter d at stored s g n) top)
+      (grown d g (joinedStrings d s mid))
 
 -- ---- by the definitions
 
@@ -73,7 +75,8 @@ pub record Progress (s : Settings) (opening : List ℕ) (xs : List Stored) (text
   pub few : n ≤ maxEvents
   pub listed : n ≤ length xs
   pub work-size : length work′ ≡ length work
-  pub joins : Joins (st .core) work (t .core) work′
+  pub late : t .core .tag ≤ n + 1
+  pub joins : Joins (st .core) work n (t .core) work′
   pub meant : (w : Rows) → Stands opening text work (st .core) w (openedIn st)
       → Topped (st .core) (openedIn st) → Running s opening xs text st w bits work′ t n
 

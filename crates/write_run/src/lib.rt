@@ -59,7 +59,7 @@ pub fn put_events(
             }
             Loaded::Whole(e) => {
                 let c = t.core;
-                let r = write_step::step(o, stream, opening, text, e, c, work);
+                let r = write_step::step(o, stream, opening, text, e, n, c, work);
                 if r.number != 0 {
                     return stopped(r.number, n, c.at);
                 }

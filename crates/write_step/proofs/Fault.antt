@@ -1,7 +1,7 @@
--- The number of an event's refusal, by its parts: no production that fits, a string outside the store,
--- a string that is refused, the sizes of the grammars.
+-- The number of an event's refusal, by its parts: no production that fits, a string outside the
+-- store, a string that is refused, a second attribute of one name, the sizes of the grammars.
 use Prim.Native.Nat.{ℕ, _<_}
-use mathlib.Core.Path.{_≡_, refl, sym, ap, _∙_}
+use mathlib.Core.Path.{_≡_, refl, sym, ap, ap₂, _∙_}
 use mathlib.Core.Bool.{Bool, true, false, cond, true≢false}
 use mathlib.Core.List.{List, [], _∷_, _++_, append-assoc}
 use mathlib.Core.Option.{none, some}
@@ -11,7 +11,7 @@ use Rattle.text.specs.Text.{Text, Span, inside, part}
 use Rattle.spec_exi.specs.Sizes.{sizes}
 use Rattle.spec_exi.specs.Event.{Event, mapEvent, stringsOf}
 use Rattle.spec_exi.specs.Settings.{Settings}
-use Rattle.spec_exi.specs.Grammar.{Code, codeOf}
+use Rattle.spec_exi.specs.Grammar.{Code, codeOf, tagAllows}
 use Rattle.spec_exi.specs.Context.{Context, levelsIn, items, next}
 use Rattle.spec_exi.specs.Lists.{every, withinGrammars}
 use Rattle.spec_exi.specs.Writer.{Test, firstFailed, placeTests, contentTests, eventTests, faultOf}
@@ -49,7 +49,9 @@ module _ (s : Settings) (c : Context) (store : Text) (e : Event Span) where
         contentTests sizes (c .tables) (items (c .state) (x .production) (mapEvent (part store) e))
 
     abbrev grammars : List Test
-    grammars = (withinGrammars sizes (next s c (mapEvent (part store) e)), limit) ∷ []
+    grammars =
+        (tagAllows (c .tag) (mapEvent (part store) e), shape)
+        ∷ (withinGrammars sizes (next s c (mapEvent (part store) e)), limit) ∷ []
 
     coded : faultOf sizes s c store e ≡ firstFailed (places ++ (content ++ grammars))
     unfolding faultOf eventTests
@@ -67,7 +69,8 @@ module _ (s : Settings) (c : Context) (store : Text) (e : Event Span) where
 
     module _ (h : every (inside store) (stringsOf e) ≡ true) {n : ℕ}
         (number : n ≡ faultNumber (firstFailed
-        (contentTests sizes (c .tables) (items (c .state) (x .production) (mapEvent (part store) e)))))
+        (contentTests sizes (c .tables)
+        (items (c .state) (x .production) (mapEvent (part store) e)))))
       where
         after-places : faultOf sizes s c store e ≡ firstFailed (content ++ grammars)
         after-places =
@@ -76,17 +79,21 @@ module _ (s : Settings) (c : Context) (store : Text) (e : Event Span) where
         pub fault-content : 0 < n → n ≡ faultNumber (faultOf sizes s c store e)
         fault-content l = number-first content grammars number l ∙ ap faultNumber (sym after-places)
 
-        -- The sizes of the grammars are tested last.
-        pub fault-grammars : n ≡ 0 → (fits : Bool)
+        -- The start tag and the sizes of the grammars are tested last.
+        pub fault-grammars : n ≡ 0 → (may fits : Bool)
+            → tagAllows (c .tag) (mapEvent (part store) e) ≡ may
             → withinGrammars sizes (next s c (mapEvent (part store) e)) ≡ fits
-            → cond fits 0 (numberOf limit) ≡ faultNumber (faultOf sizes s c store e)
+            → cond may (cond fits 0 (numberOf limit)) (numberOf shape)
+            ≡ faultNumber (faultOf sizes s c store e)
         unfolding firstFailed faultNumber
-        fault-grammars z fits w =
-            last fits
-            ∙ ap (λ b. faultNumber (firstFailed ((b, limit) ∷ []))) (sym w)
+        fault-grammars z may fits t w =
+            last may fits
+            ∙ ap₂ (λ a b. faultNumber (firstFailed ((a, shape) ∷ (b, limit) ∷ []))) (sym t) (sym w)
             ∙ sym (number-then content grammars number z)
             ∙ ap faultNumber (sym after-places)
           where
-            last : (b : Bool) → cond b 0 (numberOf limit) ≡ faultNumber (firstFailed ((b, limit) ∷ []))
-            last true = refl
-            last false = refl
+            last : (a b : Bool) → cond a (cond b 0 (numberOf limit)) (numberOf shape)
+                ≡ faultNumber (firstFailed ((a, shape) ∷ (b, limit) ∷ []))
+            last true true = refl
+            last true false = refl
+            last false b = refl

@@ -6,7 +6,7 @@ use mathlib.Core.Bool.{Bool, true, false, cond, not}
 use mathlib.Core.List.{List, _++_, map}
 use lib.ListN.{replicate}
 use borrow.Author.Tests.{not-true, not-false}
-use Rattle.spec_fields.specs.Refusal.{numberOf, place, limit}
+use Rattle.spec_fields.specs.Refusal.{numberOf, place, limit, shape}
 use Rattle.spec_fields.proofs.Tests.{split}
 use Rattle.text.specs.Text.{Text, inside, part}
 use Rattle.spec_exi.specs.Sizes.{sizes}
@@ -30,9 +30,11 @@ use Rattle.grammar_codes.specs.declared.Place.{Place}
 use Rattle.grammar_codes.specs.Table.{PlaceAt}
 use Rattle.grammar_match.specs.Here.{CodeRows}
 use Rattle.grammar_match.proofs.Here.{site-low}
-use Rattle.grammar_update.specs.Growth.{growthOf, fitsIn}
+use Rattle.grammar_update.specs.Growth.{growthOf, allowedIn, fitsIn}
 use Rattle.grammar_update.proofs.Represented.{code-rows, inner-state}
-use Rattle.grammar_update.proofs.Events.{EventNamed, fits-is, grows, start-named, left-valid, left-alike}
+use Rattle.grammar_update.proofs.Events.{EventNamed, fits-is, grows, start-named, left-valid}
+use Rattle.grammar_update.proofs.Events.{left-alike}
+use Rattle.grammar_update.proofs.Allowed.{allows-is}
 use Rattle.write_partition.specs.Judged.{faultNumber}
 use Rattle.write_qname.specs.Premise.{Prepared, contextIn}
 use Rattle.write_content.specs.declared.Content.{Content}
@@ -92,7 +94,8 @@ module _ (opening text : List ℕ) {work : List ℕ} {c : Core} (s : Settings) (
     unfolding numberOf
     shape-stops z =
         refused-post 14 (omega arith) (λ w opened stands top.
-        shape-fault (prepared stands) (code-rows (stands .represents) (pre .bounded) top) s e k at z)
+        shape-fault (prepared stands) (code-rows (stands .represents) (pre .bounded) top) s e k at
+        z)
 
     module _ (ne : p .level ≡ 3 → ⊥) where
       low : p .level < 3
@@ -141,6 +144,9 @@ module _ (opening text : List ℕ) {work : List ℕ} {c : Core} (s : Settings) (
                 abbrev g : Growth
                 g = growthOf work c kind (code .learned) (x .strings)
 
+                abbrev may : Bool
+                may = allowedIn work (c .tag) kind (x .strings .«name_row»)
+
                 module _ {w : Rows} {opened : List ℕ} (stands : Stands opening text work c w opened)
                     (top : Topped c opened) where
                   abbrev event : Event Text
@@ -175,7 +181,8 @@ module _ (opening text : List ℕ) {work : List ℕ} {c : Core} (s : Settings) (
 
                   context-alike : Alike (next s (contextIn c w opened) event)
                       (contextOf (leftBy g (left .rows)) (replicate (x .stored) 0)
-                      (modeAfter (g .kind) (c .mode) (c .depth)) (openedAfter (g .kind) (g .name) opened))
+                      (modeAfter (g .kind) (c .mode) (c .depth))
+                      (openedAfter (g .kind) (g .name) opened))
                   context-alike =
                       left-alike (stands .represents) (pre .bounded) top ahead (left .joins .valid)
                       known (coded .by) s (replicate (c .stored) 0) (replicate (x .stored) 0)
@@ -183,14 +190,16 @@ module _ (opening text : List ℕ) {work : List ℕ} {c : Core} (s : Settings) (
                       (tables-after (prepared stands) (rows stands top) s e k at low
                       (means stands top) left (coded .is))
 
-                  -- The sizes of the grammars are the last test.
-                  grammar-fault : (b : Bool) → fitsIn c g ≡ b
-                      → cond b 0 (numberOf limit)
+                  -- The start tag and the sizes of the grammars are the last tests.
+                  grammar-fault : (a b : Bool) → may ≡ a → fitsIn c g ≡ b
+                      → cond a (cond b 0 (numberOf limit)) (numberOf shape)
                       ≡ faultNumber (faultOf sizes s (contextIn c w opened) text (meaning e))
-                  grammar-fault b f =
+                  grammar-fault a b m f =
                       fault-grammars s (contextIn c w opened) text (meaning e) (coded .is) within
                       (number-is (prepared stands) (rows stands top) s e k at low
-                      (means stands top) (coded .is)) zero b
+                      (means stands top) (coded .is)) zero a b
+                      (allows-is (stands .represents) ahead (left .joins .valid) known
+                      (post .bounds zero .name) (replicate (c .stored) 0) ∙ m)
                       (within-grammars-alike context-alike sizes
                       ∙ fits-is (stands .represents) (pre .bounded) top ahead (left .joins .valid)
                       known (coded .by) (post .bounds zero .name) (replicate (x .stored) 0) ∙ f)
@@ -224,10 +233,10 @@ module _ (opening text : List ℕ) {work : List ℕ} {c : Core} (s : Settings) (
                         context = context-alike;
                       }
 
-                accepted : fitsIn c g ≡ true
+                accepted : may ≡ true → fitsIn c g ≡ true
                     → JudgePost s opening text e work c (judgedAs p code x g)
                 unfolding growthOf
-                accepted f =
+                accepted m f =
                     record {
                       refused = λ l. absurd (omega arith);
                       rows = λ _. record {
@@ -246,21 +255,32 @@ module _ (opening text : List ℕ) {work : List ℕ} {c : Core} (s : Settings) (
                       };
                       meant = λ w opened stands top.
                           record {
-                            fault = grammar-fault stands top true f;
+                            fault = grammar-fault stands top true true m f;
                             leaves = λ _. event-leaves stands top f;
                           };
                     }
 
-                limited : fitsIn c g ≡ false → JudgePost s opening text e work c (refusedAs 12 c)
+                limited : may ≡ true → fitsIn c g ≡ false
+                    → JudgePost s opening text e work c (refusedAs 12 c)
                 unfolding numberOf
-                limited f =
+                limited m f =
                     refused-post 12 (omega arith)
-                    (λ w opened stands top. grammar-fault stands top false f)
+                    (λ w opened stands top. grammar-fault stands top true false m f)
+
+                repeated : may ≡ false → JudgePost s opening text e work c (refusedAs 14 c)
+                unfolding numberOf
+                repeated m =
+                    refused-post 14 (omega arith)
+                    (λ w opened stands top. grammar-fault stands top false (fitsIn c g) m refl)
 
                 judged : JudgePost s opening text e work c (afterContent work c kind p x code)
                 unfolding afterContent numberOf
                 judged =
-                    split (fitsIn c g) (λ f. rw f (accepted f)) (λ f. rw f (limited f))
+                    split may
+                    (λ m. split (fitsIn c g)
+                    (λ f. rw (m, f) (accepted m f))
+                    (λ f. rw (m, f) (limited m f)))
+                    (λ m. rw m (repeated m))
 
               pub event-judged : {r : EventJudged} → GrammarsPost work c kind p x r
                   → JudgePost s opening text e work c r

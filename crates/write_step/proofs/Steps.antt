@@ -1,5 +1,5 @@
 -- The answers of `step`, with what they leave.
-use Prim.Native.Nat.{ℕ, _<_}
+use Prim.Native.Nat.{ℕ, _+_, _≤_, _<_}
 use native.Mathlib.Omega.{arith}
 use mathlib.Core.Path.{_≡_, refl, sym, ap, subst, _∙_}
 use mathlib.Core.Bool.{Bool, true, false, not}
@@ -26,7 +26,7 @@ use Rattle.mem_state.specs.Grows.{learntOf}
 use Rattle.mem_state.proofs.Strung.{strings-ahead}
 use Rattle.mem_state.proofs.Commit.{strings-size, grown-size}
 use Rattle.grammar_codes.specs.declared.Place.{Place}
-use Rattle.grammar_update.specs.Growth.{growthOf, fitsIn, GrowthPre}
+use Rattle.grammar_update.specs.Growth.{growthOf, allowedIn, fitsIn, GrowthPre}
 use Rattle.grammar_update.specs.After.{coreAfter, AfterPre}
 use Rattle.grammar_update.proofs.Tests.{fits-learned}
 use Rattle.grammar_update.proofs.Turns.{after-bounded}
@@ -60,15 +60,24 @@ module _ {work : List ℕ} {c : Core} {x : Content} (pre : GrammarsPre work c x)
 
 module _ {work : List ℕ} {c : Core} {kind : ℕ} (p : Place) (x : Content) {code : Code}
     (h : CodeHere work c kind (x .strings .«name_row») code) {g : Growth}
-    (e : g ≡ growthOf work c kind (code .learned) (x .strings)) {fit : Bool} (f : fit ≡ fitsIn c g)
-  where
+    (e : g ≡ growthOf work c kind (code .learned) (x .strings)) {may : Bool}
+    (m : may ≡ allowedIn work (c .tag) kind (x .strings .«name_row»)) where
+  pub grammars-equal : not may ≡ true → GrammarsPost work c kind p x (refusedAs 14 c)
+  unfolding afterContent numberOf
+  grammars-equal n =
+      record { code = code; code-is = h; is = rw (sym m, not-true may n) }
+
+  module _ (a : not may ≡ false) {fit : Bool} (f : fit ≡ fitsIn c g) where
+    allowed : allowedIn work (c .tag) kind (x .strings .«name_row») ≡ true
+    allowed = sym m ∙ not-false may a
+
     fits-so : fitsIn c (growthOf work c kind (code .learned) (x .strings)) ≡ fit
     fits-so = ap (fitsIn c) (sym e) ∙ sym f
 
     pub grammars-limit : not fit ≡ true → GrammarsPost work c kind p x (refusedAs 12 c)
     unfolding afterContent numberOf
     grammars-limit n =
-        record { code = code; code-is = h; is = rw (fits-so, not-true fit n) }
+        record { code = code; code-is = h; is = rw (allowed, fits-so, not-true fit n) }
 
     pub grammars-pass : not fit ≡ false → GrammarsPost work c kind p x (judgedAs p code x g)
     unfolding afterContent
@@ -76,12 +85,12 @@ module _ {work : List ℕ} {c : Core} {kind : ℕ} (p : Place) (x : Content) {co
         record {
           code = code;
           code-is = h;
-          is = rw (fits-so, not-false fit n) (ap (judgedAs p code x) e);
+          is = rw (allowed, fits-so, not-false fit n) (ap (judgedAs p code x) e);
         }
 
 -- ---- the commit
 
-module _ {work : List ℕ} {c : Core} {r : EventJudged} (pre : CommitPre work c r) where
+module _ {work : List ℕ} {c : Core} {r : EventJudged} {n : ℕ} (pre : CommitPre work c r n) where
   pub join-asks : StringsPre work c (r .content .strings)
   unfolding maxUris maxNames maxValues
   join-asks =
@@ -111,18 +120,19 @@ module _ {work : List ℕ} {c : Core} {r : EventJudged} (pre : CommitPre work c 
         name = name-low;
       }
 
-  pub after-asks : AfterPre c (r .growth)
-  after-asks = record { bounded = pre .bounded; stands = pre .bounds .stands }
+  pub after-asks : AfterPre c (r .growth) n
+  after-asks =
+      record { bounded = pre .bounded; early = pre .early; stands = pre .bounds .stands }
 
   pub committed : {work₁ work₂ : List ℕ} (at : ℕ) {d : Core}
       → work₁ ≡ joinedStrings c (r .content .strings) work → work₂ ≡ grown c (r .growth) work₁
-      → d ≡ coreAfter c at (r .content .stored) (r .content .strings) (r .growth)
-      → CommitPost work c at r work₂ d
+      → d ≡ coreAfter c at (r .content .stored) (r .content .strings) (r .growth) n
+      → CommitPost work c at r n work₂ d
   committed at a b e =
       record { work-is = b ∙ ap (grown c (r .growth)) a; core-is = e }
 
   after-low : (at : ℕ)
-      → Bounded (coreAfter c at (r .content .stored) (r .content .strings) (r .growth))
+      → Bounded (coreAfter c at (r .content .stored) (r .content .strings) (r .growth) n)
   after-low at =
       after-bounded at (r .content .stored) after-asks join-asks (pre .bounds .fits) name-low
       (pre .bounds .store)
@@ -156,21 +166,21 @@ module _ (kind n : ℕ) (b : Bool) (l : Learnt) {v : Rows} where
 
 -- ---- the step
 
-module _ {stream work : List ℕ} {c : Core} (pre : StepPre stream work c) where
+module _ {stream work : List ℕ} {c : Core} {n : ℕ} (pre : StepPre stream work c n) where
   pub judge-asks : JudgePre work c
   judge-asks = record { rows = pre .rows; bounded = pre .bounded }
 
   module _ {s : Settings} {opening text : List ℕ} {e : declared.Event} {r : EventJudged}
       (post : JudgePost s opening text e work c r) where
     pub step-refused : 0 < r .number
-        → StepPost s opening text (meaning e) stream work c stream work
+        → StepPost s opening text (meaning e) stream work c n stream work
         (record { number = r .number; core = c })
     step-refused h =
         record {
           bounded = pre .bounded;
           refused = λ _. record { core = refl; stream-is = refl; work-is = refl };
           put = λ z. absurd (omega arith);
-          meant = λ w opened stands top.
+          meant = λ w opened stands top late.
               record {
                 fault = post .meant w opened stands top .fault;
                 leaves = λ z. absurd (omega arith);
@@ -188,17 +198,23 @@ module _ {stream work : List ℕ} {c : Core} (pre : StepPre stream work c) where
             bits = post .bits zero;
           }
 
-      pub commit-asks : CommitPre work c r
+      pub commit-asks : CommitPre work c r n
       commit-asks =
-          record { rows = pre .rows; bounded = pre .bounded; bounds = post .rows zero }
+          record {
+            rows = pre .rows;
+            bounded = pre .bounded;
+            early = pre .early;
+            bounds = post .rows zero;
+          }
 
       -- Over rows.
       module _ {w : Rows} {opened : List ℕ} (stands : Stands opening text work c w opened)
-          (top : Topped c opened) (m : EventLeaves s opening text e work c w opened r) (at : ℕ) where
+          (top : Topped c opened) (late : c .tag ≤ n + 1)
+          (m : EventLeaves s opening text e work c w opened r) (at : ℕ) where
         step-leaves : StepLeaves s opening text (mapEvent (part text) (meaning e)) c w opened
             (judgedBits s text e work c r)
             (grown c (r .growth) (joinedStrings c (r .content .strings) work))
-            (coreAfter c at (r .content .stored) (r .content .strings) (r .growth))
+            (coreAfter c at (r .content .stored) (r .content .strings) (r .growth) n)
         unfolding turned counted
         step-leaves =
             let g = r .growth in
@@ -210,7 +226,8 @@ module _ {stream work : List ℕ} {c : Core} (pre : StepPre stream work c) where
               after = record {
                 represents = left-represents (m .joins) (m .grows) (stands .represents .counts)
                     (stands .represents .opens) (join-asks commit-asks)
-                    (stands .represents .holds) (m .valid) (m .named) at stored;
+                    (stands .represents .holds) (stands .represents .marks) (m .valid) (m .named)
+                    at stored n late;
                 writable = left-writable (g .kind) (g .name) (g .teaches) (learntOf g)
                     (m .writable);
                 begun = left-begun (g .kind) (g .name) (g .teaches) (learntOf g)
@@ -223,11 +240,11 @@ module _ {stream work : List ℕ} {c : Core} (pre : StepPre stream work c) where
 
       done : {stream′ : List ℕ} {at : ℕ}
           → Put stream (c .at) (judgedBits s text e work c r) stream′ at
-          → StepPost s opening text (meaning e) stream work c stream′
+          → StepPost s opening text (meaning e) stream work c n stream′
           (grown c (r .growth) (joinedStrings c (r .content .strings) work))
           (record {
             number = 0;
-            core = coreAfter c at (r .content .stored) (r .content .strings) (r .growth);
+            core = coreAfter c at (r .content .stored) (r .content .strings) (r .growth) n;
           })
       unfolding turned counted
       done {at = at} p =
@@ -246,24 +263,24 @@ module _ {stream work : List ℕ} {c : Core} (pre : StepPre stream work c) where
                   ∙ strings-size c (r .content .strings) work;
               core-is = refl;
             };
-            meant = λ w opened stands top.
+            meant = λ w opened stands top late.
                 let m = post .meant w opened stands top in
                 record {
                   fault = sym zero ∙ m .fault;
-                  leaves = λ _. step-leaves stands top (m .leaves zero) at;
+                  leaves = λ _. step-leaves stands top late (m .leaves zero) at;
                 };
           }
 
       pub step-done : {stream′ work′ : List ℕ} {at : ℕ} {d : Core}
           → Put stream (c .at) (judgedBits s text e work c r) stream′ at
-          → CommitPost work c at r work′ d
-          → StepPost s opening text (meaning e) stream work c stream′ work′
+          → CommitPost work c at r n work′ d
+          → StepPost s opening text (meaning e) stream work c n stream′ work′
           (record { number = 0; core = d })
       step-done {stream′} {work′} {at} {d} p q =
-          subst (λ (k : Core). StepPost s opening text (meaning e) stream work c stream′ work′
+          subst (λ (k : Core). StepPost s opening text (meaning e) stream work c n stream′ work′
           (record { number = 0; core = k })) (sym (q .core-is))
-          (subst (λ l. StepPost s opening text (meaning e) stream work c stream′ l
+          (subst (λ l. StepPost s opening text (meaning e) stream work c n stream′ l
           (record {
             number = 0;
-            core = coreAfter c at (r .content .stored) (r .content .strings) (r .growth);
+            core = coreAfter c at (r .content .stored) (r .content .strings) (r .growth) n;
           })) (sym (q .work-is)) (done p))

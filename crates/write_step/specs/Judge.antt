@@ -7,10 +7,10 @@ use mathlib.Core.List.{List, _++_}
 use lib.ListN.{length, replicate}
 use lib.Dec.{T}
 use Rattle.spec_fields.specs.Bits.{Bits}
-use Rattle.spec_fields.specs.Refusal.{numberOf, limit}
+use Rattle.spec_fields.specs.Refusal.{numberOf, limit, shape}
 use Rattle.text.specs.Text.{part}
 use Rattle.spec_exi.specs.Settings.{Settings}
-use Rattle.spec_exi.specs.Sizes.{sizes}
+use Rattle.spec_exi.specs.Sizes.{sizes, maxEvents}
 use Rattle.spec_exi.specs.Event.{mapEvent, SE}
 use Rattle.spec_exi.specs.Grammar.{kindNumber}
 use Rattle.spec_exi.specs.Context.{next}
@@ -31,7 +31,7 @@ use Rattle.mem_state.specs.Grows.{learntOf, Grows}
 use Rattle.grammar_codes.specs.declared.Place.{Place}
 use Rattle.grammar_match.specs.Here.{CountedHere}
 use Rattle.grammar_match.specs.Found.{FoundHere, PartHere}
-use Rattle.grammar_update.specs.Growth.{growthOf, fitsIn}
+use Rattle.grammar_update.specs.Growth.{growthOf, allowedIn, fitsIn}
 use Rattle.grammar_update.specs.After.{coreAfter}
 use Rattle.write_field.specs.Written.{blankFrom}
 use Rattle.write_partition.specs.Writable.{Writable}
@@ -89,7 +89,9 @@ pub record GrammarsPre (work : List ℕ) (c : Core) (x : Content) : Type 0 where
 unfoldable pub afterContent : List ℕ → Core → ℕ → Place → Content → Code → EventJudged
 afterContent work c kind p x code =
     let g = growthOf work c kind (code .learned) (x .strings) in
-    cond (fitsIn c g) (judgedAs p code x g) (refusedAs (numberOf limit) c)
+    cond (allowedIn work (c .tag) kind (x .strings .«name_row»))
+    (cond (fitsIn c g) (judgedAs p code x g) (refusedAs (numberOf limit) c))
+    (refusedAs (numberOf shape) c)
 
 pub record GrammarsPost (work : List ℕ) (c : Core) (kind : ℕ) (p : Place) (x : Content)
     (r : EventJudged) : Type 0 where
@@ -165,12 +167,13 @@ pub record PutEventPre (s : Settings) (stream text : List ℕ) (e : declared.Eve
   pub bounded : Bounded c
   pub bits : BitBounds s text e c r
 
-pub record CommitPre (work : List ℕ) (c : Core) (r : EventJudged) : Type 0 where
+pub record CommitPre (work : List ℕ) (c : Core) (r : EventJudged) (n : ℕ) : Type 0 where
   pub rows : workCells ≤ length work
   pub bounded : Bounded c
+  pub early : n < maxEvents
   pub bounds : JudgedRows c r
 
-pub record CommitPost (work : List ℕ) (c : Core) (at : ℕ) (r : EventJudged) (work′ : List ℕ)
-    (d : Core) : Type 0 where
+pub record CommitPost (work : List ℕ) (c : Core) (at : ℕ) (r : EventJudged) (n : ℕ)
+    (work′ : List ℕ) (d : Core) : Type 0 where
   pub work-is : work′ ≡ grown c (r .growth) (joinedStrings c (r .content .strings) work)
-  pub core-is : d ≡ coreAfter c at (r .content .stored) (r .content .strings) (r .growth)
+  pub core-is : d ≡ coreAfter c at (r .content .stored) (r .content .strings) (r .growth) n

@@ -1,4 +1,4 @@
--- What writing one event asks and leaves.
+-- What writing one event, before which n have come, asks and leaves.
 use Prim.Native.Nat.{ℕ, _+_, _*_, _≤_, _<_}
 use mathlib.Core.Path.{_≡_}
 use mathlib.Core.Bool.{true}
@@ -48,11 +48,12 @@ maxListBits = 64 + maxEventBits * maxEvents
 
 -- ---- bounds alone
 
-pub record StepPre (stream work : List ℕ) (c : Core) : Type 0 where
+pub record StepPre (stream work : List ℕ) (c : Core) (n : ℕ) : Type 0 where
   pub blank : T (blankFrom stream (c .at))
   pub near : c .at ≤ maxListBits
   pub rows : workCells ≤ length work
   pub bounded : Bounded c
+  pub early : n < maxEvents
 
 -- ---- on every memory
 
@@ -75,7 +76,7 @@ pub record RowBounds (c : Core) (s : Strings) (g : Growth) (stored : ℕ) : Type
 
 -- The event's bits are written; its strings and its growth are all that joins work memory, and the
 -- numbers are those after it.
-pub record StepPut (stream work : List ℕ) (c : Core) (stream′ work′ : List ℕ) (r : Stepped)
+pub record StepPut (stream work : List ℕ) (c : Core) (n : ℕ) (stream′ work′ : List ℕ) (r : Stepped)
     : Type 0 where
   pub bits : Bits
   pub put : Put stream (c .at) bits stream′ (r .core .at)
@@ -85,7 +86,7 @@ pub record StepPut (stream work : List ℕ) (c : Core) (stream′ work′ : List
   pub rows : RowBounds c strings growth (r .core .stored)
   pub work-is : work′ ≡ grown c growth (joinedStrings c strings work)
   pub work-size : length work′ ≡ length work
-  pub core-is : r .core ≡ coreAfter c (r .core .at) (r .core .stored) strings growth
+  pub core-is : r .core ≡ coreAfter c (r .core .at) (r .core .stored) strings growth n
 
 -- ---- by the definitions
 
@@ -107,16 +108,16 @@ pub record StepLeaves (s : Settings) (opening text : List ℕ) (e : Event Text) 
   pub context : Alike (next s (contextIn c w opened) e) (contextIn d rows opened′)
 
 pub record StepMeans (s : Settings) (opening text : List ℕ) (e : Event Span) (stream work : List ℕ)
-    (c : Core) (w : Rows) (opened stream′ work′ : List ℕ) (r : Stepped)
-    (put : r .number ≡ 0 → StepPut stream work c stream′ work′ r) : Type 0 where
+    (c : Core) (n : ℕ) (w : Rows) (opened stream′ work′ : List ℕ) (r : Stepped)
+    (put : r .number ≡ 0 → StepPut stream work c n stream′ work′ r) : Type 0 where
   pub fault : r .number ≡ faultNumber (faultOf sizes s (contextIn c w opened) text e)
   pub leaves : (z : r .number ≡ 0)
       → StepLeaves s opening text (mapEvent (part text) e) c w opened (put z .bits) work′ (r .core)
 
 pub record StepPost (s : Settings) (opening text : List ℕ) (e : Event Span) (stream work : List ℕ)
-    (c : Core) (stream′ work′ : List ℕ) (r : Stepped) : Type 0 where
+    (c : Core) (n : ℕ) (stream′ work′ : List ℕ) (r : Stepped) : Type 0 where
   pub bounded : Bounded (r .core)
   pub refused : 0 < r .number → StepRefused stream work c stream′ work′ r
-  pub put : r .number ≡ 0 → StepPut stream work c stream′ work′ r
+  pub put : r .number ≡ 0 → StepPut stream work c n stream′ work′ r
   pub meant : (w : Rows) (opened : List ℕ) → Stands opening text work c w opened → Topped c opened
-      → StepMeans s opening text e stream work c w opened stream′ work′ r put
+      → c .tag ≤ n + 1 → StepMeans s opening text e stream work c n w opened stream′ work′ r put

@@ -1,6 +1,7 @@
-// One event of a list, written: judged whole, by its kind, its places, its strings and what it
-// leaves in the grammars; then its bits; and then the one place where its rows join memory. A
-// refused event has written no octet and no cell. What the functions ask and leave is in specs/.
+// One event of a list, written: judged whole, by its kind, its places, its strings, its start tag
+// (P3) and what it leaves in the grammars; then its bits; and then the one place where its rows
+// join memory. A refused event has written no octet and no cell. What the functions ask and leave
+// is in specs/.
 ghost use mathlib.Core.Path.{_≡_};
 ghost use Rattle.text.specs.Text.{inside};
 ghost use Rattle.spec_exi.specs.Event.{kindOf, stringsOf};
@@ -149,7 +150,8 @@ fn refused(number: u32, c: Core) -> EventJudged
     }
 }
 
-// Judges an event after its content: the code that it has, and the sizes of the grammars.
+// Judges an event after its content: the code that it has, equal attributes (P3), and the sizes of
+// the grammars.
 fn judge_grammars(c: Core, kind: u32, place: Place, content: Content, work: &[u32]) -> EventJudged
     requires { ⌜ GrammarsPre (now work) c content ⌝ }
     ensures { λ r. ⌜ GrammarsPost (now (work .entry)) c kind place content r ⌝ }
@@ -157,6 +159,9 @@ fn judge_grammars(c: Core, kind: u32, place: Place, content: Content, work: &[u3
     let s = content.strings;
     let code = code_here(c, kind, s.name_row, work);
     let growth = grammar_update::growth(c, kind, code.learned, s, work);
+    if !grammar_update::allows(c.tag, kind, s.name_row, work) {
+        return refused(SHAPE, c);
+    }
     if !grammar_update::fits(c, growth) {
         return refused(LIMIT, c);
     }
@@ -225,33 +230,34 @@ fn put_event(
 
 // ---- the rows
 
-// Adds what an event leaves to memory, and says the numbers after it.
-fn commit(work: &mut [u32], c: Core, at: usize, j: EventJudged) -> Core
-    requires { ⌜ CommitPre (now work) c j ⌝ }
-    ensures { λ d. ⌜ CommitPost (now (work .entry)) c at j (now (work .exit)) d ⌝ }
+// Adds what an event leaves to memory, and says the numbers after it; n events have come before it.
+fn commit(work: &mut [u32], c: Core, at: usize, j: EventJudged, n: usize) -> Core
+    requires { ⌜ CommitPre (now work) c j n ⌝ }
+    ensures { λ d. ⌜ CommitPost (now (work .entry)) c at j n (now (work .exit)) d ⌝ }
 {
     let x = j.content;
     let s = x.strings;
     let g = j.growth;
     mem_state::join_strings(work, c, s);
     mem_state::grow(work, c, g);
-    grammar_update::after(c, at, x.stored, s, g)
+    grammar_update::after(c, at, x.stored, s, g, n)
 }
 
-// Writes one event after the core's position.
+// Writes one event, before which n have come, after the core's position.
 pub fn step(
     o: Settings,
     stream: &mut [u8],
     opening: &[u32],
     text: &[u32],
     e: Event,
+    n: usize,
     c: Core,
     work: &mut [u32],
 ) -> Stepped
-    requires { ⌜ StepPre (now stream) (now work) c ⌝ }
+    requires { ⌜ StepPre (now stream) (now work) c n ⌝ }
     ensures { λ r. ⌜
         StepPost (settingsFrom o) (now (opening .entry)) (now (text .entry)) (meaning e)
-        (now (stream .entry)) (now (work .entry)) c (now (stream .exit)) (now (work .exit)) r ⌝ }
+        (now (stream .entry)) (now (work .entry)) c n (now (stream .exit)) (now (work .exit)) r ⌝ }
 {
     let j = judge_event(o, opening, text, e, c, work);
     if j.number != 0 {
@@ -261,6 +267,6 @@ pub fn step(
         };
     }
     let at = put_event(o, stream, text, e, c, j, work);
-    let core = commit(work, c, at, j);
+    let core = commit(work, c, at, j, n);
     Stepped { number: 0, core }
 }

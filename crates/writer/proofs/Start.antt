@@ -1,5 +1,5 @@
--- Work memory with the initial entries, after the header: the events can be written, and the context
--- is the definitions' start, up to the places of strings.
+-- Work memory with the initial entries, after the header: the events can be written, and the
+-- context is the definitions' start, up to the places of strings.
 use Prim.Native.Nat.{ℕ, zero, suc, _≤_, _<_}
 use native.Mathlib.Omega.{arith}
 use native.Mathlib.Nat.{le-refl}
@@ -123,6 +123,7 @@ module _ {stream : List ℕ} {at : ℕ} {work : List ℕ} (h : BodyPre stream at
           rows = omega (arith, room₁, same₂);
           bounded = start-bounded at;
           array = length-replicate {A = ℕ} maxOpen 0;
+          tag = le-refl 1;
         })
 
     zeros : (j : ℕ) → j < zeroCells → getD work₁ j 0 ≡ 0

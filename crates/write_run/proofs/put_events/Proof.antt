@@ -101,9 +101,10 @@ enum-known-e c = search needs
 
 step-requires : tie.Need-step-requires Inv-loop μ-loop
 step-requires c κs =
-    let loop = c .before .before .before .before .before .before .before .before .before .before in
+    let if1 = c .before .before .before .before .before .before .before .before in
+    let loop = if1 .before .before in
     let start = loop .before .before .before .before .before .before in
-    turn-asks (loop .loop .inv) (start .pre)
+    turn-asks (loop .loop .inv) (start .pre) (if1 .if1 .left)
 
 stopped-requires-4 : tie.Need-stopped-requires-4 Inv-loop μ-loop
 stopped-requires-4 c κs = search needs
