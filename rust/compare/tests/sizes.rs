@@ -852,7 +852,7 @@ fn with_loose_production(settings: Settings, list: &[Event], event: usize) -> Ve
         .iter()
         .position(|(form, index)| productions.contains(form) && *index == event)
         .expect("a learned production");
-    encode_loosely(settings, list, Some(at)).octets()
+    encode_loosely(settings, list, &[at]).octets()
 }
 
 #[test]
