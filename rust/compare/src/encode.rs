@@ -627,6 +627,11 @@ struct Bits {
 
 impl Bits {
     fn push(&mut self, value: usize, width: u32) {
+        if width == 8 && self.count == 8 * self.octets.len() {
+            self.octets.push(value as u8);
+            self.count += 8;
+            return;
+        }
         for k in (0..width).rev() {
             if self.count == 8 * self.octets.len() {
                 self.octets.push(0);
