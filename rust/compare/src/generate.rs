@@ -363,8 +363,8 @@ fn uris(rng: &mut Prng) -> Vec<Event> {
     whole(inner)
 }
 
-/// New names, and names again, as attributes: all in one start tag, where those again have no place,
-/// or in nested elements of two names.
+/// New names, and names again, as attributes: all in one start tag, where those again have no
+/// place, or in nested elements of two names.
 fn names(rng: &mut Prng) -> Vec<Event> {
     let count = rng.between(MAX_NAMES - 17, MAX_NAMES - 5);
     let in_a_tag = *rng.pick(&[3, 20, 1_000]);

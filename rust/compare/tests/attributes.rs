@@ -114,7 +114,7 @@ fn names_that_are_alike() {
         again.push(attribute(uri, name, ""));
         is_shape(in_a(again), 2 + names.len());
     }
-    // The prefix of the store that a text lies in is of no account: the texts are one.
+    // Texts that lie apart in the store are one name, and an empty URI lies anywhere.
     let shared = Stored {
         cells: [
             [1, 0, 0, 0, 0, 0, 0, 0, 0],
@@ -210,7 +210,7 @@ fn many_attributes() {
             list_is_refused(settings, &list, SHAPE, 122);
         }
     }
-    // Each but the first once more, by AT(*), right behind the first and itself.
+    // A name early and in its place, and in its place and right behind.
     for number in (1..120).step_by(17) {
         let mut again = all.clone();
         again.insert(1, one(number));
@@ -221,18 +221,25 @@ fn many_attributes() {
     }
 }
 
-/// The streams that the readings name, and their like.
+/// By the learned code and by AT(*), cut, and with loose strings.
 #[test]
 fn streams_with_equal_attributes() {
     let first = "80 01 02 61 01 01 02 6B 03 78";
     let refused = |behind: &str, number: u32| {
         read_is_refused(BYTES, &hex(&format!("{first} {behind}")), number, 3);
     };
-    // The learned code twice.
+    // The learned code.
     refused("00 02", SHAPE);
     refused("00 02 00", SHAPE);
     refused("00 00", SHAPE);
     refused("00 03 79", SHAPE);
+    // The learned code once and twice: <a><b k=""/><b k="" and k again.
+    let b = element("", "b");
+    let once = "80 01 02 61 02 01 02 62 01 01 02 6B 02 01 00 01 00 01 00 01 01 02";
+    let list = in_a(vec![b.clone(), k(""), END, b, k(""), END]);
+    is_strict_form(BYTES, &hex(&format!("{once} 00 01")), &list);
+    let twice = hex(&format!("{once} 01 02"));
+    read_is_refused(BYTES, &twice, SHAPE, 7);
     // AT(*) though AT(k) is learned: before its LOOSE, and not before the value.
     refused("01 01 01 00 01 02", SHAPE);
     refused("01 01 01 00 01 00", SHAPE);
@@ -295,6 +302,18 @@ const FULL: [Full; 6] = [
     Full::Values,
     Full::Productions,
 ];
+
+/// Each with a tag that has no k before the attribute that is judged, and one that has; few in
+/// builds that are not for release.
+fn all_full() -> impl Iterator<Item = (Full, bool)> {
+    let count = if cfg!(debug_assertions) {
+        2
+    } else {
+        FULL.len()
+    };
+    let full = FULL.into_iter().take(count);
+    full.flat_map(|it| [(it, false), (it, true)])
+}
 
 /// The events before the attribute that is judged, which is one of `<a>`. Of its attributes k and j
 /// are learned, with three values each, which are the first six; with `has_k` the tag has a k.
@@ -413,8 +432,8 @@ impl Written {
     }
 }
 
-/// What the writer answers, by the order in which 01 and the readings have it; none where it is not
-/// refused at this event.
+/// What the writer answers, in the scope's order and P3's; none where it is not refused at this
+/// event.
 fn written_answer(full: Full, has_k: bool, [uri, name, value]: [Written; 3]) -> Option<u32> {
     if [uri, name, value].contains(&Outside) {
         return Some(PLACE);
@@ -460,7 +479,7 @@ fn every_pair_of_faults_in_an_attribute_written() {
     let values = [Known, New, Empty, NoChar, TooLong, Outside];
     let mut both = Comparison::new();
     let mut answers = [0; 16];
-    for (full, has_k) in FULL.into_iter().flat_map(|it| [(it, false), (it, true)]) {
+    for (full, has_k) in all_full() {
         let events = before(full, has_k);
         let index = events.len();
         for uri in uris {
@@ -485,7 +504,7 @@ fn every_pair_of_faults_in_an_attribute_written() {
         }
     }
     for number in [0, CHARACTER, NAME, LIMIT, SHAPE, PLACE] {
-        assert!(answers[number as usize] >= 20, "{number}: {answers:?}");
+        assert!(answers[number as usize] >= 10, "{number}: {answers:?}");
     }
 }
 
@@ -846,7 +865,7 @@ fn every_pair_of_faults_in_an_attribute_read() {
         both: Comparison::new(),
         answers: [0; 16],
     };
-    for (full, has_k) in FULL.into_iter().flat_map(|it| [(it, false), (it, true)]) {
+    for (full, has_k) in all_full() {
         for settings in [BITS, BYTES] {
             let parts = Parts::new(settings, full, has_k);
             let shape = |name: Read| (has_k && name == Read::K).then_some(SHAPE);
@@ -879,6 +898,6 @@ fn every_pair_of_faults_in_an_attribute_read() {
         0, ENDED, CODE, NUMBER, CHARACTER, REFERENCE, LOOSE, NAME, LIMIT, SHAPE,
     ] {
         let found = reads.answers[number as usize];
-        assert!(found >= 20, "{number}: {:?}", reads.answers);
+        assert!(found >= 10, "{number}: {:?}", reads.answers);
     }
 }

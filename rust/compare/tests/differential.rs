@@ -245,8 +245,8 @@ impl Run {
         Ok(())
     }
 
-    /// An attribute twice in a start tag of a list that is accepted, by itself and with faults whose
-    /// answer is known. Only small lists have room for more than the attribute.
+    /// An attribute twice in a start tag of a list that is accepted, by itself and, in small lists,
+    /// with faults whose answer is known. Other lists may have no room for a new value.
     fn equal(&mut self, settings: Settings, events: &[Event], profile: Profile) -> Checked {
         let is_small = profile == Profile::Small;
         let Some(equal) = EqualAttribute::new(&mut self.rng, events, is_small) else {

@@ -164,7 +164,7 @@ fn equal_attributes() {
     let stream = writer.write(&BIT_PACKED, &other).unwrap();
     assert_eq!(reader.read(&BIT_PACKED, stream).unwrap(), other);
 
-    // <a k="x" and k again: by the learned code, and by AT(*), where it is cut before its value too.
+    // <a k="x" and k again: by the learned code, and by AT(*), also cut before its value.
     let first = [0x80, 0x01, 0x02, 0x61, 0x01, 0x01, 0x02, 0x6B, 0x03, 0x78];
     for (again, refusal) in [
         (&[0x00, 0x02][..], Refusal::Shape),
