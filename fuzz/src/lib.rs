@@ -8,7 +8,8 @@
 //! remainder by how many parts there are. To read, the rest is the stream. To write, the rest is
 //! numbers: how many code points, the code points, then the events. An event is its kind and a
 //! place and a length for each of its strings; a kind without meaning is followed by nothing;
-//! [`RAW`] is followed by how many cells, at most nine, and the cells.
+//! [`RAW`] is followed by how many cells, at most nine, and the cells; [`AGAIN`] is the newest
+//! attribute once more, and is followed by the place and the length of its value.
 //!
 //! With both 64 and 1 set the request is about readings: with 128 set for the list of readings, else
 //! for the readings of a list, which follows as to write. Of the other bits only 32 counts. Readings
@@ -17,7 +18,7 @@
 
 #![forbid(unsafe_code)]
 
-use compare::event::{stored_strings, strings_of, Stored, CELLS};
+use compare::event::{stored_strings, strings_of, Stored, ATTRIBUTE, CELLS};
 use compare::lent::{ReaderPart, Settings, WriterPart};
 use compare::protocol::{ReadingsPart, Request};
 use compare::readings::{ListPart, Reading};
@@ -36,6 +37,9 @@ const READINGS: u8 = NO_ALIGNMENT | 1;
 
 /// In place of a kind: cells as they are.
 pub const RAW: u32 = 127;
+
+/// In place of a kind: an attribute of the name that the newest one has.
+pub const AGAIN: u32 = 126;
 
 pub fn request(input: &[u8]) -> Option<Request> {
     let (&first, rest) = input.split_first()?;
@@ -189,13 +193,31 @@ fn list(numbers: &mut Numbers) -> Stored {
         }
         let mut event = [0; CELLS];
         event[0] = kind;
-        for &at in strings_of(kind).unwrap_or(&[]) {
+        let mut strings = strings_of(kind).unwrap_or(&[]);
+        if kind == AGAIN {
+            event = newest_attribute(&list.cells);
+            strings = &[7];
+        }
+        for &at in strings {
             event[at] = numbers.next().unwrap_or(0);
             event[at + 1] = numbers.next().unwrap_or(0);
         }
         list.cells.extend(event);
     }
     list
+}
+
+/// The newest attribute of whole events; where there is none, one of empty strings.
+fn newest_attribute(cells: &[u32]) -> [u32; CELLS] {
+    let mut event = [0; CELLS];
+    event[0] = ATTRIBUTE;
+    let newest = cells
+        .chunks_exact(CELLS)
+        .rfind(|cells| cells[0] == ATTRIBUTE);
+    if let Some(newest) = newest {
+        event.copy_from_slice(newest);
+    }
+    event
 }
 
 fn put_list(input: &mut Vec<u8>, list: &Stored) {
@@ -300,6 +322,8 @@ mod tests {
             "r 2 1 0 1 -",
             "w 0 1 1 1 SD,SE:0:0:0:1,AT:4294967295:1:2:3:4:5,BAD2,BAD,CM:300:7,PI:1:1:1:1,EE,ED 61,ffffffff,0",
             "w 1 0 0 0 - -",
+            "w 1 0 0 0 SD,SE:0:0:0:1,AT:0:0:0:1:0:1,AT:0:0:0:1:0:0,EE,ED 61",
+            "r 1 0 0 0 800102610101026b03780002",
             "r 2 0 0 0 fragment=1 vmax=0 vcap=4294967294 loose=7 prefixes=300 cap=5 short=work 80",
             "r 1 0 0 0 cap=0 short=events -",
             "w 1 1 0 0 vmax=70000 short=octets BAD 61",
@@ -314,6 +338,29 @@ mod tests {
             let wanted = Request::parse(line).expect(line);
             let octets = input(&wanted).expect(line);
             assert_eq!(request(&octets), Some(wanted));
+        }
+    }
+
+    #[test]
+    fn attributes_once_more() {
+        let again = AGAIN as u8;
+        let head = [WRITE | 1, 2, 0x61, 0x62, 1, 3, 0, 0, 0, 1];
+        for (behind, line) in [
+            (
+                &[4, 0, 0, 1, 1, 0, 1, again, 0, 0, 5, 2][..],
+                "AT:0:0:1:1:0:1,AT:0:0:1:1:0:0,EE,ED",
+            ),
+            (
+                &[
+                    4, 0, 0, 0, 1, 0, 1, 4, 0, 1, 1, 1, 0, 1, 3, 0, 0, 0, 1, again, 1, 1,
+                ],
+                "AT:0:0:0:1:0:1,AT:0:1:1:1:0:1,SE:0:0:0:1,AT:0:1:1:1:1:1",
+            ),
+            (&[again, 0, 1, 5, 2], "AT:0:0:0:0:0:1,EE,ED"),
+        ] {
+            let line = format!("w 1 0 0 0 SD,SE:0:0:0:1,{line} 61,62");
+            let wanted = Request::parse(&line).expect("a request");
+            assert_eq!(request(&[&head[..], behind].concat()), Some(wanted));
         }
     }
 }

@@ -1,16 +1,84 @@
 //! Faults in streams and lists: some whose answer the scope determines, and damage at random.
 
-use crate::encode::{encode_loosely, unsigned_octets, width, Encoded, Field, Loose, Role, Shape};
+use crate::encode::{
+    encode, encode_loosely, unsigned_octets, width, Encoded, Field, Loose, Role, Shape,
+};
 use crate::event::{
     strings_of, text, unused_cells, Event, Stored, ATTRIBUTE, CELLS, COMMENT, END_DOCUMENT,
     END_ELEMENT, INSTRUCTION, START_ELEMENT, XSI_URI,
 };
 use crate::generate::NO_CHARS;
 use crate::lent::{
-    CHARACTER, CODE, ENDED, HEADER, LIMIT, LOOSE, NAME, NUMBER, PLACE, REFERENCE, SHAPE, TAIL,
+    Settings, CHARACTER, CODE, ENDED, HEADER, LIMIT, LOOSE, NAME, NUMBER, PLACE, REFERENCE, SHAPE,
+    TAIL,
 };
 use crate::prng::Prng;
 use crate::sizes::MAX_STRING;
+
+/// A list that would be well-formed, but that a start tag has an attribute twice.
+pub struct EqualAttribute {
+    pub events: Vec<Event>,
+    /// The index of the second.
+    pub index: usize,
+}
+
+impl EqualAttribute {
+    /// Puts an attribute of a list once more into its start tag, somewhere behind the first; none
+    /// where the list has no attribute. The value is the first's or empty, or, with `any_value`,
+    /// any other.
+    pub fn new(rng: &mut Prng, events: &[Event], any_value: bool) -> Option<EqualAttribute> {
+        let is_attribute = |k: &usize| matches!(events[*k], Event::Attribute { .. });
+        let all: Vec<usize> = (0..events.len()).filter(is_attribute).collect();
+        if all.is_empty() {
+            return None;
+        }
+        let first = *rng.pick(&all);
+        let mut index = first + 1;
+        while is_attribute(&index) && !rng.one_in(3) {
+            index += 1;
+        }
+        let mut again = events[first].clone();
+        if let Event::Attribute { uri, name, value } = &mut again {
+            match rng.below(if any_value { 7 } else { 2 }) {
+                0 => {}
+                1 => value.clear(),
+                2 => value.push(97),
+                // One that this name has had, or any other string.
+                3..=5 => {
+                    let of_name = events.iter().filter_map(|event| match event {
+                        Event::Attribute {
+                            uri: u,
+                            name: n,
+                            value,
+                        } if u == uri && n == name => Some(value),
+                        _ => None,
+                    });
+                    let values: Vec<_> = of_name.collect();
+                    *value = rng.pick(&values).to_vec();
+                }
+                _ => {
+                    let strings = rng.pick(events).strings();
+                    *value = strings.last().map_or(text("w"), |it| it.to_vec());
+                }
+            }
+        }
+        let mut events = events.to_vec();
+        events.insert(index, again);
+        Some(EqualAttribute { events, index })
+    }
+
+    /// Its stream, the second attribute by the learned production, or by AT(*).
+    pub fn stream(&self, settings: Settings, by_any: bool) -> Encoded {
+        let strict = encode(settings, &self.events);
+        if !by_any {
+            return strict;
+        }
+        let production = (Loose::AttributeProduction, self.index);
+        let place = strict.loose.iter().position(|it| *it == production);
+        let taken = [place.expect("the first has taught it")];
+        encode_loosely(settings, &self.events, &taken)
+    }
+}
 
 /// A fault in the strict form of a list that is inside the limits.
 #[derive(Clone, Copy, Debug, PartialEq, Eq, Hash, PartialOrd, Ord)]
@@ -32,6 +100,7 @@ pub enum StreamFault {
     PadBit,
     Tail,
     Ended,
+    EqualAttribute,
     Loose(Loose),
 }
 
@@ -55,8 +124,38 @@ impl StreamFault {
             StreamFault::PadBit,
             StreamFault::Tail,
             StreamFault::Ended,
+            StreamFault::EqualAttribute,
         ];
         all.extend(Loose::ALL.map(StreamFault::Loose));
+        all
+    }
+
+    /// Those that an attribute can have beside being equal to another.
+    pub fn of_an_attribute() -> Vec<StreamFault> {
+        let mut all = vec![
+            StreamFault::Code,
+            StreamFault::UriNumber,
+            StreamFault::NameNumber,
+            StreamFault::LocalNumber,
+            StreamFault::GlobalNumber,
+            StreamFault::EmptyTable,
+            StreamFault::NotFewestOctets,
+            StreamFault::NumberTooLarge,
+            StreamFault::SixOctets,
+            StreamFault::NoChar,
+            StreamFault::StringTooLong,
+            StreamFault::EmptyName,
+            StreamFault::Ended,
+        ];
+        let loose = [
+            Loose::UriLiteral,
+            Loose::NameLiteral,
+            Loose::ValueLiteralLocal,
+            Loose::ValueLiteralGlobal,
+            Loose::ValueGlobal,
+            Loose::AttributeProduction,
+        ];
+        all.extend(loose.map(StreamFault::Loose));
         all
     }
 }
@@ -67,38 +166,89 @@ pub struct FaultyStream {
     pub octets: Vec<u8>,
     pub number: u32,
     pub index: u32,
+    /// Whether the fault stands in the very event of an equal attribute.
+    pub is_pair: bool,
 }
 
 /// Puts one fault into the strict form of a list inside the limits; none where the one drawn has no
 /// place in it.
-pub fn faulty_stream(rng: &mut Prng, strict: &Encoded, events: &[Event]) -> Option<FaultyStream> {
+///
+/// If the list has an equal attribute, at index `equal`, and else no fault, there are two faults
+/// then, every other time in the same event.
+pub fn faulty_stream(
+    rng: &mut Prng,
+    strict: &Encoded,
+    events: &[Event],
+    equal: Option<usize>,
+) -> Option<FaultyStream> {
+    let within = equal.filter(|_| rng.one_in(2));
     let (fault, octets, number, index) = match rng.below(6) {
-        0 => loose_stream(rng, strict, events)?,
-        1 => end_fault(rng, strict)?,
-        _ => field_fault(rng, strict)?,
+        0 => loose_stream(rng, strict, events, within)?,
+        1 => end_fault(rng, strict, within)?,
+        _ => field_fault(rng, strict, within)?,
+    };
+    let is_pair = equal == Some(index);
+    let (number, index) = match equal {
+        Some(equal) if index > equal => (SHAPE, equal),
+        // Behind the faults of its content, before LOOSE of its production.
+        Some(_) if is_pair && fault == StreamFault::Loose(Loose::AttributeProduction) => {
+            (SHAPE, index)
+        }
+        _ => (number, index),
     };
     Some(FaultyStream {
         fault,
         octets,
         number,
         index: index as u32,
+        is_pair,
     })
 }
 
 type Drawn = (StreamFault, Vec<u8>, u32, usize);
 
-fn loose_stream(rng: &mut Prng, strict: &Encoded, events: &[Event]) -> Option<Drawn> {
-    if strict.loose.is_empty() {
-        return None;
-    }
-    let at = rng.below(strict.loose.len());
+/// One of the places that are those of event `within`, if one is named.
+fn place<T>(
+    rng: &mut Prng,
+    all: &[T],
+    within: Option<usize>,
+    event: impl Fn(&T) -> usize,
+) -> Option<usize> {
+    let Some(within) = within else {
+        return (!all.is_empty()).then(|| rng.below(all.len()));
+    };
+    let inside: Vec<usize> = (0..all.len())
+        .filter(|&k| event(&all[k]) == within)
+        .collect();
+    (!inside.is_empty()).then(|| *rng.pick(&inside))
+}
+
+fn loose_stream(
+    rng: &mut Prng,
+    strict: &Encoded,
+    events: &[Event],
+    within: Option<usize>,
+) -> Option<Drawn> {
+    let at = place(rng, &strict.loose, within, |(_, event)| *event)?;
     let (form, index) = strict.loose[at];
-    let loose = encode_loosely(strict.settings, events, Some(at));
+    let mut taken = strict.taken.clone();
+    taken.push(at);
+    let loose = encode_loosely(strict.settings, events, &taken);
     Some((StreamFault::Loose(form), loose.octets(), LOOSE, index))
 }
 
-fn end_fault(rng: &mut Prng, strict: &Encoded) -> Option<Drawn> {
+fn end_fault(rng: &mut Prng, strict: &Encoded, within: Option<usize>) -> Option<Drawn> {
     let (mut octets, bits) = strict.octets_and_bits();
+    if let Some(event) = within {
+        // The octets at whose ends the event is not whole yet.
+        let from = strict.bits_before(event).div_ceil(8);
+        let to = strict.bits_before(event + 1).div_ceil(8);
+        if from == to {
+            return None;
+        }
+        octets.truncate(rng.between(from, to - 1));
+        return Some((StreamFault::Ended, octets, ENDED, event));
+    }
     match rng.below(3) {
         0 => {
             let pads = octets.len() * 8 - bits;
@@ -140,9 +290,9 @@ fn beyond(rng: &mut Prng, among: usize, byte_aligned: bool) -> Option<usize> {
     })
 }
 
-fn field_fault(rng: &mut Prng, strict: &Encoded) -> Option<Drawn> {
+fn field_fault(rng: &mut Prng, strict: &Encoded, within: Option<usize>) -> Option<Drawn> {
     let mut faulty = strict.clone();
-    let at = rng.below(faulty.fields.len());
+    let at = place(rng, &faulty.fields, within, |field| field.event)?;
     let field = &mut faulty.fields[at];
     let index = field.event;
     let (fault, shape, number) = match field.shape.clone() {
@@ -323,10 +473,24 @@ pub enum ListFault {
     StringTooLong,
     EmptyName,
     NilOrType,
+    EqualAttribute,
 }
 
 impl ListFault {
-    pub const ALL: [ListFault; 16] = [
+    /// Those that an attribute can have beside being equal to another.
+    pub const OF_AN_ATTRIBUTE: [ListFault; 9] = [
+        ListFault::NoKind,
+        ListFault::UnusedCell,
+        ListFault::PartOfAnEvent,
+        ListFault::MissingEnd,
+        ListFault::OutsideTheStore,
+        ListFault::NoChar,
+        ListFault::StringTooLong,
+        ListFault::EmptyName,
+        ListFault::NilOrType,
+    ];
+
+    pub const ALL: [ListFault; 17] = [
         ListFault::NoKind,
         ListFault::UnusedCell,
         ListFault::PartOfAnEvent,
@@ -343,6 +507,7 @@ impl ListFault {
         ListFault::StringTooLong,
         ListFault::EmptyName,
         ListFault::NilOrType,
+        ListFault::EqualAttribute,
     ];
 }
 
@@ -352,15 +517,22 @@ pub struct FaultyList {
     pub list: Stored,
     pub number: u32,
     pub index: u32,
+    /// Whether the fault stands in the very event of an equal attribute.
+    pub is_pair: bool,
 }
 
 /// Puts one fault into a well-formed list inside the limits; none where the one drawn has no place
 /// in it.
-pub fn faulty_list(rng: &mut Prng, list: &Stored) -> Option<FaultyList> {
+///
+/// If the list has an equal attribute, at index `equal`, and else no fault, there are two faults
+/// then, every other time in the same event. All of the writer's come before SHAPE of the equal
+/// attribute, or are SHAPE, too.
+pub fn faulty_list(rng: &mut Prng, list: &Stored, equal: Option<usize>) -> Option<FaultyList> {
     let mut list = list.clone();
     let fault = *rng.pick(&ListFault::ALL);
     let count = list.cells.len() / CELLS;
-    let at = rng.below(count);
+    let within = equal.filter(|_| rng.one_in(2));
+    let at = within.unwrap_or_else(|| rng.below(count));
     let (number, index) = match fault {
         ListFault::NoKind => {
             list.cells[at * CELLS] = *rng.pick(&[0, 9, 256, 0x103, 0x8000_0003, u32::MAX]);
@@ -421,6 +593,8 @@ pub fn faulty_list(rng: &mut Prng, list: &Stored) -> Option<FaultyList> {
         }
         // The caller draws the settings: see `dropped_kind`.
         ListFault::DroppedKind => return None,
+        // The caller has put it in: see `EqualAttribute`.
+        ListFault::EqualAttribute => return None,
         ListFault::OutsideTheStore => {
             let strings = strings_of(list.cells[at * CELLS])?;
             if strings.is_empty() {
@@ -476,11 +650,17 @@ pub fn faulty_list(rng: &mut Prng, list: &Stored) -> Option<FaultyList> {
             (NAME, at)
         }
     };
+    let is_pair = equal == Some(index);
+    let (number, index) = match equal {
+        Some(equal) if index > equal => (SHAPE, equal),
+        _ => (number, index),
+    };
     Some(FaultyList {
         fault,
         list,
         number,
         index: index as u32,
+        is_pair,
     })
 }
 

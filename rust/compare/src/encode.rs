@@ -1,7 +1,7 @@
 //! The strict form of a well-formed list, laid out field by field from the scope's words; no size
-//! is limited here.
+//! is limited here, and equal attributes are laid out like others.
 //!
-//! In place of one of the strict form's choices another may be taken that stands for the same text
+//! In place of some of the strict form's choices others may be taken that stand for the same text
 //! or event: a stream that is LOOSE.
 
 use std::collections::HashMap;
@@ -149,6 +149,8 @@ pub struct Encoded {
     pub events: usize,
     /// Each place where a loose form could have been taken, with the index of its event.
     pub loose: Vec<(Loose, usize)>,
+    /// Those where it was.
+    pub taken: Vec<usize>,
     pub forms: Vec<Form>,
     pub counts: Counts,
 }
@@ -167,12 +169,13 @@ pub struct Counts {
 
 /// The strict form of a well-formed list.
 pub fn encode(settings: Settings, events: &[Event]) -> Encoded {
-    encode_loosely(settings, events, None)
+    encode_loosely(settings, events, &[])
 }
 
-/// The strict form but for the loose form at place `loose` of [`Encoded::loose`].
-pub fn encode_loosely(settings: Settings, events: &[Event], loose: Option<usize>) -> Encoded {
-    let mut encoder = Encoder::new(settings, loose);
+/// The strict form but for the loose forms at these places of [`Encoded::loose`]. Behind a place
+/// that is taken there may be others than in the strict form.
+pub fn encode_loosely(settings: Settings, events: &[Event], taken: &[usize]) -> Encoded {
+    let mut encoder = Encoder::new(settings, taken.to_vec());
     for event in events {
         encoder.event(event);
         encoder.index += 1;
@@ -186,6 +189,7 @@ pub fn encode_loosely(settings: Settings, events: &[Event], loose: Option<usize>
         fields: encoder.fields,
         events: events.len(),
         loose: encoder.loose,
+        taken: encoder.taken,
         forms: encoder.forms,
         counts: encoder.counts,
     }
@@ -220,14 +224,14 @@ struct Encoder {
     grammars: HashMap<usize, [Vec<Production>; 2]>,
     state: State,
     open: Vec<usize>,
-    take: Option<usize>,
+    taken: Vec<usize>,
     loose: Vec<(Loose, usize)>,
     forms: Vec<Form>,
     counts: Counts,
 }
 
 impl Encoder {
-    fn new(settings: Settings, take: Option<usize>) -> Encoder {
+    fn new(settings: Settings, taken: Vec<usize>) -> Encoder {
         let mut encoder = Encoder {
             settings,
             index: 0,
@@ -238,7 +242,7 @@ impl Encoder {
             grammars: HashMap::new(),
             state: State::Document,
             open: Vec::new(),
-            take,
+            taken,
             loose: Vec::new(),
             forms: Vec::new(),
             counts: Counts {
@@ -304,7 +308,7 @@ impl Encoder {
     /// Notes that a loose form could stand here; true if it is to be taken.
     fn loosely(&mut self, form: Loose) -> bool {
         self.loose.push((form, self.index));
-        self.take == Some(self.loose.len() - 1)
+        self.taken.contains(&(self.loose.len() - 1))
     }
 
     fn event(&mut self, event: &Event) {
@@ -623,6 +627,11 @@ struct Bits {
 
 impl Bits {
     fn push(&mut self, value: usize, width: u32) {
+        if width == 8 && self.count == 8 * self.octets.len() {
+            self.octets.push(value as u8);
+            self.count += 8;
+            return;
+        }
         for k in (0..width).rev() {
             if self.count == 8 * self.octets.len() {
                 self.octets.push(0);
@@ -678,6 +687,15 @@ impl Encoded {
             field.lay(self.settings, &mut bits);
         }
         (bits.octets, bits.count)
+    }
+
+    /// The number of bits of the fields of all events before this one.
+    pub fn bits_before(&self, event: usize) -> usize {
+        let mut bits = Bits::default();
+        for field in self.fields.iter().take_while(|field| field.event < event) {
+            field.lay(self.settings, &mut bits);
+        }
+        bits.count
     }
 
     /// The index of the event in which the first `octets` octets of the stream end, where they are

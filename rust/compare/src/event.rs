@@ -74,6 +74,20 @@ pub fn document(events: Vec<Event>) -> Vec<Event> {
     all
 }
 
+/// Whether the start tag with which `events` end has an attribute of this name.
+pub fn tag_has(events: &[Event], uri: &[u32], name: &[u32]) -> bool {
+    for event in events.iter().rev() {
+        match event {
+            Event::Attribute {
+                uri: u, name: n, ..
+            } if u == uri && n == name => return true,
+            Event::Attribute { .. } => {}
+            _ => break,
+        }
+    }
+    false
+}
+
 /// The first of the two cells of each string that a kind has; none for a kind without meaning.
 /// Cells 5 and 6 are a prefix's, of which none are kept; behind them is an attribute's value.
 pub fn strings_of(kind: u32) -> Option<&'static [usize]> {

@@ -1,7 +1,7 @@
 //! Random well-formed event lists.
 
 use crate::encode::encode;
-use crate::event::{text, Event, Text, XML_URI, XSI_URI};
+use crate::event::{tag_has, text, Event, Text, XML_URI, XSI_URI};
 use crate::lent::Settings;
 use crate::prng::Prng;
 use crate::sizes::{
@@ -214,6 +214,7 @@ fn element(rng: &mut Prng, pools: &Pools, all: &mut Vec<Event>) {
     all.push(Event::StartElement { uri, name });
 }
 
+/// An attribute, unless the start tag has one of its name.
 fn attribute(rng: &mut Prng, pools: &Pools, all: &mut Vec<Event>) {
     let mut uri = rng.pick(&pools.uris).clone();
     let name = rng.pick(&pools.names).clone();
@@ -221,7 +222,9 @@ fn attribute(rng: &mut Prng, pools: &Pools, all: &mut Vec<Event>) {
     if uri == text(XSI_URI) && (name == text("nil") || name == text("type")) {
         uri = text("");
     }
-    all.push(Event::Attribute { uri, name, value });
+    if !tag_has(all, &uri, &name) {
+        all.push(Event::Attribute { uri, name, value });
+    }
 }
 
 fn misc(rng: &mut Prng, settings: Settings, pools: &Pools, all: &mut Vec<Event>) {
@@ -360,20 +363,30 @@ fn uris(rng: &mut Prng) -> Vec<Event> {
     whole(inner)
 }
 
+/// New names, and names again, as attributes: all in one start tag, where those again have no
+/// place, or in nested elements of two names.
 fn names(rng: &mut Prng) -> Vec<Event> {
-    let count = rng.between(MAX_NAMES - 16, MAX_NAMES - 4);
-    let mut inner = Vec::new();
+    let count = rng.between(MAX_NAMES - 17, MAX_NAMES - 5);
+    let in_a_tag = *rng.pick(&[3, 20, 1_000]);
+    let mut all = vec![Event::StartDocument, start("r")];
+    let mut open = 1;
     for k in 0..count {
+        if rng.one_in(in_a_tag) && open < MAX_OPEN {
+            all.push(start(if rng.one_in(2) { "r" } else { "s" }));
+            open += 1;
+        }
         for number in [k, rng.below(k + 1)] {
             let uri = if number % 7 == 0 { text("u") } else { text("") };
-            inner.push(Event::Attribute {
-                uri,
-                name: numbered("n", number),
-                value: numbered("v", rng.below(4)),
-            });
+            let name = numbered("n", number);
+            let value = numbered("v", rng.below(4));
+            if !tag_has(&all, &uri, &name) {
+                all.push(Event::Attribute { uri, name, value });
+            }
         }
     }
-    whole(inner)
+    all.extend(vec![Event::EndElement; open]);
+    all.push(Event::EndDocument);
+    all
 }
 
 /// Some ten values an element, and one in eight looked up again: more of either is too many events

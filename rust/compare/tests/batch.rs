@@ -51,6 +51,8 @@ fn answers_in_order() {
         w 1 0 0 0 short=octets SD,SE:0:0:0:1,EE,ED 61\n\
         w 1 0 0 0 cap=7 short=work BAD -\n\
         r 1 0 0 0 fragment=0 8001026104\n\
+        r 1 0 0 0 800102610101026b03780002\n\
+        w 1 0 0 0 SD,SE:0:0:0:1,AT:0:0:0:1:0:1,AT:1:0:0:1:0:0,EE,ED 61\n\
         w 1 0 0 0 SD,SE:0:0,EE,ED 61\n\
         m SD,SE:0:0:0:8,EE,ED 72,65,61,64,69,6e,67,73\n\
         m - -\n\
@@ -84,6 +86,8 @@ fn answers_in_order() {
         "1 0 -".to_string(),
         "1 0 -".to_string(),
         "6 2 - -".to_string(),
+        "14 3 - -".to_string(),
+        "14 3 -".to_string(),
         "14 1 -".to_string(),
         "0 0 -".to_string(),
         "16 0 -".to_string(),

@@ -13,7 +13,7 @@ use std::sync::Mutex;
 use compare::check::Comparison;
 use compare::damage::{
     damaged_fields, damaged_list, damaged_stream, dropped_kind, faulty_list, faulty_stream,
-    random_stream, ListFault, StreamFault,
+    random_stream, EqualAttribute, ListFault, StreamFault,
 };
 use compare::encode::{encode, Encoded, Form};
 use compare::event::{Event, Stored};
@@ -43,6 +43,9 @@ struct Seen {
     forms: BTreeMap<Form, usize>,
     stream_faults: BTreeMap<StreamFault, usize>,
     list_faults: BTreeMap<ListFault, usize>,
+    /// Faults in the event of an equal attribute.
+    stream_pairs: BTreeMap<StreamFault, usize>,
+    list_pairs: BTreeMap<ListFault, usize>,
     profiles: BTreeMap<(Profile, u32), usize>,
 }
 
@@ -66,6 +69,8 @@ impl Seen {
         join(&mut self.forms, other.forms);
         join(&mut self.stream_faults, other.stream_faults);
         join(&mut self.list_faults, other.list_faults);
+        join(&mut self.stream_pairs, other.stream_pairs);
+        join(&mut self.list_pairs, other.list_pairs);
         join(&mut self.profiles, other.profiles);
     }
 }
@@ -151,6 +156,9 @@ impl Run {
             }
             self.faulty(settings, &events, &strict, &list)?;
         }
+        if number == 0 && (profile != Profile::Small || self.rng.one_in(2)) {
+            self.equal(settings, &events, profile)?;
+        }
         self.damaged(settings, &strict, &octets, &list)?;
         if self.rng.one_in(4) {
             self.misused(settings, &octets, &list)?;
@@ -211,13 +219,13 @@ impl Run {
         list: &Stored,
     ) -> Checked {
         for _ in 0..4 {
-            if let Some(faulty) = faulty_stream(&mut self.rng, strict, events) {
+            if let Some(faulty) = faulty_stream(&mut self.rng, strict, events, None) {
                 let answer = (faulty.number, faulty.index);
                 self.read_has(settings, &faulty.octets, answer)
                     .map_err(|error| format!("{:?}: {error}", faulty.fault))?;
                 count(&mut self.seen.stream_faults, faulty.fault);
             }
-            if let Some(faulty) = faulty_list(&mut self.rng, list) {
+            if let Some(faulty) = faulty_list(&mut self.rng, list, None) {
                 let answer = (faulty.number, faulty.index);
                 self.write_has(settings, &faulty.list, answer)
                     .map_err(|error| format!("{:?}: {error}", faulty.fault))?;
@@ -233,6 +241,62 @@ impl Run {
             }
             self.write_has(dropping, list, (SHAPE, index as u32))?;
             count(&mut self.seen.list_faults, ListFault::DroppedKind);
+        }
+        Ok(())
+    }
+
+    /// An attribute twice in a start tag of a list that is accepted, by itself and, in small lists,
+    /// with faults whose answer is known. Other lists may have no room for a new value.
+    fn equal(&mut self, settings: Settings, events: &[Event], profile: Profile) -> Checked {
+        let is_small = profile == Profile::Small;
+        let Some(equal) = EqualAttribute::new(&mut self.rng, events, is_small) else {
+            return Ok(());
+        };
+        let answer = (SHAPE, equal.index as u32);
+        let list = Stored::scattered(&equal.events, &mut self.rng);
+        self.write_has(settings, &list, answer)?;
+        count(&mut self.seen.list_faults, ListFault::EqualAttribute);
+        for by_any in [false, true] {
+            let stream = equal.stream(settings, by_any);
+            let octets = stream.octets();
+            if octets.len() > MAX_STREAM {
+                self.read_has(settings, &octets, (LONG, 0))?;
+                continue;
+            }
+            self.read_has(settings, &octets, answer)?;
+            count(&mut self.seen.stream_faults, StreamFault::EqualAttribute);
+            if is_small {
+                self.equal_and_faulty(settings, &equal, &stream, &list)?;
+            }
+        }
+        Ok(())
+    }
+
+    fn equal_and_faulty(
+        &mut self,
+        settings: Settings,
+        equal: &EqualAttribute,
+        stream: &Encoded,
+        list: &Stored,
+    ) -> Checked {
+        let index = Some(equal.index);
+        for _ in 0..3 {
+            if let Some(faulty) = faulty_stream(&mut self.rng, stream, &equal.events, index) {
+                let answer = (faulty.number, faulty.index);
+                self.read_has(settings, &faulty.octets, answer)
+                    .map_err(|error| format!("{:?}, equal {index:?}: {error}", faulty.fault))?;
+                if faulty.is_pair {
+                    count(&mut self.seen.stream_pairs, faulty.fault);
+                }
+            }
+            if let Some(faulty) = faulty_list(&mut self.rng, list, index) {
+                let answer = (faulty.number, faulty.index);
+                self.write_has(settings, &faulty.list, answer)
+                    .map_err(|error| format!("{:?}, equal {index:?}: {error}", faulty.fault))?;
+                if faulty.is_pair {
+                    count(&mut self.seen.list_pairs, faulty.fault);
+                }
+            }
         }
         Ok(())
     }
@@ -392,6 +456,8 @@ fn library_and_ordinary_implementation_agree() {
     println!("forms in accepted streams: {:?}", seen.forms);
     println!("faults in streams: {:?}", seen.stream_faults);
     println!("faults in lists: {:?}", seen.list_faults);
+    println!("in streams, of an equal attribute: {:?}", seen.stream_pairs);
+    println!("in lists, of an equal attribute: {:?}", seen.list_pairs);
     println!("lists near a size: {:?}", seen.profiles);
 
     assert!(seen.requests >= requests);
@@ -399,13 +465,13 @@ fn library_and_ordinary_implementation_agree() {
     // every size.
     let least = requests / 10_000;
     let times = |found: Option<&usize>| found.copied().unwrap_or(0);
-    for number in 0..=13 {
+    for number in 0..=14 {
         assert!(times(seen.reads.get(&number)) >= least, "read: {number}");
     }
     for number in [0, 1, 2, 8, 11, 12, 14, 15] {
         assert!(times(seen.writes.get(&number)) >= least, "write: {number}");
     }
-    for number in [0, 4, 5, 6, 7, 8, 9, 10, 11, 12, 13] {
+    for number in [0, 4, 5, 6, 7, 8, 9, 10, 11, 12, 13, 14] {
         let found = times(seen.damaged_streams.get(&number));
         assert!(found >= least, "damaged stream: {number}");
     }
@@ -426,6 +492,14 @@ fn library_and_ordinary_implementation_agree() {
     for fault in ListFault::ALL {
         let found = times(seen.list_faults.get(&fault));
         assert!(found >= least, "{fault:?}");
+    }
+    for fault in StreamFault::of_an_attribute() {
+        let found = times(seen.stream_pairs.get(&fault));
+        assert!(found >= least / 4, "of an equal attribute: {fault:?}");
+    }
+    for fault in ListFault::OF_AN_ATTRIBUTE {
+        let found = times(seen.list_pairs.get(&fault));
+        assert!(found >= least, "of an equal attribute: {fault:?}");
     }
     if !whole {
         return;

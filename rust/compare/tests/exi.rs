@@ -88,6 +88,9 @@ fn samples_that_are_refused() {
     );
     refused("check refused-tail.exi", b"", "13 TAIL, event 196: ");
     refused("check -", &[0x80; 16_385], "3 LONG, event 0: ");
+    // <a k="x" k=""/>
+    let equal = b"\x80\x01\x02a\x01\x01\x02k\x03x\x00\x02\x01\x00";
+    refused("check --byte-aligned -", equal, "14 SHAPE, event 3: ");
 }
 
 /// No number without a meaning can be asked for: there are no flags but those of the first four

@@ -10,11 +10,12 @@
 use std::collections::BTreeMap;
 
 use compare::damage::damaged_list;
-use compare::event::{characters, events, Event, Stored, CELLS};
+use compare::encode::encode;
+use compare::event::{attribute, characters, events, Event, Stored, CELLS};
 use compare::generate;
 use compare::lent::{
     ReadReply, ReaderMemory, ReaderPart, ReaderSizes, Settings, WriterMemory, WriterPart,
-    WriterSizes, BOTH, ENDED, LIMIT, LONG, ROOM, SETTINGS,
+    WriterSizes, BOTH, ENDED, LIMIT, LONG, ROOM, SETTINGS, SHAPE,
 };
 use compare::prng::Prng;
 use compare::readings::check::ReadingsComparison;
@@ -209,6 +210,24 @@ fn every_place_of_a_stamp() {
     // Of 24 * 260 stamps few exist, and of 5 * 260 movements.
     let expected = [(0, 168), (BAD_STAMP, 6_113), (BAD_MOVEMENT, 1_259)];
     assert_eq!(numbers, expected.into());
+}
+
+/// A reading with two stamps: its list is none of readings, and its stream has no list.
+#[test]
+fn two_stamps_on_one_reading() {
+    let mut both = ReadingsComparison::new();
+    let good = list(&[(stamp_text(0), "1"), (stamp_text(1), "2")]);
+    for (at, name) in [(8, "t"), (9, "t"), (9, "um")] {
+        let mut events = good.clone();
+        events.insert(at, attribute("", name, &stamp_text(2)));
+        assert_eq!(of_list(&mut both, &events), (STRUCTURE, 1));
+        for settings in [Settings::BIT_PACKED, Settings::BYTE_ALIGNED] {
+            let octets = encode(settings, &events).octets();
+            let usual = (ReadingsSizes::usual(), ReaderSizes::usual());
+            let reply = both.from_stream(settings, &octets, usual).unwrap();
+            assert_eq!((reply.number, reply.index), (SHAPE, at as u32));
+        }
+    }
 }
 
 /// As many readings as the text store holds, and one more; a fault in the one past it.

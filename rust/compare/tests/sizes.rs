@@ -372,7 +372,8 @@ fn local_names() {
             list_is_accepted(settings, &list(NEW, uri_of));
             list_is_refused(settings, &list(NEW + 1, uri_of), LIMIT, LAST);
             let mut again = list(NEW, uri_of);
-            again.insert(2 + NEW, attribute(uri_of(5), "n5", "y"));
+            let child = [element("", "r"), attribute(uri_of(5), "n5", "y"), END];
+            again.splice(2 + NEW..2 + NEW, child);
             list_is_accepted(settings, &again);
         }
         let strict = encode(settings, &list(NEW + 1, one_uri));
@@ -409,14 +410,29 @@ fn distinct_values() {
         list_is_accepted(settings, &other);
         other[2 + MAX_VALUES + 1] = characters("w");
         list_is_refused(settings, &other, LIMIT, LAST + 1);
-        // The full table is judged with the value, before the production.
-        let mut attributes: Vec<Event> = (0..MAX_VALUES)
-            .map(|k| attribute("", "n", &numbered("v", k)))
-            .collect();
-        list_is_accepted(settings, &in_root(attributes.clone()));
-        attributes.push(attribute("", "n", "w"));
-        list_is_refused(settings, &in_root(attributes), LIMIT, LAST);
+        // Values of attributes do, too.
+        let (full, _) = values_of_attributes(MAX_VALUES);
+        list_is_accepted(settings, &full);
+        let (over, last) = values_of_attributes(MAX_VALUES + 1);
+        list_is_refused(settings, &over, LIMIT, last as u32);
     }
+}
+
+/// Distinct values of attributes, 100 to each of nested elements, which all but the first have
+/// learned productions for; and the index of the last attribute.
+fn values_of_attributes(count: usize) -> (Vec<Event>, usize) {
+    let mut all = Vec::new();
+    let mut open = 0;
+    for k in 0..count {
+        if k % 100 == 0 {
+            all.push(element("", "r"));
+            open += 1;
+        }
+        all.push(attribute("", &numbered("n", k % 100), &numbered("v", k)));
+    }
+    let last = all.len();
+    all.extend(vec![END; open]);
+    (document(all), last)
 }
 
 #[test]
@@ -852,7 +868,7 @@ fn with_loose_production(settings: Settings, list: &[Event], event: usize) -> Ve
         .iter()
         .position(|(form, index)| productions.contains(form) && *index == event)
         .expect("a learned production");
-    encode_loosely(settings, list, Some(at)).octets()
+    encode_loosely(settings, list, &[at]).octets()
 }
 
 #[test]
@@ -867,9 +883,7 @@ fn a_loose_production_comes_between_content_and_limits() {
         read_is_refused(settings, &octets, LOOSE, count as u32);
         list_is_refused(settings, &deep, LIMIT, count as u32);
         // One value too many in an attribute by AT(*), though a production is learned.
-        let all = (0..MAX_VALUES + 1).map(|k| attribute("", "n", &numbered("v", k)));
-        let values = in_root(all.collect());
-        let last = 2 + MAX_VALUES;
+        let (values, last) = values_of_attributes(MAX_VALUES + 1);
         let octets = with_loose_production(settings, &values, last);
         read_is_refused(settings, &octets, LIMIT, last as u32);
         let octets = with_loose_production(settings, &values, last - 1);

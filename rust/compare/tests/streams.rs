@@ -104,12 +104,14 @@ fn a_global_hit_joins_no_local_table() {
 fn the_empty_value_joins_no_table() {
     strict(
         BYTES,
-        "80 01 02 61 01 01 02 6B 02 01 01 01 02 6A 03 78 01 01 02 00",
+        "80 01 02 61 01 01 02 6B 02 01 01 01 02 6A 03 78 02 02 01 00 00 02 01 03 00 00",
         vec![
             element("", "a"),
             attribute("", "k", ""),
             attribute("", "j", "x"),
+            element("", "a"),
             attribute("", "k", "x"),
+            END,
             END,
         ],
     );
@@ -220,38 +222,29 @@ fn a_zero_pad_bit_can_be_the_end_document() {
 
 #[test]
 fn of_hits_only_a_global_value_hit_is_loose_by_itself() {
-    refused(
-        BYTES,
-        "80 01 02 61 01 01 02 6B 03 78 01 01 01 00 01",
-        ENDED,
-        3,
-    );
-    refused(
-        BYTES,
-        "80 01 02 61 01 01 02 6B 03 78 01 01 01 02 6B",
-        LOOSE,
-        3,
-    );
-    refused(
-        BYTES,
-        "80 01 02 61 01 01 02 6B 03 78 01 01 01 00 01 00",
-        LOOSE,
-        3,
-    );
-    refused(BYTES, "80 01 02 61 01 01 02 6B 03 78 00 01", LOOSE, 3);
-    refused(BYTES, "80 01 02 61 01 01 02 6B 03 78 00 03 78", LOOSE, 3);
-    // k="x" j="y", and k again by a global number: x is local to k, y is not.
-    let two = "80 01 02 61 01 01 02 6B 03 78 01 01 01 02 6A 03 79 01 01";
-    refused(BYTES, &format!("{two} 00"), LOOSE, 4);
-    refused(BYTES, &format!("{two} 02"), REFERENCE, 4);
+    // <a k="x"><a, and in it k by AT(*), though AT(k) is learned: by a hit, by a literal, by a hit
+    // and with its value.
+    let child = "80 01 02 61 01 01 02 6B 03 78 01 02 01 00 00";
+    refused(BYTES, &format!("{child} 02 01 01 00 01"), ENDED, 4);
+    refused(BYTES, &format!("{child} 02 01 01 02 6B"), LOOSE, 4);
+    refused(BYTES, &format!("{child} 02 01 01 00 01 00"), LOOSE, 4);
+    // By AT(k), with x by a global number and as a literal.
+    refused(BYTES, &format!("{child} 01 01"), LOOSE, 4);
+    refused(BYTES, &format!("{child} 01 03 78"), LOOSE, 4);
+    // <a k="x" j="y"><a, and in it k by a global number: x is local to k, y is not.
+    let two = "80 01 02 61 01 01 02 6B 03 78 01 01 01 02 6A 03 79 02 02 01 00 00 02 01";
+    refused(BYTES, &format!("{two} 00"), LOOSE, 5);
+    refused(BYTES, &format!("{two} 02"), REFERENCE, 5);
     strict(
         BYTES,
-        &format!("{two} 01 02 00"),
+        &format!("{two} 01 03 00 00"),
         vec![
             element("", "a"),
             attribute("", "k", "x"),
             attribute("", "j", "y"),
+            element("", "a"),
             attribute("", "k", "y"),
+            END,
             END,
         ],
     );

@@ -15,14 +15,17 @@ const CROSS: &str = include_str!("../vectors/cross.txt");
 const P2_BASE: &str = include_str!("../vectors/p2-base.txt");
 const P2_EDGES: &str = include_str!("../vectors/p2-edges.txt");
 const P2_RANDOM: &str = include_str!("../vectors/p2-random.txt");
+const P3_BASE: &str = include_str!("../vectors/p3-base.txt");
+const P3_EDGES: &str = include_str!("../vectors/p3-edges.txt");
+const P3_RANDOM: &str = include_str!("../vectors/p3-random.txt");
 const P12_EDGES: &str = include_str!("../vectors/p12-edges.txt");
 const P12_RANDOM: &str = include_str!("../vectors/p12-random.txt");
 
 /// Lines of the base whose answers changed, in the order of landing: the last that has a line holds.
-const CHANGED: [&str; 1] = [P2_BASE];
+const CHANGED: [&str; 2] = [P2_BASE, P3_BASE];
 
 /// The requests of document 02 that have landed, by their numbers. Each landing adds its own.
-const LANDED: [u32; 2] = [2, 12];
+const LANDED: [u32; 3] = [2, 3, 12];
 
 /// The lines of a file, each as a request and its answer.
 fn lines(file: &str) -> impl Iterator<Item = (&str, &str)> {
@@ -66,7 +69,7 @@ fn both_sides_of_every_size() {
 #[test]
 fn random_lists_and_streams() {
     let (all, changed) = base(RANDOM);
-    assert_eq!(changed, 44);
+    assert_eq!(changed, 78);
     run(all.into_iter(), 1_500);
 }
 
@@ -76,6 +79,14 @@ fn longer_strings_and_more_values() {
     run(lines(P2_BASE), 74);
     run(lines(P2_EDGES), 109);
     run(lines(P2_RANDOM), 472);
+}
+
+/// P3: equal attributes in one start tag.
+#[test]
+fn equal_attributes() {
+    run(lines(P3_BASE), 32);
+    run(lines(P3_EDGES), 136);
+    run(lines(P3_RANDOM), 600);
 }
 
 /// P12: readings of lists, and lists of readings.
@@ -144,7 +155,7 @@ const MOST: &str = "18446744073709551615";
 #[test]
 fn requests_are_printed_as_they_stand() {
     let files = [
-        EDGES, RANDOM, ROOM, P2_EDGES, P2_RANDOM, P12_EDGES, P12_RANDOM,
+        EDGES, RANDOM, ROOM, P2_EDGES, P2_RANDOM, P3_EDGES, P3_RANDOM, P12_EDGES, P12_RANDOM,
     ];
     let all = files.into_iter().flat_map(lines);
     let mut printed = 0;
@@ -158,7 +169,7 @@ fn requests_are_printed_as_they_stand() {
             printed += 1;
         }
     }
-    assert_eq!(printed, 3_807);
+    assert_eq!(printed, 4_543);
 }
 
 /// What a setting asks for that has not landed is SETTINGS before anything else; but ROOM comes

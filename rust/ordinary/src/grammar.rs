@@ -165,6 +165,8 @@ pub struct Grammars {
     /// Indices into `elements`, innermost last: so many of these.
     open: [u8; MAX_OPEN],
     depth: usize,
+    /// The attributes that the newest start tag has had: a bit for each name.
+    attributes: u128,
     learned: Vec<Learned>,
     learned_by_symbol: Buckets<512>,
 }
@@ -183,6 +185,7 @@ impl Grammars {
             by_name: [None; MAX_NAMES],
             open: [0; MAX_OPEN],
             depth: 0,
+            attributes: 0,
             learned: Vec::with_capacity(8),
             learned_by_symbol: Buckets::new(),
         }
@@ -235,6 +238,17 @@ impl Grammars {
     /// The innermost open element.
     pub fn open_element(&self) -> Option<NameId> {
         Some(self.elements[self.innermost()?].element)
+    }
+
+    /// Notes an attribute of the start tag, which must not have had one of this name.
+    pub fn note_attribute(&mut self, name: NameId) -> Result<(), Refusal> {
+        const { assert!(MAX_NAMES <= u128::BITS as usize) }
+        let bit = 1 << name.index();
+        if self.attributes & bit != 0 {
+            return Err(Refusal::Shape);
+        }
+        self.attributes |= bit;
+        Ok(())
     }
 
     /// Whether a learned production fits.
@@ -323,6 +337,7 @@ impl Grammars {
                     self.depth += 1;
                 }
                 self.state = State::StartTagContent;
+                self.attributes = 0;
             }
             Terminal::Attribute => {}
             Terminal::EndElement => {

@@ -77,6 +77,7 @@ impl Reader<'_> {
             Terminal::Attribute => {
                 let owner = self.qname(&mut symbol)?;
                 let value = self.value(owner)?;
+                self.grammars.note_attribute(owner)?;
                 let (uri, name) = self.strings.name_texts(owner);
                 Event::Attribute { uri, name, value }
             }

@@ -28,7 +28,8 @@ pub enum Refusal {
     Limit = 12,
     /// A pad bit is set, or octets follow the end.
     Tail = 13,
-    /// Kinds or order of events break the rules of a list.
+    /// Kinds or order of events break the rules of a list, or a start tag has two attributes of one
+    /// name.
     Shape = 14,
     /// A string passes the end of the text store.
     Place = 15,

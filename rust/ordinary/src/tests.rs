@@ -302,8 +302,16 @@ fn streams_that_show_a_mistake() {
     // The empty value joins no table.
     both_ways(
         BYTES,
-        "80 01 02 61 01 01 02 6B 02 01 01 01 02 6A 03 78 01 01 02 00",
-        vec![se("a"), at("k", ""), at("j", "x"), at("k", "x"), Ee],
+        "80 01 02 61 01 01 02 6B 02 01 01 01 02 6A 03 78 02 02 01 00 00 02 01 03 00 00",
+        vec![
+            se("a"),
+            at("k", ""),
+            at("j", "x"),
+            se("a"),
+            at("k", "x"),
+            Ee,
+            Ee,
+        ],
     );
     // The width of a URI comes from the number of URIs and the miss.
     both_ways(
@@ -327,13 +335,15 @@ fn a_value_number_of_two_octets() {
 #[test]
 fn refusals_in_their_order() {
     // A hit under AT(*) where a learned production fits is loose after the whole content.
-    let again = "80 01 02 61 01 01 02 6B 03 78 01 01 01 00 01";
-    read_refused(BYTES, again, Refusal::Ended, 3);
-    read_refused(BYTES, &format!("{again} 00"), Refusal::Loose, 3);
-    read_refused(BYTES, &format!("{again} 01 01"), Refusal::Loose, 3);
+    let child = "80 01 02 61 01 01 02 6B 03 78 01 02 01 00 00";
+    let again = format!("{child} 02 01 01 00 01");
+    read_refused(BYTES, &again, Refusal::Ended, 4);
+    read_refused(BYTES, &format!("{again} 00"), Refusal::Loose, 4);
+    read_refused(BYTES, &format!("{again} 03"), Refusal::Ended, 4);
+    read_refused(BYTES, &format!("{again} 03 79"), Refusal::Loose, 4);
     // A literal name there is loose at once.
-    let literal_again = "80 01 02 61 01 01 02 6B 03 78 01 01 01 02 6B";
-    read_refused(BYTES, literal_again, Refusal::Loose, 3);
+    let literal_again = format!("{child} 02 01 01 02 6B");
+    read_refused(BYTES, &literal_again, Refusal::Loose, 4);
     // A local hit where the name has no value.
     let other = "80 01 02 61 01 01 02 6B 03 78 01 01 01 00 00 00";
     read_refused(BYTES, other, Refusal::Reference, 3);
@@ -516,6 +526,131 @@ fn names_that_a_writer_refuses() {
             Ee,
         ]),
     );
+}
+
+/// The second attribute of one URI and local name in a start tag is SHAPE at its index.
+#[test]
+fn equal_attributes() {
+    let shape = |list: &[E], index| {
+        for s in [BITS, BYTES, settings(1, 0, 1, 1)] {
+            write_refused(s, list, Refusal::Shape, index);
+        }
+    };
+    let (k, j) = (|value| at("k", value), |value| at("j", value));
+    shape(&[Sd, se("a"), k("x"), k("x"), Ee, Ed], 3);
+    shape(&[Sd, se("a"), k("x"), k("y"), Ee, Ed], 3);
+    shape(&[Sd, se("a"), k(""), k(""), Ee, Ed], 3);
+    shape(&[Sd, se("a"), k("x"), j("x"), k(""), Ee, Ed], 4);
+    shape(&[Sd, se("a"), at("a", ""), at("a", ""), Ee, Ed], 3);
+    let base = at_in(XML, "base", "x");
+    shape(&[Sd, se("a"), base.clone(), base, Ee, Ed], 3);
+    // In a child, and in an element that comes again.
+    shape(&[Sd, se("a"), k(""), se("b"), j(""), k(""), k("")], 6);
+    let again = [Sd, se("a"), se("b"), k(""), Ee, se("b"), k(""), k("")];
+    shape(&again, 7);
+
+    // By the learned code, and by AT(*): before its LOOSE.
+    let first = "80 01 02 61 01 01 02 6B 03 78";
+    read_refused(BYTES, &format!("{first} 00 02"), Refusal::Shape, 3);
+    read_refused(BYTES, &format!("{first} 00 00"), Refusal::Shape, 3);
+    let any = format!("{first} 01 01 01 00 01");
+    read_refused(BYTES, &format!("{any} 02"), Refusal::Shape, 3);
+    read_refused(BYTES, &format!("{any} 00"), Refusal::Shape, 3);
+    let mistake = "80 01 02 61 01 01 02 6B 02 01 01 01 02 6A 03 78 01 01";
+    read_refused(BYTES, mistake, Refusal::Shape, 4);
+    // Another URI is another name.
+    let other = "80 01 02 61 01 01 02 6B 03 78 01 01 00 01 75 02 6B 02";
+    both_ways(
+        BYTES,
+        &format!("{other} 02 00"),
+        vec![se("a"), k("x"), at_in("u", "k", ""), Ee],
+    );
+    read_refused(BYTES, &format!("{other} 00 02"), Refusal::Shape, 4);
+    read_refused(BYTES, &format!("{other} 01 02"), Refusal::Shape, 4);
+    // The next element starts anew.
+    both_ways(
+        BYTES,
+        "80 01 02 61 01 01 02 6B 03 78 01 02 01 00 00 01 00 02 00 00",
+        vec![se("a"), k("x"), se("a"), k("x"), Ee, Ee],
+    );
+}
+
+/// SHAPE of an equal attribute comes behind all that its content is refused for.
+#[test]
+fn equal_attributes_behind_their_content() {
+    let refused = |value: &str, refusal| {
+        let list = [Sd, se("a"), at("k", "x"), at("k", value), Ee, Ed];
+        write_refused(BYTES, &list, refusal, 3);
+    };
+    refused("\0", Refusal::Character);
+    refused(&"y".repeat(MAX_STRING), Refusal::Shape);
+    refused(&"y".repeat(MAX_STRING + 1), Refusal::Limit);
+    let (mut cells, store) = lay(&[Sd, se("a"), at("k", "x"), at("k", "x"), Ee, Ed]);
+    cells[3 * CELLS + 7] = store.len() as u32;
+    let reply = do_write_cells(BYTES, &cells, &store).0;
+    assert_eq!((reply.number, reply.index), (15, 3));
+
+    // A value too many, and one too long for the store.
+    let mut list = vec![Sd, se("r")];
+    list.extend((0..MAX_VALUES).map(|i| ch(&format!("v{i}"))));
+    list.extend([se("a"), at("k", "v7"), at("k", "v7")]);
+    write_refused(BYTES, &list, Refusal::Shape, MAX_VALUES as u32 + 4);
+    *list.last_mut().unwrap() = at("k", "w");
+    write_refused(BYTES, &list, Refusal::Limit, MAX_VALUES as u32 + 4);
+    let long = |first: &str| first.to_string() + &"y".repeat(MAX_STRING - 1);
+    let mut list = vec![Sd, se("r"), ch(&long("1")), ch(&long("2")), ch(&long("3"))];
+    list.extend([se("a"), at("k", ""), at("k", &long("1"))]);
+    write_refused(BYTES, &list, Refusal::Shape, 7);
+    *list.last_mut().unwrap() = at("k", &long("4"));
+    write_refused(BYTES, &list, Refusal::Limit, 7);
+
+    let first = "80 01 02 61 01 01 02 6B 03 78";
+    for (second, refusal) in [
+        ("00", Refusal::Ended),
+        ("00 03", Refusal::Ended),
+        ("00 03 78", Refusal::Loose),
+        ("00 01", Refusal::Loose),
+        ("00 03 00", Refusal::Character),
+        ("00 82 00", Refusal::Number),
+        ("00 83 20", Refusal::Limit),
+        ("01 01 01 00 01", Refusal::Ended),
+        ("01 01 01 00 01 01", Refusal::Loose),
+        ("01 01 01 00 02", Refusal::Reference),
+        ("01 01 05", Refusal::Reference),
+        ("01 01 01 02 6B", Refusal::Loose),
+        ("01 01 00 00", Refusal::Loose),
+        ("01 04", Refusal::Code),
+        ("02", Refusal::Code),
+    ] {
+        read_refused(BYTES, &format!("{first} {second}"), refusal, 3);
+    }
+}
+
+/// As many attributes as there are names to have, and then each of them again.
+#[test]
+fn many_attributes_in_one_tag() {
+    let name = |i: usize| format!("k{i}");
+    let mut list = vec![Sd, se("a")];
+    list.extend((0..121).map(|i| at(&name(i), "")));
+    for s in [BITS, BYTES] {
+        let mut whole = list.clone();
+        whole.extend([Ee, Ed]);
+        round_trip(s, &whole);
+        for i in 0..121 {
+            let mut again = list.clone();
+            again.push(at(&name(i), "x"));
+            write_refused(s, &again, Refusal::Shape, 123);
+        }
+        // And all of them in each of many elements.
+        let mut many = list.clone();
+        for _ in 0..20 {
+            many.push(se("a"));
+            many.extend((0..121).rev().map(|i| at(&name(i), "")));
+        }
+        many.extend(vec![Ee; 21]);
+        many.push(Ed);
+        round_trip(s, &many);
+    }
 }
 
 #[test]
@@ -801,10 +936,11 @@ impl Random {
         from[self.below(from.len() as u64)]
     }
 
+    /// A well-formed list.
     fn list(&mut self, s: Settings) -> Vec<E> {
         let uris = ["", "", "u", "v", XML, XSI];
         let names = ["a", "b", "c", "id", "lang", "schemaLocation"];
-        let values = ["", "a", "b", "xyz", "é\u{1F600}", "id"];
+        let values = VALUES;
         let mut list = vec![Sd];
         let mut depth = 0;
         let mut in_tag = false;
@@ -825,11 +961,10 @@ impl Random {
                     continue;
                 }
                 3 if in_tag => {
-                    list.push(at_in(
-                        self.pick(&uris),
-                        self.pick(&names),
-                        self.pick(&values),
-                    ));
+                    let (uri, name) = (self.pick(&uris), self.pick(&names));
+                    if !tag_has(&list, uri, name) {
+                        list.push(at_in(uri, name, self.pick(&values)));
+                    }
                     continue;
                 }
                 4 if depth > 0 => {
@@ -851,13 +986,40 @@ impl Random {
     }
 }
 
+const VALUES: [&str; 6] = ["", "a", "b", "xyz", "é\u{1F600}", "id"];
+
+/// Whether the start tag at the end of a list has an attribute of this name.
+fn tag_has(list: &[E], uri: &str, name: &str) -> bool {
+    let mut tag = list.iter().rev().take_while(|e| !matches!(e, E::Se(..)));
+    tag.any(|e| matches!(e, E::At(u, n, _) if u == uri && n == name))
+}
+
 #[test]
 fn random_lists_and_damaged_streams() {
     let mut random = Random(0x9E37_79B9_7F4A_7C15);
+    let mut equal = 0;
     for round in 0..500 {
         let s = settings(round & 1, round >> 1 & 1, round >> 2 & 1, round >> 3 & 1);
         let list = random.list(s);
         let mut stream = round_trip(s, &list);
+
+        // An attribute once more, somewhere behind it in its tag.
+        let is_attribute = |&i: &usize| matches!(list[i], E::At(..));
+        let attributes: Vec<usize> = (0..list.len()).filter(is_attribute).collect();
+        if !attributes.is_empty() {
+            let first = attributes[random.below(attributes.len() as u64)];
+            let mut second = first + 1;
+            while is_attribute(&second) && random.below(3) > 0 {
+                second += 1;
+            }
+            let mut twice = list.clone();
+            twice.insert(second, list[first].clone());
+            if let E::At(_, _, value) = &mut twice[second] {
+                *value = random.pick(&VALUES).into();
+            }
+            write_refused(s, &twice, Refusal::Shape, second as u32);
+            equal += 1;
+        }
 
         // Damage that is accepted must be the strict form of another list.
         let at = random.below(stream.len() as u64);
@@ -873,4 +1035,5 @@ fn random_lists_and_damaged_streams() {
         stream.truncate(at);
         assert_ne!(do_read(s, &stream).reply.number, 0);
     }
+    assert!(equal > 100, "{equal}");
 }

@@ -77,6 +77,7 @@ impl<'a> Writer<'a> {
                 let (name, production) = self.qname(terminal, place, uri, name)?;
                 symbol.name = Some(name);
                 self.value(name, value)?;
+                self.grammars.note_attribute(name)?;
                 production
             }
             Event::Characters(text) => {

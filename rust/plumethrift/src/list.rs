@@ -12,8 +12,9 @@ const NO_PREFIX: [u32; 2] = [0, 0];
 ///
 /// A well-formed list is: start document; comments and instructions; one element, balanced;
 /// comments and instructions; end document; nothing after. Attributes come before any other event
-/// in their element. Kinds that the settings drop are not allowed. The list takes any events in any
-/// order; it is the [`Writer`](crate::Writer) that judges them.
+/// in their element, and no two of one start tag have the same URI and local name. Kinds that the
+/// settings drop are not allowed. The list takes any events in any order; it is the
+/// [`Writer`](crate::Writer) that judges them.
 ///
 /// Two lists are the same when their events are.
 ///

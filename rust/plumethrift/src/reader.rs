@@ -39,7 +39,7 @@ impl Reader {
     ///
     /// # Errors
     ///
-    /// Refusals 2 to 13.
+    /// Refusals 2 to 14.
     pub fn read(&mut self, settings: &Settings, stream: &[u8]) -> Result<Document<'_>, Refused> {
         let reply = lent::read(
             settings.numbers(),
@@ -74,7 +74,7 @@ impl Reader {
     ///
     /// # Errors
     ///
-    /// Refusals 2 to 13, as by [`read`](Reader::read), with the index of an event; then 16 to 19,
+    /// Refusals 2 to 14, as by [`read`](Reader::read), with the index of an event; then 16 to 19,
     /// with that of a reading.
     pub fn read_readings(
         &mut self,

@@ -38,8 +38,9 @@ pub enum Refusal {
     Limit = 12,
     /// A pad bit is 1, or octets follow the end.
     Tail = 13,
-    /// Writer: the kinds or the order of events break the rules of a [well-formed
-    /// list](crate::EventList).
+    /// Reader and writer: a start tag has two attributes of one URI and local name; the index is
+    /// the second's. Writer: the kinds or the order of events break the rules of a [well-formed
+    /// list](crate::EventList) otherwise.
     Shape = 14,
     /// Writer: a string's place plus length passes the text store's length. An
     /// [`EventList`](crate::EventList) has no such string.
@@ -147,7 +148,7 @@ impl Refusal {
             Refusal::Limit => "a size would be passed",
             Refusal::Tail => "a pad bit is 1, or octets follow the end",
             Refusal::Shape => {
-                "the kinds or the order of events break the rules of a well-formed list"
+                "a start tag has an attribute twice, or the kinds or the order of events are wrong"
             }
             Refusal::Place => "a string lies outside the text store",
             Refusal::Structure => "the list is not one of readings",

@@ -145,6 +145,41 @@ fn lists_out_of_shape() {
     not_written(BIT_PACKED, &after, Refusal::Shape, 4);
 }
 
+/// The second attribute of one name in a start tag, to writer and reader; the next element starts
+/// anew.
+#[test]
+fn equal_attributes() {
+    let equal = inside_a(|list| {
+        list.attribute("", "k", "x").attribute("", "j", "x");
+        list.attribute("", "k", "");
+    });
+    not_written(BIT_PACKED, &equal, Refusal::Shape, 4);
+    not_written(BYTE_ALIGNED, &equal, Refusal::Shape, 4);
+    let other = inside_a(|list| {
+        list.attribute("", "k", "x").attribute("u", "k", "x");
+        list.start_element("", "a").attribute("", "k", "x");
+        list.end_element();
+    });
+    let (mut reader, mut writer) = (Reader::new(), Writer::new());
+    let stream = writer.write(&BIT_PACKED, &other).unwrap();
+    assert_eq!(reader.read(&BIT_PACKED, stream).unwrap(), other);
+
+    // <a k="x" and k again: by the learned code, and by AT(*), also cut before its value.
+    let first = [0x80, 0x01, 0x02, 0x61, 0x01, 0x01, 0x02, 0x6B, 0x03, 0x78];
+    for (again, refusal) in [
+        (&[0x00, 0x02][..], Refusal::Shape),
+        (&[0x01, 0x01, 0x01, 0x00, 0x01, 0x02], Refusal::Shape),
+        (&[0x01, 0x01, 0x01, 0x00, 0x01], Refusal::Ended),
+        (&[0x00, 0x03, 0x78], Refusal::Loose),
+    ] {
+        let stream = [&first[..], again].concat();
+        not_read(BYTE_ALIGNED, &stream, refusal, 3);
+        let refused = Refused { refusal, index: 3 };
+        let readings = reader.read_readings(&BYTE_ALIGNED, &stream);
+        assert_eq!(readings.unwrap_err(), refused);
+    }
+}
+
 #[test]
 fn kinds_that_the_settings_drop() {
     let comment = inside_a(|list| {

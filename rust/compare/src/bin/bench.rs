@@ -54,6 +54,10 @@ const LOOK_UPS: Goals = Goals {
 /// Eight times the octets may take this many times the time.
 const GROWTH: f64 = 9.0;
 
+/// 120 attributes in one start tag may take this many times the time of 120 elements with one each,
+/// net of clearing.
+const ONE_TAG: f64 = 1.2;
+
 /// What streams are made of: so many lists.
 type Lists = fn(usize) -> Vec<Vec<Event>>;
 
@@ -110,6 +114,8 @@ fn rows() -> Vec<Row> {
     rows.extend(both!("512 alike", alike_values, 10, 1, GOALS));
     rows.extend(both!("100 deep", deep, 20, 1, LOOK_UPS));
     rows.extend(both!("128 names", many_names, 20, 1, LOOK_UPS));
+    rows.extend(both!("120 attributes", in_one_tag, 200, 20, LOOK_UPS));
+    rows.extend(both!("120 elements", in_elements, 200, 20, LOOK_UPS));
     rows.extend(both!("local hits", local_hits, 10, 1, LOOK_UPS));
     rows.extend(both!("long notes", long_notes, 10, 1, GOALS));
     rows.extend(both!("500 readings", day, 10, 1, GOALS));
@@ -298,6 +304,42 @@ fn many_names(count: usize) -> Vec<Vec<Event>> {
     (0..count).map(|_| one()).collect()
 }
 
+/// 120 attributes of different names.
+fn many_attributes(rng: &mut Prng) -> Vec<Event> {
+    let prefix = letters(rng, 5, 5);
+    let mut one = |k: usize| {
+        let name = [prefix.clone(), text(&format!("{k:03}"))].concat();
+        attribute(&name, digits(rng, 4, 4))
+    };
+    (0..120).map(&mut one).collect()
+}
+
+/// All of them in one start tag.
+fn in_one_tag(count: usize) -> Vec<Vec<Event>> {
+    let mut rng = Prng::new(16);
+    let mut one = || {
+        let mut inner = vec![element("", "r")];
+        inner.extend(many_attributes(&mut rng));
+        inner.push(END);
+        document(inner)
+    };
+    (0..count).map(|_| one()).collect()
+}
+
+/// Each of the same in an element of its own.
+fn in_elements(count: usize) -> Vec<Vec<Event>> {
+    let mut rng = Prng::new(16);
+    let mut one = || {
+        let mut inner = vec![element("", "r")];
+        for attribute in many_attributes(&mut rng) {
+            inner.extend([element("", "e"), attribute, END]);
+        }
+        inner.push(END);
+        document(inner)
+    };
+    (0..count).map(|_| one()).collect()
+}
+
 /// 512 values of one name, and 3,000 times one of them again.
 fn local_hits(count: usize) -> Vec<Vec<Event>> {
     let mut rng = Prng::new(12);
@@ -479,7 +521,11 @@ impl Times {
     }
 
     fn net(&self) -> f64 {
-        (self.library - self.clearing) / (self.ordinary - self.clearing)
+        self.library_net() / (self.ordinary - self.clearing)
+    }
+
+    fn library_net(&self) -> f64 {
+        self.library - self.clearing
     }
 }
 
@@ -553,7 +599,7 @@ impl Score {
 fn print_head() {
     println!("Nanoseconds for a stream, the fastest of each slice in {ROUNDS} rounds.");
     println!(
-        "{:<27} {:>5} {:>7} {:>6} {:>9} {:>9} {:>6} {:>10} {:>8} {:>6} {:>10}",
+        "{:<28} {:>5} {:>7} {:>6} {:>9} {:>9} {:>6} {:>10} {:>8} {:>6} {:>10}",
         "row",
         "way",
         "streams",
@@ -577,7 +623,7 @@ fn print(case: &Case, way: Way, times: &Times, score: &mut Score) {
     let verdict = score.judge(times.ratio(), goal);
     let net_verdict = net_goal.map_or("-".to_string(), |goal| score.judge(times.net(), goal));
     println!(
-        "{:<27} {:>5} {:>7} {:>6} {:>9.0} {:>9.0} {:>6.2} {:>10} {:>8.0} {:>6.2} {:>10}",
+        "{:<28} {:>5} {:>7} {:>6} {:>9.0} {:>9.0} {:>6.2} {:>10} {:>8.0} {:>6.2} {:>10}",
         case.row.name,
         word,
         case.streams.len(),
@@ -592,28 +638,54 @@ fn print(case: &Case, way: Way, times: &Times, score: &mut Score) {
     );
 }
 
-/// A row of growth: octets, and the library's times to read and to write.
-type Grown = (f64, [f64; 2]);
+/// A row that was timed: the octets of a stream, and the times to read and to write.
+struct Timed {
+    name: &'static str,
+    octets: f64,
+    times: [Times; 2],
+}
+
+const WAYS: [&str; 2] = ["read", "write"];
 
 /// What eight times the octets cost, by the first and the last row of growth.
-fn print_growth(grown: &[Grown], score: &mut Score) {
-    let ([first, ..], [.., last]) = (grown, grown) else {
+fn print_growth(timed: &[Timed], score: &mut Score) {
+    let mut grown = timed.iter().filter(|row| row.name.starts_with("growth"));
+    let (Some(first), Some(last)) = (grown.next(), grown.next_back()) else {
         return;
     };
-    if grown.len() < 2 {
-        return;
-    }
-    for (k, way) in ["read", "write"].into_iter().enumerate() {
-        let eight = 8.0 * (last.1[k] / first.1[k]) / (last.0 / first.0);
+    for (k, way) in WAYS.into_iter().enumerate() {
+        let times = last.times[k].library / first.times[k].library;
+        let eight = 8.0 * times / (last.octets / first.octets);
         let verdict = score.judge(eight, GROWTH);
         println!("growth, {way}: eight times the octets take {eight:.1} times the time  {verdict}");
+    }
+}
+
+/// What 120 attributes in one start tag cost, by those in elements of their own.
+fn print_one_tag(timed: &[Timed], score: &mut Score) {
+    for alignment in ["byte-aligned", "bit-packed"] {
+        let row = |name: &str| {
+            let name = format!("{name}, {alignment}");
+            timed.iter().find(|row| row.name == name)
+        };
+        let (Some(tag), Some(elements)) = (row("120 attributes"), row("120 elements")) else {
+            continue;
+        };
+        for (k, way) in WAYS.into_iter().enumerate() {
+            let ratio = tag.times[k].library_net() / elements.times[k].library_net();
+            let verdict = score.judge(ratio, ONE_TAG);
+            println!(
+                "120 attributes, {alignment}, {way}: one start tag takes {ratio:.2} times the time \
+                 of 120 elements, net  {verdict}"
+            );
+        }
     }
 }
 
 fn time_rows(rows: Vec<Row>) {
     let mut memory = Memory::new();
     let mut score = Score::default();
-    let mut grown: Vec<Grown> = Vec::new();
+    let mut timed: Vec<Timed> = Vec::new();
     print_head();
     for row in rows {
         let streams = row.streams;
@@ -622,14 +694,16 @@ fn time_rows(rows: Vec<Row>) {
         let both = [Way::Read, Way::Write].map(|way| {
             let times = times(&case, way, &mut memory);
             print(&case, way, &times, &mut score);
-            times.library
+            times
         });
-        if case.row.name.starts_with("growth") {
-            let octets = case.octets() as f64 / case.streams.len() as f64;
-            grown.push((octets, both));
-        }
+        timed.push(Timed {
+            name: case.row.name,
+            octets: case.octets() as f64 / case.streams.len() as f64,
+            times: both,
+        });
     }
-    print_growth(&grown, &mut score);
+    print_growth(&timed, &mut score);
+    print_one_tag(&timed, &mut score);
     println!("{} of {} goals missed", score.missed, score.goals);
 }
 

@@ -259,14 +259,15 @@ fn faulty_child(
     })
 }
 
-/// Takes an event out, puts another in its place, or another before it.
+/// Takes an event out, puts another in its place, or another or itself before it.
 fn damage_event(rng: &mut Prng, list: &mut Vec<Event>, at: usize) {
     let other = other_event(rng, list[at].clone());
-    match rng.below(3) {
+    match rng.below(4) {
         0 => {
             list.remove(at);
         }
         1 => list[at] = other,
+        2 => list.insert(at, list[at].clone()),
         _ => list.insert(at, other),
     }
 }
