@@ -184,11 +184,19 @@ entries-alike t n p h = same-texts (Option·map (entriesOf t) n) p (entries-name
 
 -- Contexts with alike parts.
 pub alike : {c d : Context} → c .state ≡ d .state → AlikeTables (c .tables) (d .tables)
-    → map unplacedLearned (c .learned) ≡ map unplacedLearned (d .learned) → c .grammars ≡ d .grammars
-    → c .tag ≡ d .tag → Alike c d
+    → map unplacedLearned (c .learned) ≡ map unplacedLearned (d .learned)
+    → c .grammars ≡ d .grammars → c .tag ≡ d .tag → Alike c d
 unfolding unplacedContext
 alike st t ls gs tag =
-    record { same = λ i. record { state = st i; tables = t .same i; learned = ls i; grammars = gs i; tag = tag i } }
+    record {
+      same = λ i. record {
+        state = st i;
+        tables = t .same i;
+        learned = ls i;
+        grammars = gs i;
+        tag = tag i;
+      };
+    }
 
 -- What events with alike codes leave, where their strings leave alike tables, is alike.
 pub after-alike : {c d : Context} {x y : Code} {t u : Tables} {p q : Option (QName Placed)} (s : Settings) → Alike c d

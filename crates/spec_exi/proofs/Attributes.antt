@@ -1,5 +1,5 @@
 -- Equal attributes (P3): the rule for lists (Lists.antt) is the test by the start tag that is open
--- (Grammar.antt), event by event; and it says that no two attributes of one start tag have one name.
+-- (Grammar.antt), event by event; it says that no two attributes of one start tag have one name.
 use mathlib.Core.Path.{_≡_, refl, sym, _∙_, ap, subst}
 use mathlib.Core.Logic.{_↔_}
 use mathlib.Core.Bool.{Bool, true, false, _&&_, _||_, not}
@@ -28,7 +28,7 @@ module _ (t : Tag) (e : Event Text) where
   unfolding tagAfter withAttribute tagAllows isNew
   tag-attribute q h = (rw h, rw h)
 
-  -- Any other event is allowed, and leaves none.
+  -- Any other event leaves none, and is allowed.
   pub tag-other : attributeName e ≡ none → (tagAfter t e ≡ emptyTag) × (tagAllows t e ≡ true)
   unfolding tagAfter withAttribute tagAllows isNew
   tag-other h = (rw h, rw h)
@@ -65,7 +65,8 @@ apart-more : (p : QName Text) (ps qs : List (QName Text))
 unfolding apart every hasName
 apart-more p ps [] = refl
 apart-more p ps (q ∷ qs) =
-    rw (apart-more p ps qs, eqName-sym q p) (go (eqName p q) (hasName ps q) (hasName qs p) (apart ps qs))
+    rw (apart-more p ps qs, eqName-sym q p)
+    (go (eqName p q) (hasName ps q) (hasName qs p) (apart ps qs))
   where
     go : (x y u w : Bool) → (not (x || y) && (not u && w)) ≡ (not (x || u) && (not y && w))
     go true y u w = refl
@@ -74,32 +75,40 @@ apart-more p ps (q ∷ qs) =
     go false false true w = refl
     go false false false w = refl
 
-and-turn : (a b c d : Bool) → (a && ((b && c) && d)) ≡ ((a && c) && (b && d))
-and-turn false b c d = refl
-and-turn true true c d = refl
-and-turn true false true d = refl
-and-turn true false false d = refl
+-- From any start tag on: none of its names comes again in it.
+unfoldable fromTag : List (QName Text) → List (Event Text) → Bool
+fromTag qs l = apart qs (attributesFirst l) && attributesDiffer l
 
-tags-from : (t : Tag) (l : List (Event Text))
-    → tagsAllow t l ≡ (apart (t .attributes) (attributesFirst l) && attributesDiffer l)
-unfolding tagsAllow tagAllows tagAfter attributesFirst attributesDiffer withAttribute isNew inFront emptyTag apart every
+from-none : (l : List (Event Text)) → fromTag [] l ≡ attributesDiffer l
+unfolding fromTag
+from-none l = rw (apart-none (attributesFirst l))
+
+tags-from : (t : Tag) (l : List (Event Text)) → tagsAllow t l ≡ fromTag (t .attributes) l
+unfolding tagsAllow tagAllows tagAfter withAttribute isNew emptyTag fromTag apart every inFront
+    attributesFirst attributesDiffer
 tags-from t [] = refl
 tags-from t (e ∷ l) = go (attributeName e) (λ u. tags-from u l)
   where
-    go : (o : Option (QName Text))
-        → ((u : Tag) → tagsAllow u l ≡ (apart (u .attributes) (attributesFirst l) && attributesDiffer l))
+    turn : (a b c d : Bool) → (a && ((b && c) && d)) ≡ ((a && c) && (b && d))
+    turn false b c d = refl
+    turn true true c d = refl
+    turn true false true d = refl
+    turn true false false d = refl
+
+    go : (o : Option (QName Text)) → ((u : Tag) → tagsAllow u l ≡ fromTag (u .attributes) l)
         → (isNew (t .attributes) o && tagsAllow (withAttribute t o) l)
-        ≡ (apart (t .attributes) (inFront o (attributesFirst l)) && (isNew (attributesFirst l) o && attributesDiffer l))
-    go none later = later emptyTag ∙ ap (λ b. b && attributesDiffer l) (apart-none (attributesFirst l))
+        ≡ (apart (t .attributes) (inFront o (attributesFirst l))
+        && (isNew (attributesFirst l) o && attributesDiffer l))
+    go none later = later emptyTag ∙ from-none l
     go (some q) later =
         rw (later (withAttribute t (some q)), apart-more q (t .attributes) (attributesFirst l))
-        (and-turn (not (hasName (t .attributes) q)) (not (hasName (attributesFirst l) q))
+        (turn (not (hasName (t .attributes) q)) (not (hasName (attributesFirst l) q))
         (apart (t .attributes) (attributesFirst l)) (attributesDiffer l))
 
--- From the start of a list on.
+-- Of a whole list.
 pub tags-differ : (l : List (Event Text)) → tagsAllow emptyTag l ≡ attributesDiffer l
 unfolding emptyTag
-tags-differ l = tags-from emptyTag l ∙ ap (λ b. b && attributesDiffer l) (apart-none (attributesFirst l))
+tags-differ l = tags-from emptyTag l ∙ from-none l
 
 -- ---- it says that no two attributes of one start tag have one name
 
@@ -116,6 +125,10 @@ attribute-is (characters v) q h = absurd (Option·none-ne-some q h)
 attribute-is (comment x) q h = absurd (Option·none-ne-some q h)
 attribute-is (instruction x y) q h = absurd (Option·none-ne-some q h)
 
+is-attribute : (e : Event Text) (q : QName Text) → attributeName e ≡ some q → T (isAttribute e)
+unfolding isAttribute kindOf kindNumber
+is-attribute e q h = let (v, is) = attribute-is e q h in rw is tt
+
 -- Each has a name.
 attribute-named : (e : Event Text) → T (isAttribute e)
     → (q : QName Text) × (attributeName e ≡ some q)
@@ -129,28 +142,20 @@ attribute-named (characters v) t = absurd t
 attribute-named (comment x) t = absurd t
 attribute-named (instruction x y) t = absurd t
 
-has-this : (p q : QName Text) (qs : List (QName Text)) → T (eqName p q) → T (hasName (p ∷ qs) q)
-unfolding hasName
-has-this p q qs t = rw (T-is (eqName p q) t) tt
-
-has-later : (p q : QName Text) (qs : List (QName Text)) → T (hasName qs q)
-    → T (hasName (p ∷ qs) q)
-unfolding hasName
-has-later p q qs t = go (eqName p q)
-  where
-    go : (b : Bool) → T (b || hasName qs q)
-    go true = tt
-    go false = t
-
 -- An attribute behind attributes alone is among those that the list begins with.
 among-first : (between behind : List (Event Text)) (q : QName Text) (v : Text)
     → T (every isAttribute between)
     → T (hasName (attributesFirst (between ++ attribute q v ∷ behind)) q)
-unfolding attributesFirst inFront attributeName isAttribute kindOf nameOf kindNumber every
-among-first [] behind q v t = has-this q q (attributesFirst behind) (eqName-refl q)
+unfolding attributesFirst inFront hasName attributeName isAttribute kindOf nameOf kindNumber every
+among-first [] behind q v t = rw (T-is (eqName q q) (eqName-refl q)) tt
 among-first (e ∷ between) behind q v t =
     let (p, h) = attribute-named e (left (isAttribute e) (every isAttribute between) t) in
-    rw h (has-later p q _ (among-first between behind q v (right (isAttribute e) (every isAttribute between) t)))
+    rw h (go (eqName p q) _
+    (among-first between behind q v (right (isAttribute e) (every isAttribute between) t)))
+  where
+    go : (a b : Bool) → T b → T (a || b)
+    go true b t = tt
+    go false b t = t
 
 -- Two equal attributes fail the rule.
 equal-fails : (before between behind : List (Event Text)) (q : QName Text) (v w : Text)
@@ -166,7 +171,8 @@ equal-fails [] between behind q v w t d =
     go false b t d = t
 equal-fails (e ∷ before) between behind q v w t d =
     let m = before ++ attribute q v ∷ (between ++ attribute q w ∷ behind) in
-    equal-fails before between behind q v w t (right (isNew (attributesFirst m) (attributeName e)) (attributesDiffer m) d)
+    let later = right (isNew (attributesFirst m) (attributeName e)) (attributesDiffer m) d in
+    equal-fails before between behind q v w t later
 
 -- A name among those that the list begins with is that of an attribute there.
 record Found (q : QName Text) (l : List (Event Text)) : Type 0 where
@@ -176,50 +182,58 @@ record Found (q : QName Text) (l : List (Event Text)) : Type 0 where
   is : l ≡ between ++ attribute q value ∷ behind
   one-tag : T (every isAttribute between)
 
-is-attribute : (e : Event Text) (q : QName Text) → attributeName e ≡ some q → T (isAttribute e)
-unfolding isAttribute kindOf kindNumber
-is-attribute e q h = let (v, is) = attribute-is e q h in rw is tt
-
-found-first : (q : QName Text) (l : List (Event Text)) → T (hasName (attributesFirst l) q) → Found q l
+found-first : (q : QName Text) (l : List (Event Text)) → T (hasName (attributesFirst l) q)
+    → Found q l
 unfolding attributesFirst inFront hasName every
 found-first q [] t = absurd t
 found-first q (e ∷ l) t = go (attributeName e) refl (λ u. found-first q l u) t
   where
-    go : (o : Option (QName Text)) → attributeName e ≡ o → (T (hasName (attributesFirst l) q) → Found q l)
-        → T (hasName (inFront o (attributesFirst l)) q) → Found q (e ∷ l)
-    go none h later t = absurd t
-    go (some p) h later t =
+    this : (p : QName Text) → attributeName e ≡ some p → p ≡ q → Found q (e ∷ l)
+    this p h same =
         let (v, is) = attribute-is e p h in
-        split (eqName p q)
-        (λ b. record {
+        record {
           between = [];
           behind = l;
           value = v;
-          is = ap (λ x. x ∷ l) (is ∙ ap (λ n. attribute n v) (eqName-eq p q (is-T (eqName p q) b)));
+          is = ap (λ x. x ∷ l) (is ∙ ap (λ n. attribute n v) same);
           one-tag = tt;
-        })
-        (λ b.
-        let f = later (rw b at t) in
+        }
+
+    beyond : T (isAttribute e) → Found q l → Found q (e ∷ l)
+    beyond t f =
         record {
           between = e ∷ f .between;
           behind = f .behind;
           value = f .value;
           is = ap (λ m. e ∷ m) (f .is);
-          one-tag = both (isAttribute e) (every isAttribute (f .between)) (is-attribute e p h) (f .one-tag);
-        })
+          one-tag = both (isAttribute e) (every isAttribute (f .between)) t (f .one-tag);
+        }
+
+    go : (o : Option (QName Text)) → attributeName e ≡ o
+        → (T (hasName (attributesFirst l) q) → Found q l)
+        → T (hasName (inFront o (attributesFirst l)) q) → Found q (e ∷ l)
+    go none h later t = absurd t
+    go (some p) h later t =
+        split (eqName p q)
+        (λ b. this p h (eqName-eq p q (is-T (eqName p q) b)))
+        (λ b. beyond (is-attribute e p h) (later (rw b at t)))
 
 -- An attribute that is not new stands before an equal one.
-equal-first : (e : Event Text) (l : List (Event Text)) → isNew (attributesFirst l) (attributeName e) ≡ false
-    → EqualAttributes (e ∷ l)
+equal-first : (e : Event Text) (l : List (Event Text))
+    → isNew (attributesFirst l) (attributeName e) ≡ false → EqualAttributes (e ∷ l)
 unfolding isNew
 equal-first e l f = go (attributeName e) refl f
   where
+    among : (b : Bool) → not b ≡ false → T b
+    among true h = tt
+    among false h = subst T h tt
+
     go : (o : Option (QName Text)) → attributeName e ≡ o → isNew (attributesFirst l) o ≡ false
         → EqualAttributes (e ∷ l)
     go none h f = absurd (subst T f tt)
     go (some q) h f =
         let (v, is) = attribute-is e q h in
-        let x = found-first q l (is-T (hasName (attributesFirst l) q) (not-not (hasName (attributesFirst l) q) f)) in
+        let x = found-first q l (among (hasName (attributesFirst l) q) f) in
         record {
           before = [];
           between = x .between;
@@ -229,17 +243,11 @@ equal-first e l f = go (attributeName e) refl f
           is = cc (is, x .is);
           one-tag = x .one-tag;
         }
-      where
-        not-not : (b : Bool) → not b ≡ false → b ≡ true
-        not-not true e = refl
-        not-not false e = sym e
 
-none-differ : (l : List (Event Text)) → (EqualAttributes l → ⊥) → T (attributesDiffer l)
-unfolding attributesDiffer
-none-differ [] f = tt
-none-differ (e ∷ l) f =
-    split (isNew (attributesFirst l) (attributeName e))
-    (λ t. rw t (none-differ l (λ x. f (record {
+equal-later : (e : Event Text) (l : List (Event Text)) → EqualAttributes l
+    → EqualAttributes (e ∷ l)
+equal-later e l x =
+    record {
       before = e ∷ x .before;
       between = x .between;
       behind = x .behind;
@@ -247,7 +255,14 @@ none-differ (e ∷ l) f =
       values = x .values;
       is = ap (λ m. e ∷ m) (x .is);
       one-tag = x .one-tag;
-    }))))
+    }
+
+none-differ : (l : List (Event Text)) → (EqualAttributes l → ⊥) → T (attributesDiffer l)
+unfolding attributesDiffer
+none-differ [] f = tt
+none-differ (e ∷ l) f =
+    split (isNew (attributesFirst l) (attributeName e))
+    (λ t. rw t (none-differ l (λ x. f (equal-later e l x))))
     (λ t. absurd (f (equal-first e l t)))
 
 -- The rule holds just where no two attributes of one start tag have one name.
@@ -258,7 +273,7 @@ differ-exactly l = (
   none-differ l,
 )
 
--- A list is well-formed just where it was before P3, and no two attributes of one start tag have
+-- A list is well-formed just where it was so before P3, and no two attributes of one start tag have
 -- one name.
 pub formed-exactly : (s : Settings) (l : List (Event Text))
     → WellFormed s l ↔ (BaseWellFormed s l × (EqualAttributes l → ⊥))

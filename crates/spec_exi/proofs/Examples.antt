@@ -22,7 +22,8 @@ use Rattle.spec_exi.specs.Examples.Numbers.{readerRooms, writerRooms, Pi
 use Rattle.spec_exi.specs.Examples.Written.{writtenFor, Written, WriteReplied, wrote, listed}
 use Rattle.spec_exi.specs.Examples.Written.{writes, writeReplies, WrittenUnder, writesInOrder}
 use Rattle.spec_exi.specs.Examples.Written.{upTo, nested, inUris, withAttribute, aRow, atSizes}
-use Rattle.spec_exi.specs.Examples.Attributes.{equalRead, equalWritten}
+use Rattle.spec_exi.specs.Examples.Attributes.{thenOctets, equalRead, thenEvents}
+use Rattle.spec_exi.specs.Examples.Attributes.{equalWritten}
 use Rattle.spec_exi.specs.Examples.Pieces.{Tell, pieces}
 use Rattle.spec_exi.specs.Examples.All.{WorkedExamples}
 use Rattle.spec_exi.proofs.Definitions.{definitions}
@@ -116,11 +117,11 @@ unfolding definitions at inUri named writtenFor listed upTo nested inUris withAt
 at-sizes = record { answers = refl }
 
 equal-read : Hold equalRead
-unfolding definitions equalRead
+unfolding definitions thenOctets equalRead
 equal-read = record { answers = refl; strictForms = same-streams equalRead tt }
 
 equal-written : Written equalWritten
-unfolding definitions at inUri named writtenFor listed equalWritten
+unfolding definitions at inUri named writtenFor listed thenEvents equalWritten
 equal-written = record { answers = refl }
 
 pieces-told : Tell pieces

@@ -218,15 +218,18 @@ module _ {s : Settings} where
   fit-from c (e ∷ l) o m =
       let (first, rest) = run-goes (m .shape) in
       let f = fit-of-meet s c e (search left) in
-      also e f (fit-from (next s c e) l (sound-next s c e f o) (search (right, state-next s c e f, tag-next s c e f)))
+      also e f (fit-from (next s c e) l (sound-next s c e f o)
+      (search (right, state-next s c e f, tag-next s c e f)))
 
   meets-from : {c : Context} {l : List (Event Text)} → Sound s c → ListFit s c l → MeetsFrom s c l
   unfolding every staysWithin tagsAllow
-  meets-from o (done h) = record { shape = rw h stop; chars = tt; names = tt; tags = tt; strings = tt; sizes = tt }
+  meets-from o (done h) =
+      record { shape = rw h stop; chars = tt; names = tt; tags = tt; strings = tt; sizes = tt }
   meets-from {c} o (also e f r) =
       let first = meet-of-fit s c e f o in
       let later = meets-from (sound-next s c e f o) r in
-      search (both, go e (first .shape) (rw (state-next s c e f) at (later .shape)), rw (tag-next s c e f) at (later .tags))
+      let shape = go e (first .shape) (rw (state-next s c e f) at (later .shape)) in
+      search (both, shape, rw (tag-next s c e f) at (later .tags))
 
 -- The events of a good list may come one after the other.
 pub fit-of-good : (s : Settings) (l : List (Event Text)) → Meets s l → ListFit s (start s) l
@@ -249,7 +252,11 @@ good-of-fit s l f =
     let m = meets-from (sound-start s) f in
     record {
       formed = record {
-        base = record { shape = document-of-run s l (m .shape); chars = m .chars; names = m .names };
+        base = record {
+          shape = document-of-run s l (m .shape);
+          chars = m .chars;
+          names = m .names;
+        };
         attributes = rw (tags-differ l) at (m .tags);
       };
       strings = m .strings;

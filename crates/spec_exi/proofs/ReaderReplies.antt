@@ -129,7 +129,8 @@ says-step : (z : Sizes) (s : Settings) (c : Context) → Says ofEvents (step z s
 unfolding step ofEvents between numberOf
 says-step z s c =
     says-then _ (says-code _ _) (λ x. says-then _ (says-content z s _ _ _ _)
-    (λ e. says-guard _ _ shape tt (says-guard _ _ loose tt (says-guard _ _ limit tt (says-return _ _)))))
+    (λ e. says-guard _ _ shape tt
+    (says-guard _ _ loose tt (says-guard _ _ limit tt (says-return _ _)))))
 
 -- ---- the events
 

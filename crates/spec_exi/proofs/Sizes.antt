@@ -144,7 +144,8 @@ module _ (y z : Sizes) (h : NoLarger y z) where
     unfolding step
     step-also c =
         also-then (also-same _) (λ x. also-then (content-also (c .tables) (c .state) (x .production .kind) (x .production .qname))
-        (λ e. also-when _ shape (also-when _ loose (also-need _ _ limit (grammars-larger _) (also-same _)))))
+        (λ e. also-when _ shape
+        (also-when _ loose (also-need _ _ limit (grammars-larger _) (also-same _)))))
 
     events-still : (n m : ℕ) → n ≤ m → (c : Context) (bs : Bits) (r : Reading)
         → readEvents n y s c bs ≡ accepted r → readEvents m z s c bs ≡ accepted r

@@ -95,7 +95,13 @@ step-reads z s c =
         one = h .read;
         two = (
           h .tag,
-          (h .strictly, (rw (h .leaves) at (h .grammars), record { is = ap (λ d. (y .0, d)) (h .leaves); empty = refl })),
+          (
+            h .strictly,
+            (
+              rw (h .leaves) at (h .grammars),
+              record { is = ap (λ d. (y .0, d)) (h .leaves); empty = refl },
+            ),
+          ),
         );
         joined = sym (append-nil (h .content));
       };

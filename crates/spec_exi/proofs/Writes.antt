@@ -89,7 +89,16 @@ module _ (s : Settings) (c : Context) (store : Text) (e : Event Span) where
   event-passed none no-code =
       ((λ h. absurd (h .0)), (λ h. absurd (Option·none-ne-some (h .1 .code) (cc (h .1 .coded)))))
   event-passed (some x) coded = simp (both-passed, place-passed, content-passed) (
-    (λ h. (h .0 .0, record { code = x; coded = coded; strings = h .0 .1; tag = h .1 .0; grammars = h .1 .1 .0 })),
+    (λ h. (
+      h .0 .0,
+      record {
+        code = x;
+        coded = coded;
+        strings = h .0 .1;
+        tag = h .1 .0;
+        grammars = h .1 .1 .0;
+      },
+    )),
     (λ h.
         let same : h .1 .code ≡ x = cc (h .1 .coded) in
         ((h .0, rw same at (h .1 .strings)), (h .1 .tag, (h .1 .grammars, tt)))),

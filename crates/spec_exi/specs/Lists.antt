@@ -86,8 +86,8 @@ unfoldable pub inFront : Option (QName Text) → List (QName Text) → List (QNa
 inFront none qs = []
 inFront (some q) qs = q ∷ qs
 
--- The names of the attributes that a list begins with: behind a start element, all of its start tag;
--- behind an attribute, those that follow it in its start tag.
+-- The names of the attributes that a list begins with: behind a start element, those of its start
+-- tag; behind an attribute, those that follow it there.
 unfoldable pub attributesFirst : List (Event Text) → List (QName Text)
 attributesFirst [] = []
 attributesFirst (e ∷ l) = inFront (attributeName e) (attributesFirst l)

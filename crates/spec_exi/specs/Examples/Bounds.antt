@@ -107,7 +107,7 @@ inOrder =
     -- LOOSE for the production, before open elements, but after the limit of a value's table
     ∷ bound 2 2 "80 01 02 61 02 01 00 01 02 01 00" loose 3
     ∷ bound 5 2 "80 01 02 61 03 03 78 01 01 03 79 02 01 03 7A" limit 4
-    -- SHAPE for <a k="x" k="y"/> (P3), after the limits of the value's length, the store and its table
+    -- SHAPE for <a k="x" k="y" (P3), after the limits of the value: length, store, its table
     ∷ bound 8 1 "80 01 02 61 01 01 02 6B 03 78 00 04 79 79" limit 3
     ∷ bound 9 102 "80 01 02 61 01 01 02 6B 03 78 00 03 79" limit 3
     ∷ bound 5 1 "80 01 02 61 01 01 02 6B 03 78 00 03 79" limit 3

@@ -60,8 +60,8 @@ mistakes =
     -- <a k="x" u:k="y"/>. A name is learned with its URI, and with another it is another name (P3).
     ∷ example inOctets "80 01 02 61 01 01 02 6B 03 78 01 01 00 01 75 02 6B 03 79 02 00"
     (whole (begin "a" ∷ attr "k" "x" ∷ attrIn "u" "k" "y" ∷ end ∷ []))
-    -- <a k="x"><a k="x"/></a> with AT(*) for the second k, where the learned AT(k) fits: LOOSE after
-    -- its content.
+    -- <a k="x"><a k="x" with AT(*) for the second k, where the learned AT(k) fits: LOOSE after its
+    -- content.
     ∷ example inOctets "80 01 02 61 01 01 02 6B 03 78 01 02 01 00 00 02 01 01 00 01 00"
     (refused loose 4)
     -- The same with a global hit for the second x, where a local one exists.

@@ -102,8 +102,11 @@ writesInOrder =
     -- the limit of the URIs, before the local name's characters
     ∷ (only 3 3, listed (some (startElement (inUri 0 1 1 1)) ∷ []) (117 ∷ 0 ∷ []) (refused limit 1))
     -- the limit of a value's table, before SHAPE for a second attribute of one name (P3)
-    ∷ (only 5 1, listed (some (startElement (named 0 1)) ∷ some (attribute (named 1 1) (at 2 1))
-    ∷ some (attribute (named 1 1) (at 3 1)) ∷ []) (text "akxy") (refused limit 3)) ∷ []
+    ∷ (
+      only 5 1,
+      listed (some (startElement (named 0 1)) ∷ some (attribute (named 1 1) (at 2 1))
+          ∷ some (attribute (named 1 1) (at 3 1)) ∷ []) (text "akxy") (refused limit 3),
+    ) ∷ []
 
 -- ---- both sides of the scope's own sizes: a list that ends early, or LIMIT
 
