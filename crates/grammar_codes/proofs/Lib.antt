@@ -1,4 +1,5 @@
 pub mod Table
+pub mod Fixed
 pub mod Codes
 pub mod Places
 pub mod Bits

@@ -6,12 +6,12 @@ use mathlib.Core.Bool.{Bool, true, false, _&&_, _||_, not, true≢false}
 use mathlib.Core.List.{List, [], _∷_}
 use lib.ListN.{length, getD, drop, length-drop}
 use lib.Dec.{T, eqb, leb, ltb, leb→le}
-use borrow.Author.Tests.{eqb-true, eqb-false, eq-eqb, ne-eqb, ltb-true, leb-true, le-ltb, lt-leb}
+use borrow.Author.Tests.{eqb-true, eq-eqb, ne-eqb, ltb-true, leb-true, le-ltb, lt-leb}
 use Rattle.spec_fields.proofs.Tests.{split, T-is, is-T, left, right}
 use Rattle.spec_exi.specs.Event.{Kind, SD, ED, SE, AT, EE, CH, CM, PI}
 use Rattle.spec_exi.specs.Grammar.{kindNumber}
 use Rattle.grammar_codes.specs.Table.{keptKinds, tables, tableOf, levelAt, noKinds, valuesAt}
-use Rattle.grammar_codes.specs.Table.{CountAt, Stands, KindAt}
+use Rattle.grammar_codes.specs.Table.{CountAt, Stands}
 
 -- What `nth` answers, for a list of at most four.
 pub nth-is : (f : ℕ → ℕ) {a b c d : ℕ} → a ≡ f 0 → b ≡ f 1 → c ≡ f 2 → d ≡ f 3
@@ -184,7 +184,7 @@ two-levels ((k ∷ ks) ∷ l ∷ []) h =
     (λ (z : suc (length ks) + length l ≡ 0). omega arith))
 two-levels (l ∷ m ∷ n ∷ ls) h = absurd (omega arith)
 
-dropped : (ls : List (List Kind)) (n : ℕ) → getD (drop n ls) 0 [] ≡ getD ls n []
+pub dropped : (ls : List (List Kind)) (n : ℕ) → getD (drop n ls) 0 [] ≡ getD ls n []
 dropped ls zero = refl
 dropped [] (suc n) = refl
 dropped (l ∷ ls) (suc n) = dropped ls n
@@ -228,14 +228,14 @@ module _ (c i : Bool) (mode level : ℕ) where
 
 -- ---- the table's cells, state by state
 
-one-kind : (v : ℕ) (k : Kind)
+pub one-kind : (v : ℕ) (k : Kind)
     → getD (kindNumber k ∷ 0 ∷ 0 ∷ 0 ∷ []) v 0 ≡ kindNumber (getD (k ∷ []) v SD)
 unfolding kindNumber
 one-kind v k = nth-is (λ n. kindNumber (getD (k ∷ []) n SD)) refl refl refl refl (λ n. refl) v
 
 -- The states that have no production.
-pub beyond : (c i : Bool) (mode : ℕ) → (mode ≡ 0 → ⊥) → (mode ≡ 1 → ⊥) → (mode ≡ 2 → ⊥) → (mode ≡ 4 → ⊥)
-    → (mode ≡ 5 → ⊥) → tableOf c i mode ≡ []
+pub beyond : (c i : Bool) (mode : ℕ) → (mode ≡ 0 → ⊥) → (mode ≡ 1 → ⊥) → (mode ≡ 2 → ⊥)
+    → (mode ≡ 4 → ⊥) → (mode ≡ 5 → ⊥) → tableOf c i mode ≡ []
 unfolding tableOf tables
 beyond c i zero a b d e f = absurd (a refl)
 beyond c i (suc zero) a b d e f = absurd (b refl)
@@ -248,11 +248,6 @@ beyond c i (suc (suc (suc (suc (suc (suc mode)))))) a b d e f = refl
 module _ (c i : Bool) where
   pub count-is : {mode level r : ℕ} → r ≡ length (levelAt c i mode level) → CountAt c i mode level r
   count-is {mode} {level} e = record { is = e; few = omega (arith, e, few-kinds c i mode level) }
-
-  pub kind-is : {mode level v r : ℕ} → r ≡ kindNumber (getD (levelAt c i mode level) v SD)
-      → KindAt c i mode level v r
-  kind-is {mode} {level} {v} e =
-      record { is = e; stands = λ l. rw e (kind-stands c i mode level v l) }
 
   module _ (level : ℕ) where
     pub document-count : getD (1 ∷ 0 ∷ 0 ∷ 0 ∷ []) level 0 ≡ length (levelAt c i 0 level)
@@ -287,58 +282,6 @@ module _ (c i : Bool) where
         → (mode ≡ 5 → ⊥) → 0 ≡ length (levelAt c i mode level)
     unfolding levelAt
     no-count {mode} a b d e f = rw (beyond c i mode a b d e f)
-
-    module _ (v : ℕ) {kept : ℕ} (k : kept ≡ kindNumber (getD (keptKinds c i) v SD)) where
-      pub content-kind : {a : ℕ} → a ≡ getD (2 ∷ 0 ∷ 0 ∷ 0 ∷ []) v 0
-          → getD (a ∷ kept ∷ 0 ∷ 0 ∷ []) level 0 ≡ kindNumber (getD (levelAt c i 1 level) v SD)
-      unfolding levelAt tableOf tables kindNumber
-      content-kind e =
-          nth-is (λ n. kindNumber (getD (levelAt c i 1 n) v SD)) (e ∙ one-kind v SE) k refl refl
-          (λ n. refl) level
-
-      pub end-kind : {a : ℕ} → a ≡ getD (1 ∷ 0 ∷ 0 ∷ 0 ∷ []) v 0
-          → getD (a ∷ kept ∷ 0 ∷ 0 ∷ []) level 0 ≡ kindNumber (getD (levelAt c i 2 level) v SD)
-      unfolding levelAt tableOf tables kindNumber
-      end-kind e =
-          nth-is (λ n. kindNumber (getD (levelAt c i 2 n) v SD)) (e ∙ one-kind v ED) k refl refl
-          (λ n. refl) level
-
-      pub tag-kind : {a : ℕ} → a ≡ getD (4 ∷ 3 ∷ 2 ∷ 5 ∷ []) v 0
-          → getD (0 ∷ a ∷ kept ∷ 0 ∷ []) level 0 ≡ kindNumber (getD (levelAt c i 4 level) v SD)
-      unfolding levelAt tableOf tables kindNumber
-      tag-kind e =
-          nth-is (λ n. kindNumber (getD (levelAt c i 4 n) v SD)) refl
-          (e ∙ nth-is (λ n. kindNumber (getD (EE ∷ AT ∷ SE ∷ CH ∷ []) n SD)) refl refl refl refl
-          (λ n. refl) v) k refl (λ n. refl) level
-
-      pub element-kind : {a b : ℕ} → a ≡ getD (4 ∷ 0 ∷ 0 ∷ 0 ∷ []) v 0
-          → b ≡ getD (2 ∷ 5 ∷ 0 ∷ 0 ∷ []) v 0
-          → getD (a ∷ b ∷ kept ∷ 0 ∷ []) level 0 ≡ kindNumber (getD (levelAt c i 5 level) v SD)
-      unfolding levelAt tableOf tables kindNumber
-      element-kind e f =
-          nth-is (λ n. kindNumber (getD (levelAt c i 5 n) v SD)) (e ∙ one-kind v EE)
-          (f ∙ nth-is (λ n. kindNumber (getD (SE ∷ CH ∷ []) n SD)) refl refl refl refl (λ n. refl)
-          v)
-          k refl (λ n. refl) level
-
-    module _ (v : ℕ) where
-      -- In the document state the one kind is 0, as where there is none.
-      document-kind : 0 ≡ kindNumber (getD (levelAt c i 0 level) v SD)
-      unfolding levelAt tableOf tables kindNumber
-      document-kind = go level v
-        where
-          go : (l n : ℕ) → 0 ≡ kindNumber (getD (getD ((SD ∷ []) ∷ []) l []) n SD)
-          go zero zero = refl
-          go zero (suc n) = refl
-          go (suc l) n = refl
-
-      pub no-kind : {mode : ℕ} → (mode ≡ 1 → ⊥) → (mode ≡ 2 → ⊥) → (mode ≡ 4 → ⊥) → (mode ≡ 5 → ⊥)
-          → 0 ≡ kindNumber (getD (levelAt c i mode level) v SD)
-      unfolding kindNumber levelAt
-      no-kind {mode} b d e f =
-          split (eqb mode 0)
-          (λ t. let z : mode ≡ 0 = eqb-true mode 0 t in rw z document-kind)
-          (λ t. rw (beyond c i mode (eqb-false mode 0 t) b d e f))
 
 -- The kept kinds.
 module _ (v : ℕ) where

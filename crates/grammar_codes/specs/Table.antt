@@ -1,15 +1,15 @@
 -- The productions of each state that are not learned, level by level of their event codes (EXI
 -- 8.4.1, 8.4.3; scope, "Grammars": the table of codes).
 --
--- States and kinds are numbers (crates/event_code/specs/Numbers.antt). Levels: 0 the first part of a
--- code, 1 the second, 2 the third.
+-- States and kinds are numbers (crates/event_code/specs/Numbers.antt). Levels: 0 the first part of
+-- a code, 1 the second, 2 the third.
 use Prim.Native.Nat.{ℕ, zero, suc, _+_, _≤_, _<_}
 use mathlib.Core.Path.{_≡_}
 use mathlib.Core.Bool.{Bool, true, false, cond}
 use mathlib.Core.List.{List, [], _∷_, _++_, map}
 use mathlib.Core.Option.{Option, none, some, Option·map}
 use lib.ListN.{length, getD, drop}
-use lib.Dec.{eqb}
+use lib.Dec.{eqb, ltb}
 use Rattle.spec_fields.specs.Bits.{Bits}
 use Rattle.spec_fields.specs.Field.{Alignment, choiceBits}
 use Rattle.spec_exi.specs.Event.{Kind, SD, ED, SE, AT, EE, CH, CM, PI}
@@ -47,15 +47,28 @@ noKinds [] = true
 noKinds ([] ∷ ls) = noKinds ls
 noKinds ((k ∷ ks) ∷ ls) = false
 
--- How many values a part has at a level, before which no production is learned: one leads to the
--- next level, where one has productions.
+-- One value leads to the next level, where one has productions.
+abbrev pub leadsOn : List (List Kind) → ℕ
+leadsOn ls = cond (noKinds ls) 0 1
+
+-- How many values a part has at a level, before which no production is learned.
 abbrev pub valuesOf : List Kind → List (List Kind) → ℕ
-valuesOf l ls = length l + cond (noKinds ls) 0 1
+valuesOf l ls = length l + leadsOn ls
 
 abbrev pub valuesAt : Bool → Bool → ℕ → ℕ → ℕ
 valuesAt comments instructions mode level =
     valuesOf (levelAt comments instructions mode level)
     (drop (suc level) (tableOf comments instructions mode))
+
+-- The main level, and those below it: outside an element from the first on, in an element from the
+-- second.
+unfoldable pub fixedLevels : Bool → Bool → ℕ → List (List Kind)
+fixedLevels comments instructions mode =
+    drop (cond (ltb mode inTag) 0 1) (tableOf comments instructions mode)
+
+-- Its productions, which are the same whatever is kept.
+unfoldable pub fixedKinds : ℕ → List Kind
+fixedKinds mode = getD (fixedLevels false false mode) 0 []
 
 -- ---- where a kind stands
 
@@ -139,10 +152,6 @@ pub record Stands (mode kind : ℕ) : Type 0 where
   pub known : kind < 8
   pub outside : kind ≤ numberED → mode < inTag
   pub inside : numberEE ≤ kind → kind ≤ numberCH → inTag ≤ mode
-
-pub record KindAt (comments instructions : Bool) (mode level v r : ℕ) : Type 0 where
-  pub is : r ≡ kindNumber (getD (levelAt comments instructions mode level) v SD)
-  pub stands : v < length (levelAt comments instructions mode level) → Stands mode r
 
 pub record PlaceAt (comments instructions : Bool) (mode kind : ℕ) (r : Place) : Type 0 where
   pub is : r ≡ placeAs (placeIn (tableOf comments instructions mode) kind)

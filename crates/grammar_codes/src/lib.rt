@@ -5,10 +5,11 @@ ghost use mathlib.Core.Path.{_≡_};
 ghost use mathlib.Core.List.{[], _∷_};
 ghost use Prim.Native.Nat.{_<_};
 ghost use mathlib.Core.Option.{none};
-ghost use lib.ListN.{length, getD};
+ghost use lib.ListN.{length, getD, drop};
 ghost use Rattle.spec_exi.specs.Event.{Kind, SD};
 ghost use Rattle.spec_exi.specs.Grammar.{kindNumber};
-ghost use Rattle.grammar_codes.specs.Table.{keptKinds, CountAt, KindAt, valuesAt, PlaceAt};
+ghost use Rattle.grammar_codes.specs.Table.{keptKinds, CountAt, valuesAt, PlaceAt};
+ghost use Rattle.grammar_codes.specs.Table.{leadsOn, fixedLevels, fixedKinds};
 ghost use Rattle.grammar_codes.specs.Table.{tableOf, numberIn, keptPlace, placeIn, placeAs};
 use event_code::AT;
 use event_code::CH;
@@ -43,7 +44,8 @@ fn nth(i: u32, a: u32, b: u32, c: u32, d: u32) -> u32
     }
 }
 
-fn kept_count(comments: bool, instructions: bool) -> u32
+// How many kinds are kept of comments and instructions.
+pub fn kept_count(comments: bool, instructions: bool) -> u32
     ensures { λ r. ⌜ r ≡ length (keptKinds comments instructions) ⌝ }
 {
     if comments {
@@ -58,7 +60,8 @@ fn kept_count(comments: bool, instructions: bool) -> u32
     0
 }
 
-fn kept_at(v: u32, comments: bool, instructions: bool) -> u32
+// The kind with number v there.
+pub fn kept_at(v: u32, comments: bool, instructions: bool) -> u32
     ensures { λ r. ⌜ r ≡ kindNumber (getD (keptKinds comments instructions) v SD) ⌝ }
 {
     if comments {
@@ -88,17 +91,46 @@ pub fn count_at(mode: u32, level: u32, comments: bool, instructions: bool) -> u3
     }
 }
 
-// The kind of the production with number v in a level; 0 where the level has none.
-pub fn kind_at(mode: u32, level: u32, v: u32, comments: bool, instructions: bool) -> u32
-    ensures { λ r. ⌜ KindAt comments instructions mode level v r ⌝ }
+// How many productions the main level has: outside an element the first, in an element the second.
+pub fn fixed_count(mode: u32) -> u32
+    ensures { λ r. ⌜ r ≡ length (fixedKinds mode) ⌝ }
 {
-    let kept = kept_at(v, comments, instructions);
     match mode {
-        IN_DOC_CONTENT => nth(level, nth(v, SE, 0, 0, 0), kept, 0, 0),
-        IN_DOC_END => nth(level, nth(v, ED, 0, 0, 0), kept, 0, 0),
-        IN_TAG => nth(level, 0, nth(v, EE, AT, SE, CH), kept, 0),
-        IN_ELEMENT => nth(level, nth(v, EE, 0, 0, 0), nth(v, SE, CH, 0, 0), kept, 0),
+        IN_DOCUMENT => 1,
+        IN_DOC_CONTENT => 1,
+        IN_DOC_END => 1,
+        IN_TAG => 4,
+        IN_ELEMENT => 2,
+        _ => 0,
+    }
+}
+
+// The kind of the production with number v there.
+pub fn fixed_kind(mode: u32, v: u32) -> u32
+    ensures { λ r. ⌜ r ≡ kindNumber (getD (fixedKinds mode) v SD) ⌝ }
+{
+    match mode {
+        IN_DOC_CONTENT => nth(v, SE, 0, 0, 0),
+        IN_DOC_END => nth(v, ED, 0, 0, 0),
+        IN_TAG => nth(v, EE, AT, SE, CH),
+        IN_ELEMENT => nth(v, SE, CH, 0, 0),
         _ => SD,
+    }
+}
+
+// 1 where that level leads on to those that are kept, else 0.
+pub fn leads_on(mode: u32, comments: bool, instructions: bool) -> u32
+    ensures { λ r. ⌜ r ≡ leadsOn (drop 1 (fixedLevels comments instructions mode)) ⌝ }
+{
+    if !(comments | instructions) {
+        return 0;
+    }
+    match mode {
+        IN_DOC_CONTENT => 1,
+        IN_DOC_END => 1,
+        IN_TAG => 1,
+        IN_ELEMENT => 1,
+        _ => 0,
     }
 }
 

@@ -3,19 +3,42 @@ use Prim.Native.Nat.{ℕ, suc, _+_, _≤_, _<_}
 use native.Mathlib.Omega.{arith}
 use native.Mathlib.Numerals.{add-one}
 use mathlib.Core.Path.{_≡_, refl}
-use mathlib.Core.List.{_∷_}
+use mathlib.Core.List.{[], _∷_, _++_}
 use lib.ListN.{length, getD, drop, drop-of-length-le}
 use lib.Seq.{drop-cons}
 use Rattle.text.specs.Text.{Text}
 use Rattle.mem_entries.specs.Texts.{mixed, hashFrom, hashOf}
 
-pub record Hashing (x : Text) (h i : ℕ) : Type 0 where
-  pub low : h < 4294967296
-  pub rest : hashFrom h (drop i x) ≡ hashOf x
+-- ---- one code point more
+
+module _ (c : ℕ) where
+  from-more : (h : ℕ) (x : Text) → hashFrom h (x ++ c ∷ []) ≡ mixed (hashFrom h x) c
+  unfolding hashFrom
+  from-more h [] = refl
+  from-more h (b ∷ x) = from-more (mixed h b) x
+
+  pub hash-more : (x : Text) → hashOf (x ++ c ∷ []) ≡ mixed (hashOf x) c
+  unfolding hashOf
+  hash-more x = from-more 0 x
 
 mixed-low : (h c : ℕ) → mixed h c < 4294967296
 unfolding mixed
 mixed-low h c = omega arith
+
+from-low : (h : ℕ) (x : Text) → h < 4294967296 → hashFrom h x < 4294967296
+unfolding hashFrom
+from-low h [] l = l
+from-low h (c ∷ x) l = from-low (mixed h c) x (mixed-low h c)
+
+pub hash-low : (x : Text) → hashOf x < 4294967296
+unfolding hashOf
+hash-low x = from-low 0 x (omega arith)
+
+-- ---- from the first code point on
+
+pub record Hashing (x : Text) (h i : ℕ) : Type 0 where
+  pub low : h < 4294967296
+  pub rest : hashFrom h (drop i x) ≡ hashOf x
 
 module _ (x : Text) where
   pub hash-start : Hashing x 0 0

@@ -4,7 +4,8 @@ ghost use mathlib.Core.Path.{_≡_};
 ghost use Prim.Native.Nat.{_<_};
 ghost use Rattle.mem_entries.specs.Texts.{mixed, hashOf, TextCells, rowHas, withText};
 
-fn mix(h: u64, c: u32) -> u64
+// The hash of a text, from the hash of all but its last code point.
+pub fn mix(h: u64, c: u32) -> u64
     requires { ⌜ h < 4294967296 ⌝ }
     ensures { λ r. ⌜ r ≡ mixed h c ⌝ }
 {

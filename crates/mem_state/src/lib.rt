@@ -94,7 +94,8 @@ fn join_name(work: &mut [u32], n: u32, uri: u32, x: Joining)
     mem_names::add_name(work, n, uri, x.place, x.size, x.hash);
 }
 
-fn join_value(work: &mut [u32], n: u32, owner: u32, x: Joining)
+// Adds a value that joins.
+pub fn join_value(work: &mut [u32], n: u32, owner: u32, x: Joining)
     requires { ⌜ ValuePre (now work) n owner x ⌝ }
     ensures { λ _. ⌜ now (work .exit) ≡ joinedValue n owner x (now (work .entry)) ⌝ }
 {
@@ -114,7 +115,8 @@ pub fn join_strings(work: &mut [u32], c: Core, s: Strings)
     join_value(work, c.values, s.owner, s.value);
 }
 
-fn enter(work: &mut [u32], enters: bool, name: u32)
+// Gives a name an element grammar.
+pub fn enter(work: &mut [u32], enters: bool, name: u32)
     requires { ⌜ EnterPre (now work) name ⌝ }
     ensures { λ _. ⌜ now (work .exit) ≡ entered enters name (now (work .entry)) ⌝ }
 {
@@ -157,7 +159,8 @@ pub fn grow(work: &mut [u32], c: Core, g: Growth)
 
 // ---- numbers
 
-fn one(b: bool) -> u32
+// 1 for yes.
+pub fn one(b: bool) -> u32
     ensures { λ r. ⌜ One b r ⌝ }
 {
     if b {
@@ -184,7 +187,7 @@ pub fn count(c: Core, s: Strings, g: Growth) -> Core
 }
 
 // The grammar's state after an event of this kind.
-fn mode_after(kind: u32, mode: u32, depth: usize) -> u32
+pub fn mode_after(kind: u32, mode: u32, depth: usize) -> u32
     ensures { λ r. ⌜ r ≡ modeAfter kind mode depth ⌝ }
 {
     match kind {

@@ -4,3 +4,4 @@ pub mod View
 pub mod Numbers
 pub mod Groups
 pub mod Zeros
+pub mod FewBits

@@ -5,7 +5,6 @@ use Prim.Native.Nat.{ℕ, zero, suc, _+_, _*_, _-_, _/_, _%_, _^_, _≤_, _<_}
 use native.Mathlib.Omega.{arith}
 use lib.ListN.{length, take, drop, length-drop}
 use lib.Seq.{drop-drop}
-use lib.Pow.{shl-exact, shl-lt}
 use lib.Bits.{bitAnd}
 use lib.Dec.{leb}
 use borrow.Author.Tests.{leb-true, leb-false}
@@ -74,17 +73,15 @@ octets-ended : (n : ℕ) (bs : Bits) → length bs < 8 * octetsFor n → numberF
 unfolding numberField _>>=_ andThen
 octets-ended n bs h = rw (few-octets (octetsFor n) bs h)
 
--- At most two octets, the least significant first: their bits as 16 with zeros behind them, and the
--- octets of that number exchanged.
-little : (k : ℕ) (bs : Bits) → k ≤ 2
-    → ahead (k * 8) bs * 2 ^ (16 - k * 8) % 256 * 256 + ahead (k * 8) bs * 2 ^ (16 - k * 8) / 256
-    ≡ littleValue (octetsFrom k bs)
-unfolding ahead octetsFrom littleValue valueOf
-little zero bs h = omega arith
-little (suc zero) bs h = omega (arith, ahead-bound 8 bs)
-little (suc (suc zero)) bs h =
-    rw (ahead-add 8 8 bs) (omega (arith, ahead-bound 8 bs, ahead-bound 8 (drop 8 bs)))
-little (suc (suc (suc k))) bs h = absurd (omega arith)
+-- One octet, and two, the least significant first.
+little-one : (bs : Bits) → ahead 8 bs ≡ littleValue (octetsFrom 1 bs)
+unfolding ahead octetsFrom littleValue
+little-one bs = omega arith
+
+little-two : (bs : Bits)
+    → ahead 16 bs % 256 * 256 + ahead 16 bs / 256 ≡ littleValue (octetsFrom 2 bs)
+unfolding ahead octetsFrom littleValue
+little-two bs = rw (ahead-add 8 8 bs) (omega (arith, ahead-bound 8 bs, ahead-bound 8 (drop 8 bs)))
 
 -- A number is no refusal.
 apart : {X : Type 0} {v q r : ℕ} → Value v q ≡ Refused r → X
@@ -123,7 +120,12 @@ module _ (s : List ℕ) (at : ℕ) where
   bits-none {n} e l =
       sym (bits-there n l ∙ ap (λ k. Value (ahead k (drop at (unpack s))) (at + n)) e)
 
-  -- n bits, cut out of a window of three octets.
+  -- n bits, cut out of a window of two octets, and of three.
+  pub few-cut : (n x : ℕ) → n ≤ 8 → at + n ≤ 8 * length s → x % 2 ^ n ≡ ahead n (drop at (unpack s))
+      → Value (bitAnd x ((1 * 2 ^ n) % 2 ^ 32 - 1)) (at + n)
+      ≡ fieldAt (numberField bitPacked n) s at
+  few-cut n x h l e = rw (masked x n (omega arith), e) (sym (bits-there n l))
+
   pub bits-cut : (n : ℕ) {x y z : ℕ} → 0 < n → n ≤ 16 → at + n ≤ 8 * length s → Octet s (at / 8) x
       → Octet s ((at / 8 + (at + n - 1) / 8) / 2) y → Octet s ((at + n - 1) / 8) z
       → Value (bitAnd ((x * 65536 + y * 256 + z) / 2 ^ spare at n) ((1 * 2 ^ n) % 2 ^ 32 - 1)) (at + n)
@@ -152,45 +154,56 @@ module _ (s : List ℕ) (at : ℕ) where
         let e = octets-ended n (drop at (unpack s)) (omega (arith, left, h .place)) in
         sym (field-bad (numberField byteAligned n) s at ended e)
 
-    pub octets-none : {r : ℕ} → fieldAt (numberField bitPacked (k * 8)) s at ≡ Refused r
-        → Refused r ≡ fieldAt (numberField byteAligned n) s at
-    octets-none e =
-        split (leb (at + k * 8) (8 * length s))
-        (λ t. apart (sym (bits-there (k * 8) (leb-true (at + k * 8) (8 * length s) t)) ∙ e))
-        (λ t.
-        let l = leb-false (at + k * 8) (8 * length s) t in
-        sym e ∙ sym (bits-past (k * 8) h l) ∙ octets-past l)
+  pub octets-no : {n : ℕ} → n ≡ 0 → InStream s at
+      → Value 0 at ≡ fieldAt (numberField byteAligned n) s at
+  unfolding octetsFrom littleValue
+  octets-no {n} e h =
+      let z : at + 0 * 8 ≡ at = omega arith in
+      sym (octets-there n 0 (omega arith) h (omega (arith, h .place)) ∙ ap (λ q. Value 0 q) z)
 
-    module _ {v q : ℕ} (few : k ≤ 2)
-        (e : fieldAt (numberField bitPacked (k * 8)) s at ≡ Value v q) where
-      inside : at + k * 8 ≤ 8 * length s
-      inside =
-          split (leb (at + k * 8) (8 * length s)) (λ t. leb-true (at + k * 8) (8 * length s) t)
-          (λ t. apart (sym e ∙ sym (bits-past (k * 8) h (leb-false (at + k * 8) (8 * length s) t))))
+  -- One octet is eight bits.
+  pub octets-one : (n : ℕ) → 0 < n → n ≤ 8 → InStream s at
+      → fieldAt (numberField bitPacked 8) s at ≡ fieldAt (numberField byteAligned n) s at
+  octets-one n p l h =
+      let i : (n + 7) / 8 ≡ 1 = omega arith in
+      split (leb (at + 8) (8 * length s))
+      (λ t.
+      let m = leb-true (at + 8) (8 * length s) t in
+      bits-there 8 m ∙ rw (little-one (drop at (unpack s))) (sym (octets-there n 1 i h m)))
+      (λ t.
+      let m = leb-false (at + 8) (8 * length s) t in
+      sym (bits-past 8 h m) ∙ octets-past n 1 i h m)
 
-      same : Value (ahead (k * 8) (drop at (unpack s))) (at + k * 8) ≡ Value v q
-      same = sym (bits-there (k * 8) inside) ∙ e
+  -- Two octets are sixteen bits, exchanged.
+  module _ (h : InStream s at) {v q : ℕ}
+      (e : fieldAt (numberField bitPacked 16) s at ≡ Value v q) where
+    inside : at + 16 ≤ 8 * length s
+    inside =
+        split (leb (at + 16) (8 * length s)) (λ t. leb-true (at + 16) (8 * length s) t)
+        (λ t. apart (sym e ∙ sym (bits-past 16 h (leb-false (at + 16) (8 * length s) t))))
 
-      is : v ≡ ahead (k * 8) (drop at (unpack s))
-      is = cc same
+    same : Value (ahead 16 (drop at (unpack s))) (at + 16) ≡ Value v q
+    same = sym (bits-there 16 inside) ∙ e
 
-      below : v < 2 ^ (k * 8)
-      below = rw is (ahead-bound (k * 8) (drop at (unpack s)))
+    is : v ≡ ahead 16 (drop at (unpack s))
+    is = cc same
 
-      -- With zeros behind them they are 16.
-      raised : (v * 2 ^ (16 - k * 8)) % 2 ^ 32 ≡ v * 2 ^ (16 - k * 8)
-      raised = shl-exact (k * 8) (16 - k * 8) 32 below (omega arith)
+    pub two-small : v < 65536
+    two-small = rw is (ahead-bound 16 (drop at (unpack s)))
 
-      pub raised-fits : (v * 2 ^ (16 - k * 8)) % 2 ^ 32 < 65536
-      raised-fits =
-          let j : k * 8 + (16 - k * 8) ≡ 16 = omega arith in
-          rw raised (rw j at (shl-lt (k * 8) (16 - k * 8) below))
+    pub octets-found : (n : ℕ) → (n + 7) / 8 ≡ 2 → {r : ℕ} → r ≡ v % 256 * 256 + v / 256
+        → Value r q ≡ fieldAt (numberField byteAligned n) s at
+    octets-found n i {r} j =
+        let bs = drop at (unpack s) in
+        let m : r ≡ littleValue (octetsFrom 2 bs) = j ∙ rw is (little-two bs) in
+        let o : at + 16 ≡ q = cc same in
+        rw (m, ← o) (sym (octets-there n 2 i h inside))
 
-      pub octets-found : {r : ℕ}
-          → r ≡ (v * 2 ^ (16 - k * 8)) % 2 ^ 32 % 256 * 256 + (v * 2 ^ (16 - k * 8)) % 2 ^ 32 / 256
-          → Value r q ≡ fieldAt (numberField byteAligned n) s at
-      octets-found {r} j =
-          let bs = drop at (unpack s) in
-          let m : r ≡ littleValue (octetsFrom k bs) = j ∙ rw (raised, is) (little k bs few) in
-          let o : at + k * 8 ≡ q = cc same in
-          rw (m, ← o) (sym (octets-there inside))
+  pub octets-none : InStream s at → {r : ℕ} → fieldAt (numberField bitPacked 16) s at ≡ Refused r
+      → (n : ℕ) → (n + 7) / 8 ≡ 2 → Refused r ≡ fieldAt (numberField byteAligned n) s at
+  octets-none h e n i =
+      split (leb (at + 16) (8 * length s))
+      (λ t. apart (sym (bits-there 16 (leb-true (at + 16) (8 * length s) t)) ∙ e))
+      (λ t.
+      let l = leb-false (at + 16) (8 * length s) t in
+      sym e ∙ sym (bits-past 16 h l) ∙ octets-past n 2 i h l)

@@ -1,4 +1,4 @@
--- A field cut out of a window of three octets by a shift and a mask.
+-- A field cut out of a window of two or three octets by a shift and a mask.
 use mathlib.Core.Path.{_≡_, sym, ap, _∙_}
 use mathlib.Core.List.{List}
 use Prim.Native.Nat.{ℕ, _+_, _*_, _-_, _/_, _%_, _^_, _≤_, _<_}
@@ -62,6 +62,26 @@ module _ (s : List ℕ) (at n : ℕ) where
       let r = ahead (at % 8 + n + spare at n) bs in
       rw e
       (above w (at % 8) n (spare at n) r ∙ cut (at % 8) n (spare at n) bs ∙ ap (ahead n) there)
+
+  -- The first octet and the last, or one octet twice.
+  pub window-two : {x z : ℕ} → 0 < n → n ≤ 8 → Octet s (at / 8) x → Octet s ((at + n - 1) / 8) z
+      → (x * 256 + z) / 2 ^ spare at n % 2 ^ n ≡ ahead n (drop at (unpack s))
+  window-two {x} {z} p h hx hz =
+      let i = at / 8 in
+      let j = (at + n - 1) / 8 in
+      let bs = drop (8 * i) (unpack s) in
+      split (leb j i)
+      (λ e.
+      let l = leb-true j i e in
+      let ez : z ≡ ahead 8 bs = octet-behind s i 0 hz (omega arith) in
+      let r : x * 256 + z ≡ x * 256 + ahead 8 bs = omega arith in
+      rw r (spanned x 1 (omega arith)))
+      (λ e.
+      let l = leb-false j i e in
+      let ex : x ≡ ahead 8 bs = octet-behind s i 0 hx (omega arith) in
+      let ez : z ≡ ahead 8 (drop 8 bs) = octet-behind s i 1 hz (omega arith) in
+      let r : x * 256 + z ≡ 0 * 65536 + ahead 16 bs = omega (arith, ahead-add 8 8 bs) in
+      rw r (spanned 0 2 (omega arith)))
 
   -- The first octet, the one before the last, or the first again, and the last.
   pub window : {x y z : ℕ} → 0 < n → n ≤ 16 → Octet s (at / 8) x

@@ -1,14 +1,15 @@
--- What the readers are made of: an octet, the 8 bits at a position, the rest of an Unsigned Integer.
-use Prim.Native.Nat.{ℕ, _+_, _*_, _<_}
+-- What the readers are made of: an octet, a few bits, the rest of an Unsigned Integer.
+use Prim.Native.Nat.{ℕ, _+_, _*_, _≤_, _<_}
 use mathlib.Core.Path.{_≡_}
-use mathlib.Core.Bool.{false, _&&_}
+use mathlib.Core.Bool.{Bool, true, false, _&&_}
 use mathlib.Core.List.{List, _++_}
-use lib.ListN.{take, drop, replicate, getD}
+use lib.ListN.{length, take, drop, replicate, getD}
 use lib.Dec.{leb, ltb}
 use Rattle.spec_fields.specs.Bits.{Bits, valueOf, unpack}
 use Rattle.spec_fields.specs.Refusal.{number}
 use Rattle.spec_fields.specs.Parser.{Parser, return, need, _>>=_, _>>_}
-use Rattle.spec_fields.specs.Field.{grouped, maxUnsigned}
+use Rattle.spec_fields.specs.Field.{grouped, maxUnsigned, width}
+use Rattle.read_field.specs.View.{InStream}
 
 -- The number of the next n bits, zeros standing for bits past the end.
 unfoldable pub ahead : ℕ → Bits → ℕ
@@ -23,6 +24,22 @@ pub record Octet (s : List ℕ) (i o : ℕ) : Type 0 where
 pub record Peeked (s : List ℕ) (at x : ℕ) : Type 0 where
   pub is : x ≡ ahead 8 (drop at (unpack s))
   pub small : x < 256
+
+-- One to eight bits at a position.
+pub record FewIn (s : List ℕ) (at n : ℕ) : Type 0 where
+  pub there : InStream s at
+  pub some : 0 < n
+  pub most : n ≤ 8
+
+-- The same, and the stream has them.
+pub record Lying (s : List ℕ) (at n : ℕ) : Type 0 where
+  pub few : FewIn s at n
+  pub inside : at + n ≤ 8 * length s
+
+-- The bits of a choice among two to 256: byte-aligned an octet.
+unfoldable pub few : Bool → ℕ → ℕ
+few true m = 8
+few false m = width m
 
 -- An Unsigned Integer after groups that come to `low`: at most k more octets, the next group of this
 -- weight.

@@ -1,10 +1,11 @@
 // The fields of a stream, read at a bit position.
 ghost use mathlib.Core.Path.{_≡_};
-ghost use Prim.Native.Nat.{_+_, _*_, _/_, _%_, _≤_, _<_};
-ghost use lib.ListN.{length};
+ghost use Prim.Native.Nat.{_+_, _*_, _/_, _%_, _^_, _≤_, _<_};
+ghost use lib.ListN.{length, drop};
+ghost use Rattle.spec_fields.specs.Bits.{unpack};
 ghost use Rattle.spec_fields.specs.Field.{bitPacked, byteAligned, octet, numberField, width, unsigned};
 ghost use Rattle.read_field.specs.View.{fieldAt, alignmentOf, InStream, NumberIn};
-ghost use Rattle.read_field.specs.Parts.{Octet, Peeked, onward};
+ghost use Rattle.read_field.specs.Parts.{Octet, Peeked, FewIn, Lying, ahead, few, onward};
 
 // The stream ends inside the field.
 const ENDED: u8 = 5;
@@ -20,30 +21,47 @@ pub enum Field {
     Refused(u8),
 }
 
-// The octet at an index, zero past the end.
-fn octet_or_zero(s: &[u8], i: usize) -> u32
-    ensures { λ r. ⌜ Octet (now (s .entry)) i r ⌝ }
-{
-    if i < s.len() {
-        return s[i] as u32;
-    }
-    0
-}
-
-// The 8 bits at a position, zeros standing for bits past the end.
-fn peek(s: &[u8], at: usize) -> u32
-    ensures { λ r. ⌜ Peeked (now (s .entry)) at r ⌝ }
-{
-    let high = octet_or_zero(s, at / 8);
-    let low = octet_or_zero(s, at / 8 + 1);
-    ((high * 256 + low) >> (8 - at % 8)) % 256
-}
-
 fn octet_at(s: &[u8], i: usize) -> u32
     requires { ⌜ i < length (now s) ⌝ }
     ensures { λ r. ⌜ Octet (now (s .entry)) i r ⌝ }
 {
     s[i] as u32
+}
+
+// A number that ends in n bits, one to eight, out of the first and the last octet that they touch.
+fn span(s: &[u8], at: usize, n: u32) -> u32
+    requires { ⌜ Lying (now s) at n ⌝ }
+    ensures { λ r. ⌜ r % 2 ^ n ≡ ahead n (drop at (unpack (now (s .entry)))) ⌝ }
+{
+    let last = at + n as usize - 1;
+    let high = octet_at(s, at / 8);
+    let low = octet_at(s, last / 8);
+    (high * 256 + low) >> (7 - last % 8)
+}
+
+// The 8 bits at a position, which lie in the stream.
+fn octet_in(s: &[u8], at: usize) -> u32
+    requires { ⌜ Lying (now s) at 8 ⌝ }
+    ensures { λ r. ⌜ Peeked (now (s .entry)) at r ⌝ }
+{
+    span(s, at, 8) % 256
+}
+
+// One to eight bits.
+fn few_bits(s: &[u8], at: usize, n: u32) -> Field
+    requires { ⌜ FewIn (now s) at n ⌝ }
+    ensures { λ r. ⌜ r ≡ fieldAt (numberField bitPacked n) (now (s .entry)) at ⌝ }
+{
+    let next = at + n as usize;
+    if 8 * s.len() < next {
+        return Field::Refused(ENDED);
+    }
+    let window = span(s, at, n);
+    let power: u32 = 1 << n;
+    Field::Value {
+        value: window & (power - 1),
+        next,
+    }
 }
 
 // n bits, most significant first, cut out of the octets that they touch: none to three. Where they
@@ -80,15 +98,20 @@ pub fn exchanged(x: u32) -> u32
     (x & 255) * 256 + (x >> 8)
 }
 
-// The fewest octets that hold n bits, least significant first.
+// The fewest octets that hold n bits, least significant first: none, one or two.
 fn octets(s: &[u8], at: usize, n: u32) -> Field
     requires { ⌜ NumberIn (now s) at n 16 ⌝ }
     ensures { λ r. ⌜ r ≡ fieldAt (numberField byteAligned n) (now (s .entry)) at ⌝ }
 {
-    let size = (n + 7) / 8 * 8;
-    match bits(s, at, size) {
+    if n == 0 {
+        return Field::Value { value: 0, next: at };
+    }
+    if n <= 8 {
+        return few_bits(s, at, 8);
+    }
+    match bits(s, at, 16) {
         Field::Value { value, next } => Field::Value {
-            value: exchanged(value << (16 - size)),
+            value: exchanged(value),
             next,
         },
         Field::Refused(k) => Field::Refused(k),
@@ -99,7 +122,7 @@ pub fn octet(s: &[u8], at: usize) -> Field
     requires { ⌜ InStream (now s) at ⌝ }
     ensures { λ r. ⌜ r ≡ fieldAt octet (now (s .entry)) at ⌝ }
 {
-    bits(s, at, 8)
+    few_bits(s, at, 8)
 }
 
 // A number of n bits.
@@ -124,11 +147,28 @@ pub fn width(m: u32) -> u32
     32 - u32::leading_zeros(m - 1)
 }
 
+// How many bits the field of a choice among two to 256 has.
+fn few(aligned: bool, m: u32) -> u32
+    requires { ⌜ m ≤ 256 ⌝ }
+    ensures { λ r. ⌜ r ≡ few aligned m ⌝ }
+{
+    if aligned {
+        return 8;
+    }
+    width(m)
+}
+
 // The number in the field of a choice among m. It may be m or more, which the caller judges.
 pub fn choice(aligned: bool, s: &[u8], at: usize, m: u32) -> Field
     requires { ⌜ NumberIn (now s) at m 65536 ⌝ }
     ensures { λ r. ⌜ r ≡ fieldAt (numberField (alignmentOf aligned) (width m)) (now (s .entry)) at ⌝ }
 {
+    if m <= 1 {
+        return Field::Value { value: 0, next: at };
+    }
+    if m <= 256 {
+        return few_bits(s, at, few(aligned, m));
+    }
     number(aligned, s, at, width(m))
 }
 
@@ -151,7 +191,7 @@ fn onward(s: &[u8], at: usize, first: u64) -> Field
         if 8 * s.len() < place + 8 {
             return Field::Refused(ENDED);
         }
-        let o = wide(peek(s, place));
+        let o = wide(octet_in(s, place));
         if o == 0 {
             return Field::Refused(NUMBER);
         }
@@ -173,14 +213,15 @@ fn onward(s: &[u8], at: usize, first: u64) -> Field
     Field::Refused(NUMBER)
 }
 
-pub fn unsigned(s: &[u8], at: usize) -> Field
+// An Unsigned Integer of any length.
+pub fn unsigned_any(s: &[u8], at: usize) -> Field
     requires { ⌜ InStream (now s) at ⌝ }
     ensures { λ r. ⌜ r ≡ fieldAt unsigned (now (s .entry)) at ⌝ }
 {
     if 8 * s.len() < at + 8 {
         return Field::Refused(ENDED);
     }
-    let o = peek(s, at);
+    let o = octet_in(s, at);
     if o < 128 {
         return Field::Value {
             value: o,
@@ -188,4 +229,20 @@ pub fn unsigned(s: &[u8], at: usize) -> Field
         };
     }
     onward(s, at + 8, wide(o - 128))
+}
+
+// An Unsigned Integer: most have one octet.
+pub fn unsigned(s: &[u8], at: usize) -> Field
+    requires { ⌜ InStream (now s) at ⌝ }
+    ensures { λ r. ⌜ r ≡ fieldAt unsigned (now (s .entry)) at ⌝ }
+{
+    let next = at + 8;
+    if 8 * s.len() < next {
+        return Field::Refused(ENDED);
+    }
+    let o = octet_in(s, at);
+    if o < 128 {
+        return Field::Value { value: o, next };
+    }
+    unsigned_any(s, at)
 }

@@ -15,7 +15,7 @@ use Rattle.spec_fields.specs.Field.{unsigned}
 use Rattle.spec_fields.proofs.Pack.{length-unpack}
 use Rattle.spec_fields.proofs.Exact.{Reads, reads-checked}
 use Rattle.spec_fields.proofs.Number.{Unsigned, unsigned-reads}
-use Rattle.text.specs.Text.{Text, isChar}
+use Rattle.text.specs.Text.{Text, part, isChar}
 use Rattle.text.proofs.Char.{low}
 use Rattle.spec_exi.specs.Settings.{Settings}
 use Rattle.spec_exi.specs.Sizes.{maxStream, maxStore, maxString, sizes}
@@ -28,6 +28,8 @@ use Rattle.read_field.specs.Parts.{Octet, Peeked}
 use Rattle.read_field.proofs.Ahead.{peeked}
 use Rattle.read_field.proofs.Groups.{unsigned-first}
 use Rattle.read_field.proofs.View as view
+use Rattle.mem_entries.specs.Texts.{mixed, hashFrom, hashOf}
+use Rattle.mem_entries.proofs.Hashing.{hash-more, hash-low}
 use Rattle.read_contract.specs.Outcome.{Declined, Gotten, Outcome}
 use Rattle.read_contract.proofs.Outcome.{declined-number, value-gotten, refused-outcome, gotten-outcome, declined-then, gotten-then, gotten-declined, return-gotten, outcome-map, need-passed, need-failed, need-gotten, need-declined, times-empty, times-declined, times-gotten, unsigned-gotten, refused-declined}
 use Rattle.read_literal.specs.declared.Literal as declared
@@ -35,7 +37,7 @@ use Rattle.read_literal.specs.Awaits.{Awaits, Waits}
 use Rattle.read_literal.specs.Literal.{LiteralFit, base, CharactersFit, laidAt, Place, Plain, PointRead, Cleared, Cut, CharactersRead, Laid, LiteralRead}
 use Rattle.spec_fields.proofs.Steady.{Steady, steady-then, steady-guard, steady-return, steady-unsigned}
 use Rattle.read_literal.proofs.Awaits.{awaits-all, awaits-one, awaits-then, awaits-need}
-use Rattle.read_literal.proofs.Store.{laid-none, laid-next, laid-size, laid-over}
+use Rattle.read_literal.proofs.Store.{laid-none, laid-next, laid-size, laid-over, laid-part}
 
 -- ---- one code point
 
@@ -128,29 +130,33 @@ pub turn-spot : {s : List ℕ} {at j k : ℕ} {text : List ℕ} {stored n : ℕ}
 turn-spot fit e h = record { size = fit .literal .size; inside = h; low = omega arith }
 
 -- i code points are read and lie behind the store; the others are still to come.
-pub record Turn (stream : List ℕ) (at : ℕ) (text : List ℕ) (stored n : ℕ) (text′ : List ℕ) (next i : ℕ) : Type 0 where
+pub record Turn (stream : List ℕ) (at : ℕ) (text : List ℕ) (stored n : ℕ) (text′ : List ℕ)
+    (next i h : ℕ) : Type 0 where
   pub inside : i ≤ n
   pub read : Gotten (times i (readCharacter base)) stream at next
   pub size : length (read .value) ≡ i
   pub text-is : text′ ≡ laidAt text stored (read .value)
+  pub hashed : h ≡ hashOf (read .value)
   pub waits : Awaits (readCharacter base) (times n (readCharacter base)) (drop at (unpack stream)) (drop next (unpack stream)) (n - i)
 
 module _ {stream : List ℕ} {at : ℕ} {text : List ℕ} {stored n : ℕ} (fit : CharactersFit stream at text stored n) where
-  pub turn-start : Turn stream at text stored n text at 0
+  pub turn-start : Turn stream at text stored n text at 0 0
+  unfolding hashOf hashFrom
   turn-start =
       record {
         inside = omega arith;
         read = times-empty (readCharacter base) (fit .literal .place);
         size = refl;
         text-is = laid-none text stored;
+        hashed = refl;
         waits = let e : n - 0 ≡ n = omega arith in rw e (awaits-all (readCharacter base) (drop at (unpack stream)) n);
       }
 
   -- The same by an octet and a bit in it.
-  pub spot-start : Turn stream at text stored n text (8 * (at / 8) + at % 8) 0
+  pub spot-start : Turn stream at text stored n text (8 * (at / 8) + at % 8) 0 0
   spot-start = let e : 8 * (at / 8) + at % 8 ≡ at = omega arith in rw e turn-start
 
-  module _ {text′ : List ℕ} {next i : ℕ} (t : Turn stream at text stored n text′ next i) where
+  module _ {text′ : List ℕ} {next i h : ℕ} (t : Turn stream at text stored n text′ next i h) where
     pub turn-place : InStream stream next
     unfolding maxStream
     turn-place = record { size = omega (arith, fit .literal .size); place = t .read .inside }
@@ -165,26 +171,40 @@ module _ {stream : List ℕ} {at : ℕ} {text : List ℕ} {stored n : ℕ} (fit 
     turn-room h = omega (arith, turn-length, fit .ends, fit .literal .room)
 
     -- The end.
-    pub turn-end : n ≤ i → CharactersRead stream at text stored n text′ (record { number = 0; next = next; left = 0 })
-    turn-end h =
+    pub turn-end : n ≤ i
+        → CharactersRead stream at text stored n text′
+        (record { number = 0; next = next; left = 0; hash = h })
+    turn-end l =
         let e : i ≡ n = omega (arith, t .inside) in
+        let s : length (t .read .value) ≡ n = omega (arith, t .size) in
+        let x : part text′ (record { place = stored; size = n }) ≡ t .read .value =
+        rw (t .text-is, ← s) (laid-part text stored (t .read .value) turn-fits) in
         record {
           outcome = rw (← e) (gotten-outcome refl (t .read) (t .text-is, t .size));
           inside = t .read .inside;
           cut = λ l. absurd (omega arith);
           whole = λ _. refl;
+          hashed = record {
+            is = λ _. t .hashed ∙ ap hashOf (sym x);
+            none = λ l. absurd (omega arith);
+          };
           cleared = λ l. absurd (omega arith);
         }
 
-    module _ (h : i < n) where
+    pub turn-hash : h < 4294967296
+    turn-hash = omega (arith, t .hashed, hash-low (t .read .value))
+
+    module _ (l : i < n) where
       -- A code point that is refused: what was laid is cleared.
       pub turn-refused : {k : ℕ} → fieldAt (readCharacter base) stream next ≡ Refused k → {text″ : List ℕ} → text″ ≡ laidAt text′ stored (replicate i 0)
-          → CharactersRead stream at text stored n text″ (record { number = k; next = next; left = n - i })
+          → CharactersRead stream at text stored n text″
+          (record { number = k; next = next; left = n - i; hash = 0 })
       turn-refused e c =
           let d = refused-declined (readCharacter base) stream next e in
-          let l : length (replicate {A = ℕ} i 0) ≡ length (t .read .value) = length-replicate i 0 ∙ sym (t .size) in
+          let z : length (replicate {A = ℕ} i 0) ≡ length (t .read .value) =
+          length-replicate i 0 ∙ sym (t .size) in
           record {
-            outcome = refused-outcome (times-declined (readCharacter base) i (t .read) n h d);
+            outcome = refused-outcome (times-declined (readCharacter base) i (t .read) n l d);
             inside = t .read .inside;
             cut = λ _. record {
               some = omega arith;
@@ -192,33 +212,45 @@ module _ {stream : List ℕ} {at : ℕ} {text : List ℕ} {stored n : ℕ} (fit 
               stops = d;
             };
             whole = λ z. absurd (omega (arith, declined-number d));
+            hashed = record {
+              is = λ z. absurd (omega (arith, declined-number d));
+              none = λ _. refl;
+            };
             cleared = λ _. record {
               cells = i;
               room = omega (arith, fit .ends);
-              text-is = c ∙ rw (t .text-is) (laid-over text stored (t .read .value) (replicate i 0) l turn-fits);
+              text-is = c
+                  ∙ rw (t .text-is)
+                  (laid-over text stored (t .read .value) (replicate i 0) z turn-fits);
             };
           }
 
-      pub turn-next : {v q : ℕ} → fieldAt (readCharacter base) stream next ≡ Value v q → Turn stream at text stored n (set text′ (stored + i) v) q (i + 1)
-      turn-next {v} {q} e =
+      pub turn-next : {v q : ℕ} → fieldAt (readCharacter base) stream next ≡ Value v q
+          → {k : ℕ} → k ≡ mixed h v
+          → Turn stream at text stored n (set text′ (stored + i) v) q (i + 1) k
+      turn-next {v} {q} e m =
           let g : Gotten (readCharacter base) stream next q = value-gotten (readCharacter base) stream next character-reads (t .read .inside) e in
-          let m : n - i ≡ suc (n - (i + 1)) = omega arith in
+          let left : n - i ≡ suc (n - (i + 1)) = omega arith in
           record {
             inside = omega arith;
             read = times-gotten (readCharacter base) i (t .read) (value-gotten (readCharacter base) stream next character-reads (t .read .inside) e);
             size = length-append (t .read .value) (v ∷ []) ∙ ap (λ m. m + 1) (t .size);
             text-is = laid-next text stored (t .read .value) (t .text-is) refl (t .size) (omega (arith, fit .ends, fit .literal .room));
-            waits = awaits-one v steady-character (g .result) (rw m at (t .waits));
+            hashed = m ∙ rw (t .hashed) (sym (hash-more v (t .read .value)));
+            waits = awaits-one v steady-character (g .result) (rw left at (t .waits));
           }
 
 -- ---- a literal
+
+abbrev overLimit : ℕ → declared.Literal
+overLimit at = record { number = 12; next = at; left = 0; hash = 0 }
 
 nothing-cleared : (text : List ℕ) {stored : ℕ} → stored ≤ maxStore → Cleared text stored text
 nothing-cleared text {stored} h = record { cells = 0; room = omega arith; text-is = laid-none text stored }
 
 module _ {stream : List ℕ} {at : ℕ} {text : List ℕ} {stored n : ℕ} (fit : LiteralFit stream at text stored) where
   module _ (d : (s : Settings) (t : Tables) → length (t .store) ≡ stored → Outcome (readLiteral sizes s t n) stream at 12 at (Laid text stored n text)) where
-    over-limit : LiteralRead stream at text stored n text (record { number = 12; next = at; left = 0 })
+    over-limit : LiteralRead stream at text stored n text (overLimit at)
     over-limit =
         record {
           outcome = d;
@@ -226,15 +258,17 @@ module _ {stream : List ℕ} {at : ℕ} {text : List ℕ} {stored n : ℕ} (fit 
           ends = λ z. absurd (omega arith);
           small = λ z. absurd (omega arith);
           behind = λ z. absurd (omega arith);
+          hashed = record { is = λ z. absurd (omega arith); none = λ _. refl };
           cleared = λ _. nothing-cleared text (fit .few);
           waits = λ z. absurd (omega arith);
         }
 
-  pub literal-long : 4096 < n → LiteralRead stream at text stored n text (record { number = 12; next = at; left = 0 })
+  pub literal-long : 4096 < n → LiteralRead stream at text stored n text (overLimit at)
   unfolding readLiteral maxString numberOf
   literal-long h = over-limit (λ s t e. need-failed (leb n 4096) limit _ (lt-leb n 4096 h))
 
-  pub literal-full : n ≤ 4096 → 16384 < stored + n → LiteralRead stream at text stored n text (record { number = 12; next = at; left = 0 })
+  pub literal-full : n ≤ 4096 → 16384 < stored + n
+      → LiteralRead stream at text stored n text (overLimit at)
   unfolding readLiteral maxString maxStore numberOf
   literal-full l h =
       over-limit (λ s t e.
@@ -267,6 +301,7 @@ module _ {stream : List ℕ} {at : ℕ} {text : List ℕ} {stored n : ℕ} (fit 
           ends = λ _. h;
           small = λ _. l;
           behind = λ z. record { x = c .outcome .read z .value; size = c .outcome .is z .1; text-is = c .outcome .is z .0 };
+          hashed = c .hashed;
           cleared = c .cleared;
           waits = characters-wait;
         }

@@ -6,13 +6,14 @@ use mathlib.Core.List.{List, _++_}
 use lib.ListN.{length, take, drop, replicate, getD}
 use Rattle.spec_fields.specs.Parser.{times}
 use Rattle.spec_fields.specs.Field.{bitPacked}
-use Rattle.text.specs.Text.{Text}
+use Rattle.text.specs.Text.{Text, part}
 use Rattle.spec_exi.specs.Settings.{Settings}
 use Rattle.spec_exi.specs.Sizes.{maxStream, maxStore, maxString, sizes}
 use Rattle.spec_exi.specs.Tables.{Tables, Form, literal, Placed}
 use Rattle.spec_exi.specs.Reader.{readCharacter, readLiteral}
 use Rattle.read_field.specs.declared.Field.the-variants.{Value, Refused}
 use Rattle.read_field.specs.View.{fieldAt}
+use Rattle.mem_entries.specs.Texts.{hashOf}
 use Rattle.read_contract.specs.Outcome.{Declined, Outcome}
 use Rattle.read_literal.specs.declared.Literal as declared
 use Rattle.read_literal.specs.declared.Point as point
@@ -69,12 +70,18 @@ pub record Cut (stream : List ℕ) (at n number next left : ℕ) : Type 0 where
   pub waits : Waits (readCharacter base) (times n (readCharacter base)) stream at next left
   pub stops : Declined (readCharacter base) stream next number
 
+-- The hash of the text behind the store, 0 after a refusal.
+pub record LiteralHash (text′ : List ℕ) (stored n : ℕ) (r : declared.Literal) : Type 0 where
+  pub is : r .number ≡ 0 → r .hash ≡ hashOf (part text′ (record { place = stored; size = n }))
+  pub none : 0 < r .number → r .hash ≡ 0
+
 -- n code points, read to the store's end.
 pub record CharactersRead (stream : List ℕ) (at : ℕ) (text : List ℕ) (stored n : ℕ) (text′ : List ℕ) (r : declared.Literal) : Type 0 where
   pub outcome : Outcome (times n (readCharacter base)) stream at (r .number) (r .next) (λ x. (text′ ≡ laidAt text stored x) × (length x ≡ n))
   pub inside : r .next ≤ 8 * length stream
   pub cut : 0 < r .number → Cut stream at n (r .number) (r .next) (r .left)
   pub whole : r .number ≡ 0 → r .left ≡ 0
+  pub hashed : LiteralHash text′ stored n r
   pub cleared : 0 < r .number → Cleared text stored text′
 
 -- A text of n code points lies behind the store.
@@ -98,6 +105,7 @@ pub record LiteralRead (stream : List ℕ) (at : ℕ) (text : List ℕ) (stored 
   pub ends : r .number ≡ 0 → stored + n ≤ maxStore
   pub small : r .number ≡ 0 → n ≤ maxString
   pub behind : r .number ≡ 0 → Behind text stored n text′
+  pub hashed : LiteralHash text′ stored n r
   pub cleared : 0 < r .number → Cleared text stored text′
   -- where code points are left, whatever octets follow
   pub waits : 0 < r .left → (s : Settings) (t : Tables) → length (t .store) ≡ stored

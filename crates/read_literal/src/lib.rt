@@ -18,11 +18,13 @@ struct Point {
     behind: usize,
 }
 
-// The number of a refusal or 0; the position behind the string or, where code points are left, that of the first of these.
+// The number of a refusal or 0; the position behind the string or, where code points are left, that
+// of the first of these; the hash of the text, 0 after a refusal.
 pub struct Literal {
     pub number: u32,
     pub next: usize,
     pub left: usize,
+    pub hash: u32,
 }
 
 // n cells from one on are 0.
@@ -87,7 +89,7 @@ fn character(s: &[u8], j: usize, k: usize) -> Point
             behind: j + 1,
         };
     }
-    match read_field::unsigned(s, 8 * j + k) {
+    match read_field::unsigned_any(s, 8 * j + k) {
         Field::Refused(n) => refused(n as u32, j),
         Field::Value { value, next } => {
             if !text::is_char(value) {
@@ -110,6 +112,7 @@ fn read_characters(stream: &[u8], at: usize, text: &mut [u32], stored: usize, n:
     let k = at % 8;
     let mut j = at / 8;
     let mut i: usize = 0;
+    let mut h: u64 = 0;
     while i < n {
         let p = character(stream, j, k);
         if p.number != 0 {
@@ -118,9 +121,11 @@ fn read_characters(stream: &[u8], at: usize, text: &mut [u32], stored: usize, n:
                 number: p.number,
                 next: 8 * j + k,
                 left: n - i,
+                hash: 0,
             };
         }
         text[stored + i] = p.value;
+        h = mem_entries::mix(h, p.value);
         j = p.behind;
         i += 1;
     }
@@ -128,6 +133,7 @@ fn read_characters(stream: &[u8], at: usize, text: &mut [u32], stored: usize, n:
         number: 0,
         next: 8 * j + k,
         left: 0,
+        hash: h as u32,
     }
 }
 
@@ -141,6 +147,7 @@ pub fn read_literal(stream: &[u8], at: usize, text: &mut [u32], stored: usize, n
             number: LIMIT,
             next: at,
             left: 0,
+            hash: 0,
         };
     }
     if MAX_STORE < stored + n as usize {
@@ -148,6 +155,7 @@ pub fn read_literal(stream: &[u8], at: usize, text: &mut [u32], stored: usize, n
             number: LIMIT,
             next: at,
             left: 0,
+            hash: 0,
         };
     }
     read_characters(stream, at, text, stored, n as usize)

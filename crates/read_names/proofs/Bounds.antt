@@ -12,7 +12,8 @@ use Rattle.read_field.specs.declared.Field.{Field}
 use Rattle.read_field.specs.declared.Field.the-variants.{Value}
 use Rattle.read_field.specs.View.{fieldAt, InStream, NumberIn}
 use Rattle.read_contract.proofs.Outcome.{unsigned-gotten}
-use Rattle.read_literal.specs.Literal.{LiteralFit}
+use Rattle.read_literal.specs.declared.Literal as declared
+use Rattle.read_literal.specs.Literal.{LiteralFit, LiteralRead}
 use Rattle.read_names.specs.Uris.{UriPre, UriSought}
 use Rattle.read_names.specs.Names.{NamePre, NameSought}
 
@@ -68,9 +69,17 @@ module _ {stream : List ℕ} {at : ℕ} {text : List ℕ} {stored : ℕ} {work :
   unfolding maxNames
   name-row-asks h ne = record { room = fit .room; low = omega (arith, fit .few) }
 
-  pub name-seek-asks : NameSought stored work names uri
-  name-seek-asks =
-      record { store = fit .literal .few; room = fit .room; few = fit .few; low = fit .low }
+  pub name-seek-asks : {n : ℕ} {text′ : List ℕ} {l : declared.Literal}
+      → LiteralRead stream at text stored n text′ l → l .number ≡ 0
+      → NameSought text′ stored n (l .hash) work names uri
+  name-seek-asks r z =
+      record {
+        is = r .hashed .is z;
+        store = fit .literal .few;
+        room = fit .room;
+        few = fit .few;
+        low = fit .low;
+      }
 
   pub name-at-asks : {q : ℕ} → q ≤ 8 * length stream → NamePre stream q text stored work names uri
   name-at-asks h =
@@ -81,8 +90,8 @@ module _ {stream : List ℕ} {at : ℕ} {text : List ℕ} {stored : ℕ} {work :
         low = fit .low;
       }
 
-pub name-find-asks : {stored : ℕ} {work : List ℕ} {names uri : ℕ}
-    → NameSought stored work names uri → FindableName work uri names
+pub name-find-asks : {text : List ℕ} {stored n hash : ℕ} {work : List ℕ} {names uri : ℕ}
+    → NameSought text stored n hash work names uri → FindableName work uri names
 unfolding maxNames
 name-find-asks fit =
     record { room = fit .room; low = fit .low; few = omega (arith, fit .few) }

@@ -35,9 +35,7 @@ use Rattle.read_literal.specs.Literal.{laidAt, LiteralRead}
 use Rattle.read_partition.specs.Strings.{refusedAs, literalAs, Tabled}
 use Rattle.read_partition.proofs.Steps.{judge-loose, judge-name, judge-limit}
 use Rattle.read_partition.proofs.Posts.{literal-refused, literal-judged, Passes, literal-passed}
-use Rattle.read_names.specs.declared.Sought.{Sought}
 use Rattle.read_names.specs.Names.{NamePre, NameRows, nameRole, asNewName, NamePost}
-use Rattle.read_names.specs.Names.{SoughtName}
 use Rattle.read_names.proofs.Laid.{TextLaid, laid-found, store-grown, store-fits, lies-grown}
 use Rattle.read_names.proofs.Laid.{text-laid}
 use Rattle.read_names.proofs.Meaning.{count-is, form-of}
@@ -74,30 +72,31 @@ module _ {text : List ℕ} {stored : ℕ} {w : Rows} {store : Text} (t : Tabled 
       within-local (tablesOf w store) x (t .within) (store-fits d t) attr (uriText (w .uris) uri)
       ∙ ap (λ m. ltb m maxNames) (names-count w store ∙ count-is t p)
 
-  module _ {q : Sought} (s : SoughtName work text′
-      (part text′ (record { place = stored; size = n })) names uri q) where
+  module _ {hash row : ℕ} (is : hash ≡ hashOf (part text′ (record { place = stored; size = n })))
+      (s : FoundName work (nameStore text′ text′) uri
+      (part text′ (record { place = stored; size = n })) hash names row) where
     -- The answer of the search.
-    row-is : q .row ≡ firstThat (isEntry (w .names) uri x) names
+    row-is : row ≡ firstThat (isEntry (w .names) uri x) names
     row-is =
         let e = laid-found d in
-        let f : FoundName work (nameStore text′ text′) uri x (q .hash) names (q .row) =
-        subst (λ y. FoundName work (nameStore text′ text′) uri y (q .hash) names (q .row)) e (s .found) in
+        let f : FoundName work (nameStore text′ text′) uri x hash names row =
+        subst (λ y. FoundName work (nameStore text′ text′) uri y hash names row) e s in
         f .means _ (w .names) (names-longer (store-grown d) (p .hold))
-        (one-store openingNames text′) (s .hash ∙ ap hashOf e)
+        (one-store openingNames text′) (is ∙ ap hashOf e)
 
-    absent-strict : q .row ≡ 0
+    absent-strict : row ≡ 0
         → eqForm literal (formOf (partitionsOf (tablesOf w store) (nameRole attr uri w)) x) ≡ true
     absent-strict z =
-        ap (eqForm literal) (form-of t p attr x (q .row) row-is)
-        ∙ absent-form (w .names) uri (q .row) z
+        ap (eqForm literal) (form-of t p attr x row row-is)
+        ∙ absent-form (w .names) uri row z
 
-    present-loose : (q .row ≡ 0 → ⊥)
+    present-loose : (row ≡ 0 → ⊥)
         → eqForm literal (formOf (partitionsOf (tablesOf w store) (nameRole attr uri w)) x) ≡ false
     present-loose ne =
-        ap (eqForm literal) (form-of t p attr x (q .row) row-is)
-        ∙ present-form (w .names) uri (q .row) ne
+        ap (eqForm literal) (form-of t p attr x row row-is)
+        ∙ present-form (w .names) uri row ne
 
-    new-passes : q .row ≡ 0 → nameAllowed (nameRole attr uri w) x ≡ true → names < maxNames
+    new-passes : row ≡ 0 → nameAllowed (nameRole attr uri w) x ≡ true → names < maxNames
         → Passes (λ w y. withName w uri y) (nameRole attr uri w) w store x true
     unfolding laid tablesOf
     new-passes z ok h =
@@ -109,7 +108,7 @@ module _ {text : List ℕ} {stored : ℕ} {w : Rows} {store : Text} (t : Tabled 
           joined = λ _. name-joins w (t .valid .refers) store x attr uri;
           valid = λ _.
               name-grows (t .valid) uri _ (p .row)
-              (name-fresh (t .valid) uri (p .row) x (q .row)
+              (name-fresh (t .valid) uri (p .row) x row
               (row-is ∙ ap (firstThat (isEntry (w .names) uri x)) (sym (count-is t p))) z)
               (element-allowed attr (uriText (w .uris) uri) x ok);
         }
@@ -125,9 +124,9 @@ module _ {stream : List ℕ} {at : ℕ} {text : List ℕ} {stored : ℕ} {work :
       (refusedAs (l .number) (l .next) (l .left) stored)
   new-refused ne = literal-refused (nameRole attr uri) r (omega arith)
 
-  module _ (z : l .number ≡ 0) {q : Sought} (s : SoughtName work text′
-      (part text′ (record { place = stored; size = n })) names uri q) where
-    pub new-loose : (q .row ≡ 0 → ⊥) → {text″ : List ℕ}
+  module _ (z : l .number ≡ 0) {row : ℕ} (s : FoundName work (nameStore text′ text′) uri
+      (part text′ (record { place = stored; size = n })) (l .hash) names row) where
+    pub new-loose : (row ≡ 0 → ⊥) → {text″ : List ℕ}
         → text″ ≡ laidAt text′ stored (replicate n 0) → {a : Alignment}
         → NamePost a attr (asNewName n) stream at text stored work names uri place size text″
         (refusedAs (numberOf loose) (l .next) 0 stored)
@@ -136,9 +135,10 @@ module _ {stream : List ℕ} {at : ℕ} {text : List ℕ} {stored : ℕ} {work :
         literal-judged (nameRole attr uri) r z (fit .literal .room) (numberOf loose)
         (omega arith) c
         (λ w store t p x e f.
-        judge-loose _ _ _ (present-loose t p (text-laid (fit .literal) r z x e f) attr s ne))
+        let d = text-laid (fit .literal) r z x e f in
+        judge-loose _ _ _ (present-loose t p d attr (r .hashed .is z) s ne))
 
-    module _ (absent : q .row ≡ 0) {b : Bool}
+    module _ (absent : row ≡ 0) {b : Bool}
         (tested : b ≡ nameAllowed (local attr (part text′ (record { place = place; size = size })))
         (part text′ (record { place = stored; size = n }))) where
       pub new-forbidden : b ≡ false → {text″ : List ℕ}
@@ -152,7 +152,7 @@ module _ {stream : List ℕ} {at : ℕ} {text : List ℕ} {stored : ℕ} {work :
           (λ w store t p x e f.
           let d = text-laid (fit .literal) r z x e f in
           judge-name (tablesOf w store) (nameRole attr uri w)
-          (literal, laid (tablesOf w store) x) (absent-strict t p d attr s absent)
+          (literal, laid (tablesOf w store) x) (absent-strict t p d attr (r .hashed .is z) s absent)
           (sym (allowed-is t p d attr) ∙ sym tested ∙ not-ok))
 
       module _ (ok : b ≡ true) where
@@ -167,15 +167,17 @@ module _ {stream : List ℕ} {at : ℕ} {text : List ℕ} {stored : ℕ} {work :
             (λ w store t p x e f.
             let d = text-laid (fit .literal) r z x e f in
             judge-limit (tablesOf w store) (nameRole attr uri w)
-            (literal, laid (tablesOf w store) x) (absent-strict t p d attr s absent)
+            (literal, laid (tablesOf w store) x)
+            (absent-strict t p d attr (r .hashed .is z) s absent)
             (sym (allowed-is t p d attr) ∙ sym tested ∙ ok)
             (within-is t p d attr ∙ le-ltb names maxNames h))
 
         pub new-joins : names < maxNames → {a : Alignment}
             → NamePost a attr (asNewName n) stream at text stored work names uri place size text′
-            (literalAs (l .next) stored n names true (q .hash))
+            (literalAs (l .next) stored n names true (l .hash))
         new-joins h =
-            literal-passed (nameRole attr uri) r z (fit .literal .room) names true (q .hash)
+            literal-passed (nameRole attr uri) r z (fit .literal .room) names true (l .hash)
             (λ w store t p x e f.
             let d = text-laid (fit .literal) r z x e f in
-            new-passes t p d attr s absent (sym (allowed-is t p d attr) ∙ sym tested ∙ ok) h)
+            new-passes t p d attr (r .hashed .is z) s absent
+            (sym (allowed-is t p d attr) ∙ sym tested ∙ ok) h)

@@ -6,19 +6,18 @@ use mathlib.Core.List.{List, map}
 use mathlib.Core.Option.{some}
 use lib.ListN.{length}
 use Rattle.spec_fields.specs.Field.{Alignment}
-use Rattle.text.specs.Text.{Text}
+use Rattle.text.specs.Text.{Text, part}
 use Rattle.spec_exi.specs.Sizes.{maxStore, maxNames}
 use Rattle.spec_exi.specs.Tables.{Slot, Role, local, namesOf}
 use Rattle.mem_layout.specs.Layout.{uriRows, nameRows, workCells}
 use Rattle.mem_entries.specs.Texts.{hashOf, Lies, throughout}
 use Rattle.mem_entries.specs.Entries.{Entries, entryAt, keyAt}
 use Rattle.mem_names.specs.Uris.{uriText}
-use Rattle.mem_names.specs.Names.{NamesHold, nameStore, FoundName}
+use Rattle.mem_names.specs.Names.{NamesHold}
 use Rattle.mem_rows.specs.Rows.{Rows, tablesOf, withName}
 use Rattle.read_literal.specs.Literal.{LiteralFit}
 use Rattle.read_partition.specs.declared.StringRead.{StringRead}
 use Rattle.read_partition.specs.Strings.{Hashed, Reading, asString, asHit, asLiteral, StringPost}
-use Rattle.read_names.specs.declared.Sought.{Sought}
 use Rattle.read_names.specs.Uris.{Spans}
 
 -- ---- bounds
@@ -30,7 +29,10 @@ pub record NamePre (stream : List ℕ) (at : ℕ) (text : List ℕ) (stored : �
   pub few : names ≤ maxNames
   pub low : uri < uriRows
 
-pub record NameSought (stored : ℕ) (work : List ℕ) (names uri : ℕ) : Type 0 where
+-- With the hash of the text after the store.
+pub record NameSought (text : List ℕ) (stored n hash : ℕ) (work : List ℕ) (names uri : ℕ)
+    : Type 0 where
+  pub is : hash ≡ hashOf (part text (record { place = stored; size = n }))
   pub store : stored ≤ maxStore
   pub room : workCells ≤ length work
   pub few : names ≤ maxNames
@@ -81,8 +83,3 @@ pub record NameRowed (text : List ℕ) (stored : ℕ) (work : List ℕ) (names u
   pub hashed : Hashed text′ r
   pub old : r .number ≡ 0 → r .joins ≡ false → (ns : Entries)
       → NamesHold work (throughout text stored) names ns → InNames ns uri text′ r
-
--- The hash of a text, and where it is found among the names of the URI.
-pub record SoughtName (work text x : List ℕ) (names uri : ℕ) (r : Sought) : Type 0 where
-  pub hash : r .hash ≡ hashOf x
-  pub found : FoundName work (nameStore text text) uri x (r .hash) names (r .row)

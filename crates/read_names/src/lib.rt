@@ -10,12 +10,13 @@ ghost use Rattle.text.specs.Text.{part};
 ghost use Rattle.spec_exi.specs.Sizes.{maxStore};
 ghost use Rattle.spec_exi.specs.Tables.{local, nameAllowed};
 ghost use Rattle.mem_names.specs.Uris.{uriStore, FoundUri};
+ghost use Rattle.mem_names.specs.Names.{nameStore, FoundName};
 ghost use Rattle.names.specs.Names.{isReserved};
 ghost use Rattle.read_field.specs.View.{alignmentOf};
 ghost use Rattle.read_names.specs.Uris.{UriPre, UriSought, asUri, asMissed, asNewUri};
 ghost use Rattle.read_names.specs.Uris.{UriPost, UriRowed};
 ghost use Rattle.read_names.specs.Names.{NamePre, NameSought, asName, asOwn, asNewName};
-ghost use Rattle.read_names.specs.Names.{NamePost, NameRowed, SoughtName};
+ghost use Rattle.read_names.specs.Names.{NamePost, NameRowed};
 use read_field::Field;
 use read_partition::StringRead;
 use refusal::LIMIT;
@@ -177,23 +178,24 @@ fn own_name(
     }
 }
 
-// The row of a name and 1, or 0 for none; and the hash of its text.
-struct Sought {
-    row: u32,
+// The row and 1 of the name of the URI whose text is the n code points after the store, or 0 for
+// none.
+fn seek_name(
+    text: &[u32],
+    stored: usize,
+    n: u32,
     hash: u32,
-}
-
-// Seeks the text of n code points after the store among the names of the URI.
-fn seek_name(text: &[u32], stored: usize, n: u32, work: &[u32], names: u32, uri: u32) -> Sought
-    requires { ⌜ NameSought stored (now work) names uri ⌝ }
+    work: &[u32],
+    names: u32,
+    uri: u32,
+) -> u32
+    requires { ⌜ NameSought (now text) stored n hash (now work) names uri ⌝ }
     ensures { λ r. ⌜
-        SoughtName (now (work .entry)) (now (text .entry))
-        (part (now (text .entry)) (record { place = stored; size = n })) names uri r ⌝ }
+        FoundName (now (work .entry)) (nameStore (now (text .entry)) (now (text .entry))) uri
+        (part (now (text .entry)) (record { place = stored; size = n })) hash names r ⌝ }
 {
     let x = text::look_up(text, stored as u32, n);
-    let hash = mem_entries::hash(x);
-    let row = mem_names::find_name(work, text, text, uri, x, hash, names);
-    Sought { row, hash }
+    mem_names::find_name(work, text, text, uri, x, hash, names)
 }
 
 // Whether the text of n code points after the store may be a local name, by the URI's text.
@@ -235,8 +237,8 @@ fn new_name(
     if read.number != 0 {
         return read_partition::refused(read.number, read.next, read.left, stored);
     }
-    let sought = seek_name(text, stored, n, work, names, uri);
-    if sought.row != 0 {
+    let row = seek_name(text, stored, n, read.hash, work, names, uri);
+    if row != 0 {
         return read_partition::dropped(LOOSE, read.next, n, stored, text);
     }
     if !allowed(text, attr, place, size, stored, n) {
@@ -245,7 +247,7 @@ fn new_name(
     if MAX_NAMES <= names as usize {
         return read_partition::dropped(LIMIT, read.next, n, stored, text);
     }
-    read_partition::laid(read.next, stored, n, names, true, sought.hash)
+    read_partition::laid(read.next, stored, n, names, true, read.hash)
 }
 
 // A local name of the URI with this row, whose text lies at this place: an attribute's where attr,

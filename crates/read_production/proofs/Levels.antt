@@ -1,14 +1,14 @@
 -- The table's levels, with what is learned before the first, as they are read.
-use Prim.Native.Nat.{ℕ, zero, suc, _+_, _-_, _≤_, _<_}
+use Prim.Native.Nat.{ℕ, zero, suc, _+_, _≤_, _<_}
 use native.Mathlib.Omega.{arith}
 use native.Mathlib.Nat.{zero-add}
 use mathlib.Core.Path.{_≡_, refl, sym, ap, subst, _∙_}
-use mathlib.Core.Bool.{true, false, cond}
+use mathlib.Core.Bool.{false, cond}
 use mathlib.Core.List.{List, [], _∷_, _++_, map}
 use mathlib.Core.Option.{Option, none, some, Option·none-ne-some}
 use lib.ListN.{length, getD, getElem?, drop, length-map}
-use lib.Dec.{eqb, ltb}
-use borrow.Author.Tests.{eqb-true, eqb-false, ltb-true, ltb-false}
+use lib.Dec.{ltb}
+use borrow.Author.Tests.{ltb-true, ltb-false}
 use Rattle.spec_fields.specs.Bits.{Bits, octetsFor}
 use Rattle.spec_fields.specs.Refusal.{code}
 use Rattle.spec_fields.specs.Parser.{fail, return, present, times, andThen, _>>=_}
@@ -16,16 +16,15 @@ use Rattle.spec_fields.specs.Field.{Alignment, bitPacked, byteAligned, numberFi
 use Rattle.spec_fields.specs.Field.{widthFrom, width, choice}
 use Rattle.spec_fields.proofs.Tests.{split}
 use Rattle.spec_exi.specs.Event.{Kind, SD}
-use Rattle.spec_exi.specs.Grammar.{Production, Code, unnamed, allEmpty, choices}
+use Rattle.spec_exi.specs.Grammar.{Production, Code, unnamed, kindNumber, allEmpty, choices}
 use Rattle.spec_exi.specs.Grammar.{atLevel, below}
 use Rattle.spec_exi.specs.Reader.{readCode}
-use Rattle.grammar_codes.specs.Table.{noKinds, leveled, withLearned, at-level, in-next, FixedCode}
-use Rattle.grammar_codes.specs.Table.{raisedBy, afterLearned}
+use Rattle.grammar_codes.specs.Table.{noKinds, valuesOf, leveled, withLearned, at-level, in-next}
+use Rattle.grammar_codes.specs.Table.{FixedCode, raisedBy, afterLearned}
 use Rattle.grammar_codes.proofs.Bits.{none-left, level-count, choices-count}
 use Rattle.read_contract.specs.Outcome.{Outcome}
 use Rattle.read_contract.proofs.Outcome.{refused-outcome, declined-as, declined-then}
-use Rattle.read_production.specs.declared.Level.{Level}
-use Rattle.read_production.specs.Levels.{LevelRead}
+use Rattle.read_production.specs.Levels.{PartRead}
 use Rattle.read_production.proofs.Parts.{level-refused, level-here, level-below}
 
 -- ---- choices
@@ -88,7 +87,7 @@ module _ (ps : List Production) (l : List Kind) (ls : List (List Kind)) where
 
 -- ---- a code of a level
 
-after-none : (x : Code) → afterLearned 0 x ≡ x
+pub after-none : (x : Code) → afterLearned 0 x ≡ x
 unfolding afterLearned raisedBy
 after-none x = go (x .parts)
   where
@@ -99,61 +98,60 @@ after-none x = go (x .parts)
     go (v ∷ vs) =
         ap (λ n. record { parts = n ∷ vs; production = x .production }) (zero-add v)
 
-module _ {a : Alignment} {mode : ℕ} (ps : List Production) (l : List Kind) (ls : List (List Kind))
-    {stream : List ℕ} {at : ℕ} {r : Level}
-    (g : LevelRead a mode l ls (length ps) stream at r) where
+module _ {a : Alignment} (ps : List Production) (l : List Kind) (ls : List (List Kind))
+    {stream : List ℕ} {at number value next : ℕ}
+    (g : PartRead a stream at (length ps + valuesOf l ls) number value next) where
   abbrev Answers : ℕ → ℕ → (Code → Type 0) → Type 0
   Answers n q good = Outcome (readCode a (withLearned ps (l ∷ ls))) stream at n q good
 
-  pub first-refused : 0 < r .number → {q : ℕ} {good : Code → Type 0} → Answers (r .number) q good
+  pub first-refused : 0 < number → {q : ℕ} {good : Code → Type 0} → Answers number q good
   unfolding withLearned
-  first-refused h = level-refused a _ (leveled ls) (g .part) (choices-count ps l ls) h
+  first-refused h = level-refused a _ (leveled ls) g (choices-count ps l ls) h
 
-  module _ (z : r .number ≡ 0) where
-    pub first-learned : {p : Production} → getElem? ps (r .value) ≡ some p
-        → {good : Code → Type 0} → good (atLevel (r .value) p) → Answers 0 (r .next) good
+  module _ (z : number ≡ 0) where
+    pub first-learned : {p : Production} → getElem? ps value ≡ some p
+        → {good : Code → Type 0} → good (atLevel value p) → Answers 0 next good
     unfolding withLearned
     first-learned e h =
-        level-here a _ (leveled ls) (g .part) (choices-count ps l ls) z
-        (choices-learned ps l ls (r .value) e) h
+        level-here a _ (leveled ls) g (choices-count ps l ls) z
+        (choices-learned ps l ls value e) h
 
-    -- A production of the level that is not learned.
-    pub first-fixed : length ps ≤ r .value → r .on ≡ false → {good : Code → Type 0}
-        → ((x : Code) → FixedCode (l ∷ ls) (r .kind) x → good (afterLearned (length ps) x))
-        → Answers 0 (r .next) good
+    -- A production of the level that is not learned, the one with number v.
+    pub first-fixed : (v : ℕ) → length ps + v ≡ value → v < length l → {k : ℕ}
+        → k ≡ kindNumber (getD l v SD) → {good : Code → Type 0}
+        → ((x : Code) → FixedCode (l ∷ ls) k x → good (afterLearned (length ps) x))
+        → Answers 0 next good
     unfolding withLearned afterLearned raisedBy atLevel unnamed
-    first-fixed b t {good} h =
-        let v : ℕ = r .value - length ps in
-        let e : length ps + v ≡ r .value = omega arith in
-        level-here a _ (leveled ls) (g .part) (choices-count ps l ls) z
+    first-fixed v e b k {good} h =
+        level-here a _ (leveled ls) g (choices-count ps l ls) z
         (ap (getElem? (choices (ps ++ map unnamed l) (leveled ls))) (sym e)
-        ∙ choices-kind ps l ls v (g .here z b t))
+        ∙ choices-kind ps l ls v b)
         (subst (λ n. good (atLevel n (unnamed (getD l v SD)))) e
-        (h (atLevel v (unnamed (getD l v SD)))
-        (record { reaches = at-level v (g .here z b t); is = sym (g .kind z b) })))
+        (h (atLevel v (unnamed (getD l v SD))) (record { reaches = at-level v b; is = sym k })))
 
-    more : r .on ≡ true → (noKinds ls ≡ false) × (r .value ≡ length ps + length l)
-    more t =
+    more : length ps + length l ≤ value
+        → (noKinds ls ≡ false) × (value ≡ length ps + length l)
+    more b =
         split (noKinds ls)
-        (λ y. absurd (omega (arith, g .on z t, rw y at (g .part .below z))))
-        (λ y. (y, omega (arith, g .on z t, rw y at (g .part .below z))))
+        (λ y. absurd (omega (arith, rw y at (g .below z))))
+        (λ y. (y, omega (arith, rw y at (g .below z))))
 
     -- One of a level below.
-    pub first-below : r .on ≡ true → {n q k : ℕ}
-        → Outcome (readCode a (leveled ls)) stream (r .next) n q (FixedCode ls k)
+    pub first-below : length ps + length l ≤ value → {n q k : ℕ}
+        → Outcome (readCode a (leveled ls)) stream next n q (FixedCode ls k)
         → {good : Code → Type 0}
         → (n ≡ 0 → (x : Code) → FixedCode (l ∷ ls) k x → good (afterLearned (length ps) x))
         → Answers n q good
     unfolding withLearned afterLearned raisedBy below
-    first-below t o {good} h =
-        let (some-left, e) = more t in
-        level-below a _ (leveled ls) (g .part) (choices-count ps l ls) z
+    first-below b o {good} h =
+        let (some-left, e) = more b in
+        level-below a _ (leveled ls) g (choices-count ps l ls) z
         (ap (getElem? (choices (ps ++ map unnamed l) (leveled ls))) e
         ∙ choices-on ps l ls some-left) o
         (λ y x f. subst (λ n. good (below n x)) (sym e)
         (h y (below (length l) x) (record { reaches = in-next (f .reaches); is = f .is })))
 
--- ---- the last levels of a table
+-- ---- where a table has no level
 
 -- A choice among nothing takes no bits.
 nothing-read : (a : Alignment) (bs : Bits)
@@ -163,159 +161,103 @@ unfolding readCode choice present fail return _>>=_ andThen width widthFrom numb
 nothing-read bitPacked bs = refl
 nothing-read byteAligned bs = refl
 
--- Where a table has no level more, a part is refused.
-module _ {a : Alignment} {mode : ℕ} {stream : List ℕ} {at : ℕ} {r : Level}
-    (g : LevelRead a mode [] [] 0 stream at r) where
-  pub over-number : 0 < r .number
+-- There a part is refused.
+module _ {a : Alignment} {stream : List ℕ} {at number value next : ℕ}
+    (g : PartRead a stream at (0 + valuesOf [] []) number value next) where
+  over-number : 0 < number
   unfolding noKinds
   over-number =
-      split (ltb 0 (r .number)) (λ t. ltb-true 0 (r .number) t)
-      (λ t. absurd (omega (arith, g .part .below (omega (arith, ltb-false 0 (r .number) t)))))
+      split (ltb 0 number) (λ t. ltb-true 0 number t)
+      (λ t. absurd (omega (arith, g .below (omega (arith, ltb-false 0 number t)))))
 
-  pub over-refused : {q : ℕ} {good : Code → Type 0}
-      → Outcome (readCode a []) stream at (r .number) q good
+  over-refused : {q : ℕ} {good : Code → Type 0} → Outcome (readCode a []) stream at number q good
   unfolding noKinds
   over-refused =
       refused-outcome
       (declined-as (nothing-read a _)
-      (declined-then (λ x. fail code) (g .part .refused over-number [] (omega arith))))
+      (declined-then (λ x. fail code) (g .refused over-number [] (omega arith))))
 
 -- ---- a whole table, where these are learned
 
-abbrev FirstRead : Alignment → ℕ → List Production → List ℕ → ℕ → Level → List (List Kind) → Type 0
-FirstRead a mode ps stream at r t =
-    LevelRead a mode (getD t 0 []) (drop 1 t) (length ps) stream at r
+-- The part of its first level.
+abbrev pub FirstRead :
+    Alignment → List Production → List (List Kind) → List ℕ → ℕ → ℕ → ℕ → ℕ → Type 0
+FirstRead a ps t stream at number value next =
+    PartRead a stream at (length ps + valuesOf (getD t 0 []) (drop 1 t)) number value next
 
-module _ {a : Alignment} {mode : ℕ} (ps : List Production) {stream : List ℕ} {at : ℕ}
-    {r : Level} where
+module _ {a : Alignment} (ps : List Production) {stream : List ℕ}
+    {at number value next : ℕ} where
   -- Nothing is learned where the table is empty.
-  over-first : ps ≡ [] → FirstRead a mode ps stream at r [] → LevelRead a mode [] [] 0 stream at r
+  over-first : ps ≡ [] → FirstRead a ps [] stream at number value next
+      → PartRead a stream at (0 + valuesOf [] []) number value next
   over-first empty g =
-      subst (λ n. LevelRead a mode [] [] n stream at r) (ap length empty) g
+      subst (λ n. PartRead a stream at (n + valuesOf [] []) number value next) (ap length empty) g
 
   pub table-refused : (t : List (List Kind)) → (t ≡ [] → ps ≡ [])
-      → FirstRead a mode ps stream at r t → 0 < r .number
+      → FirstRead a ps t stream at number value next → 0 < number
       → {q : ℕ} {good : Code → Type 0}
-      → Outcome (readCode a (withLearned ps t)) stream at (r .number) q good
+      → Outcome (readCode a (withLearned ps t)) stream at number q good
   unfolding withLearned
   table-refused [] empty g h = over-refused (over-first (empty refl) g)
   table-refused (l ∷ ls) empty g h = first-refused ps l ls g h
 
-  module _ (z : r .number ≡ 0) where
+  module _ (z : number ≡ 0) where
     pub table-learned : (t : List (List Kind)) → (t ≡ [] → ps ≡ [])
-        → FirstRead a mode ps stream at r t
-        → {p : Production} → getElem? ps (r .value) ≡ some p → {good : Code → Type 0}
-        → good (atLevel (r .value) p)
-        → Outcome (readCode a (withLearned ps t)) stream at 0 (r .next) good
+        → FirstRead a ps t stream at number value next
+        → {p : Production} → getElem? ps value ≡ some p → {good : Code → Type 0}
+        → good (atLevel value p)
+        → Outcome (readCode a (withLearned ps t)) stream at 0 next good
     unfolding withLearned
     table-learned [] empty g e h = absurd (omega (arith, over-number (over-first (empty refl) g)))
     table-learned (l ∷ ls) empty g e h = first-learned ps l ls g z e h
 
     pub table-fixed : (t : List (List Kind)) → (t ≡ [] → ps ≡ [])
-        → FirstRead a mode ps stream at r t
-        → length ps ≤ r .value → r .on ≡ false → {good : Code → Type 0}
-        → ((x : Code) → FixedCode t (r .kind) x → good (afterLearned (length ps) x))
-        → Outcome (readCode a (withLearned ps t)) stream at 0 (r .next) good
-    table-fixed [] empty g b y h = absurd (omega (arith, over-number (over-first (empty refl) g)))
-    table-fixed (l ∷ ls) empty g b y h = first-fixed ps l ls g z b y h
+        → FirstRead a ps t stream at number value next
+        → (v : ℕ) → length ps + v ≡ value → v < length (getD t 0 []) → {k : ℕ}
+        → k ≡ kindNumber (getD (getD t 0 []) v SD) → {good : Code → Type 0}
+        → ((x : Code) → FixedCode t k x → good (afterLearned (length ps) x))
+        → Outcome (readCode a (withLearned ps t)) stream at 0 next good
+    table-fixed [] empty g v e b k h = absurd (omega arith)
+    table-fixed (l ∷ ls) empty g v e b k h = first-fixed ps l ls g z v e b k h
 
     pub table-below : (t : List (List Kind)) → (t ≡ [] → ps ≡ [])
-        → FirstRead a mode ps stream at r t → r .on ≡ true
-        → {n q k : ℕ}
-        → Outcome (readCode a (leveled (drop 1 t))) stream (r .next) n q (FixedCode (drop 1 t) k)
+        → FirstRead a ps t stream at number value next
+        → length ps + length (getD t 0 []) ≤ value → {n q k : ℕ}
+        → Outcome (readCode a (leveled (drop 1 t))) stream next n q (FixedCode (drop 1 t) k)
         → {good : Code → Type 0}
         → (n ≡ 0 → (x : Code) → FixedCode t k x → good (afterLearned (length ps) x))
         → Outcome (readCode a (withLearned ps t)) stream at n q good
-    table-below [] empty g y o h = absurd (omega (arith, over-number (over-first (empty refl) g)))
-    table-below (l ∷ ls) empty g y o h = first-below ps l ls g z y o h
+    table-below [] empty g b o h = absurd (omega (arith, over-number (over-first (empty refl) g)))
+    table-below (l ∷ ls) empty g b o h = first-below ps l ls g z b o h
 
--- One level of a table, and those below it.
-pub data Suffix (t : List (List Kind)) (j : ℕ) : Type 0 where
-  goes-on : drop j t ≡ getD t j [] ∷ drop (suc j) t → Suffix t j
-  is-over : drop j t ≡ [] → getD t j [] ≡ [] → drop (suc j) t ≡ [] → Suffix t j
+-- ---- where nothing is learned
 
-pub suffix : (t : List (List Kind)) (j : ℕ) → Suffix t j
-suffix [] zero = is-over refl refl refl
-suffix [] (suc j) = is-over refl refl refl
-suffix (l ∷ t) zero = goes-on refl
-suffix (l ∷ t) (suc j) = next (suffix t j)
-  where
-    next : Suffix t j → Suffix (l ∷ t) (suc j)
-    next (goes-on e) = goes-on e
-    next (is-over e f g) = is-over e f g
-
--- What is read from a level on.
-abbrev ReadFrom : Alignment → List ℕ → List (List Kind) → ℕ → ℕ → ℕ → ℕ → Type 0
-ReadFrom a stream t at n q k = Outcome (readCode a (leveled t)) stream at n q (FixedCode t k)
+pub unlearned : (t : List (List Kind)) → withLearned [] t ≡ leveled t
+unfolding withLearned leveled
+unlearned [] = refl
+unlearned (l ∷ ls) = refl
 
 same-code : (t : List (List Kind)) (k : ℕ) (x : Code) → FixedCode t k x
     → FixedCode t k (afterLearned 0 x)
 same-code t k x f = subst (FixedCode t k) (sym (after-none x)) f
 
-module _ {a : Alignment} {mode : ℕ} {stream : List ℕ} {at : ℕ} {r : Level} where
-  one-level : (l : List Kind) (ls : List (List Kind))
-      → LevelRead a mode l ls 0 stream at r → (r .number ≡ 0 → r .on ≡ false)
-      → ReadFrom a stream (l ∷ ls) at (r .number) (r .next) (r .kind)
-  unfolding withLearned leveled
-  one-level l ls g here =
-      split (eqb (r .number) 0)
-      (λ t.
-      let z : r .number ≡ 0 = eqb-true (r .number) 0 t in
-      subst (λ n. ReadFrom a stream (l ∷ ls) at n (r .next) (r .kind)) (sym z)
-      (first-fixed [] l ls g z (omega arith) (here z) (same-code (l ∷ ls) (r .kind))))
-      (λ t. first-refused [] l ls g (omega (arith, eqb-false (r .number) 0 t)))
+module _ {a : Alignment} (t : List (List Kind)) {stream : List ℕ} {at number value next : ℕ}
+    (g : FirstRead a [] t stream at number value next) where
+  abbrev ReadAs : ℕ → ℕ → ℕ → Type 0
+  ReadAs n q k = Outcome (readCode a (leveled t)) stream at n q (FixedCode t k)
 
-  two-levels : (l : List Kind) (ls : List (List Kind)) → LevelRead a mode l ls 0 stream at r
-      → r .number ≡ 0 → r .on ≡ true → {n q k : ℕ} → ReadFrom a stream ls (r .next) n q k
-      → ReadFrom a stream (l ∷ ls) at n q k
-  unfolding withLearned leveled
-  two-levels l ls g z t {k = k} o =
-      first-below [] l ls g z t o (λ _. same-code (l ∷ ls) k)
+  pub lower-refused : 0 < number → {q k : ℕ} → ReadAs number q k
+  lower-refused h = rw (sym (unlearned t)) (table-refused [] t (λ e. refl) g h)
 
-  no-level : LevelRead a mode [] [] 0 stream at r → {q k : ℕ}
-      → ReadFrom a stream [] at (r .number) q k
-  unfolding leveled
-  no-level g = over-refused g
+  pub lower-fixed : number ≡ 0 → value < length (getD t 0 []) → {k : ℕ}
+      → k ≡ kindNumber (getD (getD t 0 []) value SD) → ReadAs 0 next k
+  lower-fixed z b {k} e =
+      rw (sym (unlearned t))
+      (table-fixed [] z t (λ e. refl) g value (omega arith) b e (same-code t k))
 
-  last-level : (l : List Kind) → LevelRead a mode l [] 0 stream at r → r .number ≡ 0
-      → r .on ≡ false
-  unfolding noKinds
-  last-level l g z =
-      split (r .on) (λ t. absurd (omega (arith, g .on z t, g .part .below z))) (λ t. t)
-
-  module _ (t : List (List Kind)) (j : ℕ)
-      (g : LevelRead a mode (getD t j []) (drop (suc j) t) 0 stream at r) where
-    over : getD t j [] ≡ [] → drop (suc j) t ≡ [] → LevelRead a mode [] [] 0 stream at r
-    over e f =
-        subst (λ ls. LevelRead a mode [] ls 0 stream at r) f
-        (subst (λ l. LevelRead a mode l (drop (suc j) t) 0 stream at r) e g)
-
-    -- A production of the level, or a refusal.
-    pub lower-here : (r .number ≡ 0 → r .on ≡ false)
-        → ReadFrom a stream (drop j t) at (r .number) (r .next) (r .kind)
-    lower-here here = go (suffix t j)
-      where
-        go : Suffix t j → ReadFrom a stream (drop j t) at (r .number) (r .next) (r .kind)
-        go (goes-on e) =
-            subst (λ u. ReadFrom a stream u at (r .number) (r .next) (r .kind)) (sym e)
-            (one-level (getD t j []) (drop (suc j) t) g here)
-        go (is-over e f h) =
-            subst (λ u. ReadFrom a stream u at (r .number) (r .next) (r .kind)) (sym e)
-            (no-level (over f h))
-
-    -- A level below.
-    pub lower-on : r .number ≡ 0 → r .on ≡ true → {n q k : ℕ}
-        → ReadFrom a stream (drop (suc j) t) (r .next) n q k → ReadFrom a stream (drop j t) at n q k
-    lower-on z y {n} {q} {k} o = go (suffix t j)
-      where
-        go : Suffix t j → ReadFrom a stream (drop j t) at n q k
-        go (goes-on e) =
-            subst (λ u. ReadFrom a stream u at n q k) (sym e)
-            (two-levels (getD t j []) (drop (suc j) t) g z y o)
-        go (is-over e f h) = absurd (omega (arith, over-number (over f h)))
-
-    -- Below the last level there is none.
-    pub lower-last : drop (suc j) t ≡ [] → r .number ≡ 0 → r .on ≡ false
-    lower-last e z =
-        last-level (getD t j [])
-        (subst (λ ls. LevelRead a mode (getD t j []) ls 0 stream at r) e g) z
+  pub lower-below : number ≡ 0 → length (getD t 0 []) ≤ value → {n q k : ℕ}
+      → Outcome (readCode a (leveled (drop 1 t))) stream next n q (FixedCode (drop 1 t) k)
+      → ReadAs n q k
+  lower-below z b {k = k} o =
+      rw (sym (unlearned t))
+      (table-below [] z t (λ e. refl) g (omega arith) o (λ _. same-code t k))

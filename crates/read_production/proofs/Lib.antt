@@ -1,6 +1,6 @@
 pub mod Parts
 pub mod Levels
-pub mod Bounds
+pub mod Unlearned
 pub mod Rows
 pub mod Codes
 pub mod Returns

@@ -1,49 +1,66 @@
 -- What `read_production` leaves at each `return`.
-use Prim.Native.Nat.{ℕ, _*_, _≤_, _<_}
+use Prim.Native.Nat.{ℕ, _+_, _*_, _≤_, _<_}
 use native.Mathlib.Omega.{arith}
 use mathlib.Core.Path.{_≡_, refl, sym, ap, subst, _∙_}
-use mathlib.Core.Bool.{true, false, true≢false}
+use mathlib.Core.Bool.{true≢false}
 use mathlib.Core.List.{List, []}
 use lib.ListN.{length, getD, getElem?, drop}
-use lib.Dec.{eqb, ltb}
-use borrow.Author.Tests.{ltb-true, ltb-false, eqb-true, eqb-false}
+use lib.Dec.{eqb}
+use borrow.Author.Tests.{eqb-true, eqb-false}
 use Rattle.spec_fields.specs.Parser.{Parser}
 use Rattle.spec_fields.proofs.Tests.{split}
 use Rattle.text.specs.Text.{Text}
+use Rattle.spec_exi.specs.Event.{Kind}
+use Rattle.spec_exi.specs.Sizes.{maxStream}
 use Rattle.spec_exi.specs.Settings.{Settings}
-use Rattle.spec_exi.specs.Grammar.{Code}
+use Rattle.spec_exi.specs.Grammar.{Production, Code}
 use Rattle.spec_exi.specs.Context.{levelsIn}
 use Rattle.spec_exi.specs.Reader.{readCode}
-use Rattle.grammar_codes.specs.Table.{tableOf, levelAt, Stands}
-use Rattle.mem_learned.specs.Learned.{CountedAt}
+use Rattle.grammar_codes.specs.Table.{tableOf, valuesOf, leveled, withLearned, FixedCode}
+use Rattle.grammar_codes.specs.Table.{afterLearned, Stands}
+use Rattle.grammar_codes.proofs.Fixed.{fixed-outer, fixed-inner, own-count, own-values, own-kind}
+use Rattle.read_field.specs.View.{NumberIn}
+use Rattle.mem_learned.specs.Learned.{Sited, CountedAt}
 use Rattle.mem_rows.specs.Rows.{Rows, contextOf}
 use Rattle.mem_rows.specs.Valid.{Valid}
 use Rattle.read_contract.specs.Outcome.{Outcome}
 use Rattle.read_contract.proofs.Outcome.{refused-outcome}
-use Rattle.grammar_match.specs.Here.{siteIn, SitePre, CountedHere, CodeRows, learnedHere}
-use Rattle.grammar_match.proofs.Here.{site-half, site-low, inner-here, top-row, levels-here}
-use Rattle.grammar_match.proofs.Here.{table-empty}
+use Rattle.grammar_match.specs.Here.{siteIn, CodeRows, learnedHere}
+use Rattle.grammar_match.proofs.Here.{site-half, site-low, count-asks, count-inside, levels-here}
+use Rattle.grammar_match.proofs.Here.{outer-here, inner-here, top-row, table-empty}
 use Rattle.grammar_match.proofs.Codes.{count-is}
-use Rattle.read_production.specs.declared.Level.{Level}
 use Rattle.read_production.specs.declared.ProductionRead.{ProductionRead}
 use Rattle.read_production.specs.Answers.{refusedAs, fixedAs}
-use Rattle.read_production.specs.Levels.{LevelPre, LevelAt, LevelRead, LowerPre, LowerRead}
+use Rattle.read_production.specs.Levels.{PartRead, FixedPre, FixedRead, FixedAt, ownCount}
 use Rattle.read_production.specs.Learned.{LearnedPre, IsLearned, LearnedRead}
 use Rattle.read_production.specs.Production.{ProductionPre, ProductionBounds, IsCode}
 use Rattle.read_production.specs.Production.{ProductionPost}
-use Rattle.read_production.proofs.Levels.{table-refused, table-learned, table-fixed}
-use Rattle.read_production.proofs.Levels.{table-below}
+use Rattle.read_production.proofs.Levels.{after-none, FirstRead, table-refused, table-fixed}
+use Rattle.read_production.proofs.Levels.{table-learned, table-below, unlearned}
 use Rattle.read_production.proofs.Codes.{fixed-is, learned-is}
 
 -- ---- what the functions that are called ask
 
+pub own-most : (mode : ℕ) {own : ℕ} → own ≡ ownCount mode → own ≤ 1
+own-most mode e =
+    split (eqb mode 5) (λ y. omega (arith, rw y at e)) (λ y. omega (arith, rw y at e))
+
 module _ {stream : List ℕ} {at top learned : ℕ} {work : List ℕ}
     (h : ProductionPre stream at top learned work) where
-  pub site-asks : SitePre work top
-  site-asks = record { room = h .room; low = h .low }
+  pub fixed-asks : {next : ℕ} → next ≤ 8 * length stream → FixedPre stream next at
+  fixed-asks l = record { size = h .size; place = l; start = h .place }
 
-  pub level-asks : {mode count : ℕ} → CountedHere work mode top count → LevelPre stream at 0 count
-  level-asks c = record { size = h .size; place = h .place; low = omega arith; few = c .few }
+  pub site-asks : (mode : ℕ) {site : ℕ} → site ≡ siteIn mode top → Sited work site 0
+  site-asks mode e = count-asks mode (record { room = h .room; low = h .low }) e
+
+  pub part-asked : {site count : ℕ} → CountedAt work site count → (mode : ℕ) {own : ℕ}
+      → own ≡ ownCount mode → NumberIn stream at (count + own + 1) 65536
+  unfolding maxStream
+  part-asked c mode e =
+      record {
+        there = record { size = omega (arith, h .size); place = h .place };
+        small = omega (arith, c .within, own-most mode e);
+      }
 
   pub learned-asks : (mode : ℕ) {site : ℕ} → site ≡ siteIn mode top → LearnedPre work site learned
   learned-asks mode e =
@@ -57,26 +74,16 @@ outcome-at {p} {stream} {at} {q = q} {q′} {good} e f o =
     subst (λ m. Outcome p stream at m q′ good) (sym e)
     (subst (λ m. Outcome p stream at 0 m good) (sym f) o)
 
-module _ (s : Settings) {stream : List ℕ} {at mode top learned : ℕ} {work : List ℕ}
-    (h : ProductionPre stream at top learned work) {count : ℕ}
-    (counted : CountedHere work mode top count) {r : Level}
-    (g : LevelAt s mode 0 count stream at r) where
+module _ (s : Settings) (mode : ℕ) {stream : List ℕ} {at top learned : ℕ} {work : List ℕ}
+    (h : ProductionPre stream at top learned work) where
   abbrev Meant : ProductionRead → Type 0
   Meant d = (w : Rows) (store : Text) (opened : List ℕ) → Valid w
       → CodeRows work learned mode top w opened
       → Outcome (readCode (s .alignment) (levelsIn s (contextOf w store mode opened))) stream at
       (d .number) (d .next) (IsCode s w store mode opened d)
 
-  module _ {w : Rows} {opened : List ℕ} (valid : Valid w)
-      (rows : CodeRows work learned mode top w opened) where
-    first : LevelRead (s .alignment) mode (getD (tableOf (s .comments) (s .instructions) mode) 0 [])
-        (drop 1 (tableOf (s .comments) (s .instructions) mode))
-        (length (learnedHere w mode opened)) stream at r
-    unfolding levelAt
-    first =
-        subst (λ n. LevelRead (s .alignment) mode
-        (getD (tableOf (s .comments) (s .instructions) mode) 0 [])
-        (drop 1 (tableOf (s .comments) (s .instructions) mode)) n stream at r) (count-is valid rows counted) g
+  abbrev t : List (List Kind)
+  t = tableOf (s .comments) (s .instructions) mode
 
   -- A refusal.
   refused-post : {n : ℕ} → 0 < n → Meant (refusedAs n at)
@@ -88,14 +95,6 @@ module _ (s : Settings) {stream : List ℕ} {at mode top learned : ℕ} {work : 
         bounds = λ z. absurd (omega arith);
         meant = meant;
       }
-
-  pub production-refused : 0 < r .number
-      → ProductionPost s stream at mode top learned work (refusedAs (r .number) at)
-  production-refused l =
-      refused-post l (λ w store opened valid rows.
-      rw (levels-here rows s store)
-      (table-refused (learnedHere w mode opened) (tableOf (s .comments) (s .instructions) mode)
-      (table-empty rows (s .comments) (s .instructions)) (first valid rows) l))
 
   -- A production that is not learned.
   fixed-post : {kind next : ℕ} → next ≤ 8 * length stream → Stands mode kind
@@ -117,106 +116,170 @@ module _ (s : Settings) {stream : List ℕ} {at mode top learned : ℕ} {work : 
         meant = meant;
       }
 
-  module _ (z : r .number ≡ 0) where
-    pub production-fixed : count ≤ r .value → r .on ≡ false
-        → ProductionPost s stream at mode top learned work (fixedAs (r .kind) (r .next))
-    production-fixed b y =
-        fixed-post (g .part .inside) (g .stands z b y) (λ w store opened valid rows.
+  -- A production that is not learned, or a refusal, by the levels of a table.
+  module _ {ls : List (List Kind)} {next : ℕ} {d : ProductionRead}
+      (f : FixedRead s mode ls stream next at d) where
+    fixed-all : ((w : Rows) (store : Text) (opened : List ℕ) → Valid w
+        → CodeRows work learned mode top w opened
+        → Outcome (readCode (s .alignment) (levelsIn s (contextOf w store mode opened))) stream at
+        (d .number) (d .next) (IsCode s w store mode opened (fixedAs (d .kind) (d .next))))
+        → ProductionPost s stream at mode top learned work d
+    fixed-all o =
+        split (eqb (d .number) 0)
+        (λ y.
+        let z : d .number ≡ 0 = eqb-true (d .number) 0 y in
+        subst (ProductionPost s stream at mode top learned work) (sym (f .read z))
+        (fixed-post (f .inside) (f .stands z) (λ w store opened valid rows.
+        subst (λ n. Outcome (readCode (s .alignment) (levelsIn s (contextOf w store mode opened)))
+        stream at n (d .next) (IsCode s w store mode opened (fixedAs (d .kind) (d .next)))) z
+        (o w store opened valid rows))))
+        (λ y.
+        let l : 0 < d .number = omega (arith, eqb-false (d .number) 0 y) in
+        subst (ProductionPost s stream at mode top learned work) (sym (f .refused l))
+        (refused-post l (λ w store opened valid rows.
+        refused-outcome (o w store opened valid rows .refused l))))
+
+  -- ---- outside an element
+
+  pub outer-read : mode < 4 → {d : ProductionRead} → FixedAt s mode stream at at d
+      → ProductionPost s stream at mode top learned work d
+  outer-read l {d} f =
+      fixed-all f (λ w store opened valid rows.
+      let e : learnedHere w mode opened ≡ [] = outer-here rows l in
+      let o = subst (λ ls. Outcome (readCode (s .alignment) (leveled ls)) stream at (d .number)
+      (d .next) (FixedCode ls (d .kind))) (fixed-outer (s .comments) (s .instructions) l)
+      (f .outcome) in
+      let same : levelsIn s (contextOf w store mode opened) ≡ leveled t =
+      levels-here rows s store ∙ ap (λ ps. withLearned ps t) e ∙ unlearned t in
+      subst (λ ls. Outcome (readCode (s .alignment) ls) stream at (d .number) (d .next)
+      (IsCode s w store mode opened (fixedAs (d .kind) (d .next)))) (sym same)
+      (record {
+        refused = o .refused;
+        read = o .read;
+        is = λ z.
+            let x = o .read z .value in
+            subst (IsCode s w store mode opened (fixedAs (d .kind) (d .next)))
+            (ap (λ (ps : List Production). afterLearned (length ps) x) e ∙ after-none x)
+            (fixed-is valid rows s store (d .kind) (d .next) x (o .is z));
+      }))
+
+  -- ---- in an element
+
+  module _ (inner : 4 ≤ mode) {site count own : ℕ} (e : site ≡ siteIn mode top)
+      (counted : CountedAt work site count) (o : own ≡ ownCount mode) {number value next : ℕ}
+      (g : PartRead (s .alignment) stream at (count + own + 1) number value next) where
+    module _ {w : Rows} {opened : List ℕ} (valid : Valid w)
+        (rows : CodeRows work learned mode top w opened) where
+      learned-count : count ≡ length (learnedHere w mode opened)
+      learned-count = count-is valid rows (count-inside inner e counted)
+
+      own-is : own ≡ length (getD t 0 [])
+      own-is = o ∙ own-count (s .comments) (s .instructions) inner (rows .fits .known)
+
+      first : FirstRead (s .alignment) (learnedHere w mode opened) t stream at number value next
+      first =
+          let m : count + own + 1
+          ≡ length (learnedHere w mode opened) + valuesOf (getD t 0 []) (drop 1 t) =
+          omega (
+            arith,
+            learned-count,
+            o,
+            own-values (s .comments) (s .instructions) inner (rows .fits .known),
+          ) in
+          subst (λ n. PartRead (s .alignment) stream at n number value next) m g
+
+    pub inner-refused : 0 < number
+        → ProductionPost s stream at mode top learned work (refusedAs number at)
+    inner-refused l =
+        refused-post l (λ w store opened valid rows.
         rw (levels-here rows s store)
-        (table-fixed (learnedHere w mode opened) z (tableOf (s .comments) (s .instructions) mode)
-        (table-empty rows (s .comments) (s .instructions)) (first valid rows)
-        (omega (arith, count-is valid rows counted)) y
-        (fixed-is valid rows s store (r .kind) (r .next))))
+        (table-refused (learnedHere w mode opened) t
+        (table-empty rows (s .comments) (s .instructions)) (first valid rows) l))
 
-    pub lower-asked : LowerPre stream (r .next)
-    lower-asked = record { size = h .size; place = g .part .inside }
-
-    module _ (y : r .on ≡ true) {d : Level} (k : LowerRead s mode stream (r .next) d) where
-      below-outcome : (w : Rows) (store : Text) (opened : List ℕ) → Valid w
-          → CodeRows work learned mode top w opened
-          → Outcome (readCode (s .alignment) (levelsIn s (contextOf w store mode opened))) stream at
-          (d .number) (d .next) (IsCode s w store mode opened (fixedAs (d .kind) (d .next)))
-      below-outcome w store opened valid rows =
+    module _ (z : number ≡ 0) where
+      -- The end tag.
+      pub inner-end : count ≤ value → value < count + own
+          → ProductionPost s stream at mode top learned work (fixedAs 4 next)
+      inner-end a b =
+          fixed-post (g .inside)
+          (record {
+            known = omega arith;
+            outside = λ l. absurd (omega arith);
+            inside = λ _ _. inner;
+          })
+          (λ w store opened valid rows.
           rw (levels-here rows s store)
-          (table-below (learnedHere w mode opened) z (tableOf (s .comments) (s .instructions) mode)
-          (table-empty rows (s .comments) (s .instructions)) (first valid rows) y (k .outcome)
-          (λ _. fixed-is valid rows s store (d .kind) (d .next)))
+          (table-fixed (learnedHere w mode opened) z t
+          (table-empty rows (s .comments) (s .instructions)) (first valid rows) 0
+          (omega (arith, learned-count valid rows, own-most mode o))
+          (omega (arith, own-is valid rows))
+          (own-kind (s .comments) (s .instructions) inner (rows .fits .known) (omega (arith, o)))
+          (fixed-is valid rows s store 4 next)))
 
-      pub lower-refused : 0 < d .number
-          → ProductionPost s stream at mode top learned work (refusedAs (d .number) at)
-      lower-refused l =
-          refused-post l (λ w store opened valid rows.
-          refused-outcome (below-outcome w store opened valid rows .refused l))
-
-      pub lower-fixed : d .number ≡ 0
-          → ProductionPost s stream at mode top learned work (fixedAs (d .kind) (d .next))
-      lower-fixed e =
-          fixed-post (k .inside) (k .stands e) (λ w store opened valid rows.
-          subst (λ n. Outcome (readCode (s .alignment) (levelsIn s (contextOf w store mode opened)))
-          stream at n (d .next) (IsCode s w store mode opened (fixedAs (d .kind) (d .next)))) e
-          (below-outcome w store opened valid rows))
-
-    -- A learned production.
-    module _ (b : r .value < count) {site : ℕ} (e : site ≡ siteIn mode top) {d : ProductionRead}
-        (k : LearnedRead work site count (r .value) learned at (r .next) d) where
-      inner : 4 ≤ mode
-      inner =
-          split (ltb mode 4)
-          (λ t. absurd (omega (arith, counted .outside (ltb-true mode 4 t))))
-          (λ t. ltb-false mode 4 t)
-
-      learned-refused : 0 < d .number → d ≡ refusedAs (d .number) at
-      learned-refused l =
-          let x = k .refused l in
-          x ∙ ap (λ n. refusedAs n at) (sym (ap (λ (p : ProductionRead). p .number) x))
-
-      learned-inside : d .next ≤ 8 * length stream
-      learned-inside =
-          split (eqb (d .number) 0)
-          (λ t. let x = k .read (eqb-true (d .number) 0 t) .1 in omega (arith, x, g .part .inside))
-          (λ t.
-          let x = k .refused (omega (arith, eqb-false (d .number) 0 t)) in
-          omega (arith, ap (λ (p : ProductionRead). p .next) x, h .place))
-
-      learned-bounds : d .number ≡ 0 → ProductionBounds mode d
-      learned-bounds x =
-          let i = k .bounds x in
-          let l = inner in
-          record {
-            stands =
-                record {
-                  known = omega (arith, i .upTo);
-                  outside = λ a. absurd (omega (arith, i .from));
-                  inside = λ _ _. l;
-                };
-            inner = λ _. record { element = l; from = i .from; upTo = i .upTo };
-            plain = λ y. absurd (true≢false (sym (k .read x .0) ∙ y));
-            name = i .name;
-            uri = i .uri;
-            local = i .local;
-          }
-
-      learned-meant : Meant d
-      learned-meant w store opened valid rows =
-          let l = inner in
-          let m = k .means w valid (rows .hold)
-          (omega (arith, e, site-half mode top, top-row rows l))
-          (subst (λ n. CountedAt work n count) (sym e) (counted .counted l)) b in
-          let x = subst (λ n. IsLearned w n (r .value) d) e m in
-          let (y, next) = k .read (x .number) in
+      pub inner-lower : count + own ≤ value → {d : ProductionRead}
+          → FixedAt s mode stream next at d → ProductionPost s stream at mode top learned work d
+      inner-lower a {d} f =
+          fixed-all f (λ w store opened valid rows.
           rw (levels-here rows s store)
-          (outcome-at (x .number) next
-          (table-learned (learnedHere w mode opened) z
-          (tableOf (s .comments) (s .instructions) mode)
+          (table-below (learnedHere w mode opened) z t
           (table-empty rows (s .comments) (s .instructions)) (first valid rows)
-          (ap (λ ps. getElem? ps (r .value)) (inner-here rows l) ∙ x .there)
-          (learned-is valid rows s store l x y)))
+          (omega (arith, learned-count valid rows, own-is valid rows))
+          (subst (λ ls. Outcome (readCode (s .alignment) (leveled ls)) stream next (d .number)
+          (d .next) (FixedCode ls (d .kind))) (fixed-inner (s .comments) (s .instructions) inner)
+          (f .outcome))
+          (λ _. fixed-is valid rows s store (d .kind) (d .next))))
 
-      pub production-learned : ProductionPost s stream at mode top learned work d
-      production-learned =
-          record {
-            inside = learned-inside;
-            refused = learned-refused;
-            bounds = learned-bounds;
-            meant = learned-meant;
-          }
+      -- A learned production.
+      module _ (b : value < count) {d : ProductionRead}
+          (k : LearnedRead work site count value learned at next d) where
+        learned-refused : 0 < d .number → d ≡ refusedAs (d .number) at
+        learned-refused l =
+            let x = k .refused l in
+            x ∙ ap (λ n. refusedAs n at) (sym (ap (λ (p : ProductionRead). p .number) x))
+
+        learned-inside : d .next ≤ 8 * length stream
+        learned-inside =
+            split (eqb (d .number) 0)
+            (λ t. let x = k .read (eqb-true (d .number) 0 t) .1 in omega (arith, x, g .inside))
+            (λ t.
+            let x = k .refused (omega (arith, eqb-false (d .number) 0 t)) in
+            omega (arith, ap (λ (p : ProductionRead). p .next) x, h .place))
+
+        learned-bounds : d .number ≡ 0 → ProductionBounds mode d
+        learned-bounds x =
+            let i = k .bounds x in
+            record {
+              stands =
+                  record {
+                    known = omega (arith, i .upTo);
+                    outside = λ a. absurd (omega (arith, i .from));
+                    inside = λ _ _. inner;
+                  };
+              inner = λ _. record { element = inner; from = i .from; upTo = i .upTo };
+              plain = λ y. absurd (true≢false (sym (k .read x .0) ∙ y));
+              name = i .name;
+              uri = i .uri;
+              local = i .local;
+            }
+
+        learned-meant : Meant d
+        learned-meant w store opened valid rows =
+            let m = k .means w valid (rows .hold)
+            (omega (arith, e, site-half mode top, top-row rows inner)) counted b in
+            let x = subst (λ n. IsLearned w n value d) e m in
+            let (y, there) = k .read (x .number) in
+            rw (levels-here rows s store)
+            (outcome-at (x .number) there
+            (table-learned (learnedHere w mode opened) z t
+            (table-empty rows (s .comments) (s .instructions)) (first valid rows)
+            (ap (λ ps. getElem? ps value) (inner-here rows inner) ∙ x .there)
+            (learned-is valid rows s store inner x y)))
+
+        pub inner-learned : ProductionPost s stream at mode top learned work d
+        inner-learned =
+            record {
+              inside = learned-inside;
+              refused = learned-refused;
+              bounds = learned-bounds;
+              meant = learned-meant;
+            }

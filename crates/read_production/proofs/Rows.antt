@@ -16,7 +16,6 @@ use Rattle.mem_index.proofs.Codes.{numbered-is}
 use Rattle.mem_learned.specs.Learned.{Taught, siteOfRow}
 use Rattle.mem_learned.specs.Learned.{LearnedHold, CountedAt, NthLearned, IsProduction}
 use Rattle.mem_learned.specs.Learned.{ProductionAt, Sited, LearnedRow}
-use Rattle.mem_learned.specs.Learned as cells
 use Rattle.mem_learned.specs.declared.Production as cell
 use Rattle.mem_learned.proofs.Sites.{learned-nth, learned-there}
 use Rattle.mem_rows.specs.Rows.{Rows, siteAt}
@@ -25,7 +24,6 @@ use Rattle.mem_rows.specs.Valid.{learntAt, Valid}
 use Rattle.mem_state.specs.Holds.{taughtOf, taughtIn}
 use Rattle.mem_state.proofs.Taught.{keys-of, site-same}
 use Rattle.mem_state.proofs.Taught.{taught-count, taught-row, learns-of}
-use Rattle.mem_state.proofs.Taught as taught
 use Rattle.grammar_match.proofs.Unfit.{kind-number}
 use Rattle.grammar_match.proofs.Rows.{site-key, production-is, first-is}
 use Rattle.read_production.specs.Answers.{refusedAs}

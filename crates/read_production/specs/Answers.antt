@@ -2,7 +2,6 @@
 use Prim.Native.Nat.{ℕ}
 use mathlib.Core.Bool.{false}
 use Rattle.read_production.specs.declared.ProductionRead.{ProductionRead}
-use Rattle.read_production.specs.declared.Level.{Level}
 
 abbrev pub refusedAs : ℕ → ℕ → ProductionRead
 refusedAs number at =
@@ -12,8 +11,3 @@ refusedAs number at =
 abbrev pub fixedAs : ℕ → ℕ → ProductionRead
 fixedAs kind next =
     record { number = 0; next = next; kind = kind; learned = false; name = 0; uri = 0; local = 0 }
-
--- A part that names no production of the table.
-abbrev pub unnamedAs : ℕ → ℕ → ℕ → Level
-unnamedAs number value next =
-    record { number = number; next = next; value = value; kind = 0; on = false }

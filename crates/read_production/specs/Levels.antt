@@ -1,22 +1,25 @@
--- What the readers of parts and levels ask and leave.
-use Prim.Native.Nat.{ℕ, suc, _+_, _-_, _*_, _≤_, _<_}
+-- What the readers of parts, and of productions that are not learned, ask and leave.
+use Prim.Native.Nat.{ℕ, _*_, _≤_, _<_}
 use mathlib.Core.Path.{_≡_}
-use mathlib.Core.Bool.{true, false}
-use mathlib.Core.List.{List}
+use mathlib.Core.Bool.{cond}
+use mathlib.Core.List.{List, [], _∷_}
 use mathlib.Core.Option.{Option, some}
-use lib.ListN.{length, getD, getElem?, drop}
+use lib.ListN.{length, getElem?, drop}
+use lib.Dec.{eqb}
 use Rattle.spec_fields.specs.Bits.{unpack}
 use Rattle.spec_fields.specs.Refusal.{code}
 use Rattle.spec_fields.specs.Parser.{got}
 use Rattle.spec_fields.specs.Field.{Alignment, choice}
-use Rattle.spec_exi.specs.Event.{Kind, SD}
+use Rattle.spec_exi.specs.Event.{Kind}
 use Rattle.spec_exi.specs.Sizes.{maxStream}
 use Rattle.spec_exi.specs.Settings.{Settings}
-use Rattle.spec_exi.specs.Grammar.{Production, kindNumber}
+use Rattle.spec_exi.specs.Grammar.{Production}
 use Rattle.spec_exi.specs.Reader.{readCode}
-use Rattle.grammar_codes.specs.Table.{tableOf, levelAt, valuesOf, leveled, FixedCode, Stands}
+use Rattle.event_code.specs.Numbers.{inElement}
+use Rattle.grammar_codes.specs.Table.{keptKinds, fixedLevels, leveled, FixedCode, Stands}
 use Rattle.read_contract.specs.Outcome.{Declined, Outcome}
-use Rattle.read_production.specs.declared.Level.{Level}
+use Rattle.read_production.specs.declared.ProductionRead.{ProductionRead}
+use Rattle.read_production.specs.Answers.{refusedAs, fixedAs}
 
 -- ---- one part
 
@@ -32,43 +35,35 @@ pub record PartRead (a : Alignment) (stream : List ℕ) (at among number value n
   pub after : number ≡ 0 → at ≤ next
   pub inside : next ≤ 8 * length stream
 
--- ---- one level
+-- ---- productions that are not learned
 
-pub record LevelPre (stream : List ℕ) (at level before : ℕ) : Type 0 where
+pub record FixedPre (stream : List ℕ) (next at : ℕ) : Type 0 where
   pub size : length stream ≤ maxStream
-  pub place : at ≤ 8 * length stream
-  pub low : level < 3
-  pub few : before ≤ 4096
+  pub place : next ≤ 8 * length stream
+  pub start : at ≤ 8 * length stream
 
--- Of the level l, with those below it, where so many learned productions stand first.
-pub record LevelRead (a : Alignment) (mode : ℕ) (l : List Kind) (ls : List (List Kind)) (before : ℕ)
-    (stream : List ℕ) (at : ℕ) (r : Level) : Type 0 where
-  pub part : PartRead a stream at (before + valuesOf l ls) (r .number) (r .value) (r .next)
-  -- a production of the table
-  pub here : r .number ≡ 0 → before ≤ r .value → r .on ≡ false → r .value - before < length l
-  pub kind : r .number ≡ 0 → before ≤ r .value
-      → r .kind ≡ kindNumber (getD l (r .value - before) SD)
-  pub stands : r .number ≡ 0 → before ≤ r .value → r .on ≡ false → Stands mode (r .kind)
-  -- or the level below
-  pub on : r .number ≡ 0 → r .on ≡ true → before + length l ≤ r .value
-
-abbrev pub LevelAt : Settings → ℕ → ℕ → ℕ → List ℕ → ℕ → Level → Type 0
-LevelAt s mode level before stream at r =
-    LevelRead (s .alignment) mode (levelAt (s .comments) (s .instructions) mode level)
-    (drop (suc level) (tableOf (s .comments) (s .instructions) mode)) before stream at r
-
--- ---- the levels below the first
-
-pub record LowerPre (stream : List ℕ) (at : ℕ) : Type 0 where
-  pub size : length stream ≤ maxStream
-  pub place : at ≤ 8 * length stream
-
-pub record LowerRead (s : Settings) (mode : ℕ) (stream : List ℕ) (at : ℕ) (r : Level)
-    : Type 0 where
+-- The rest of a code that began at bit `at`, by the levels of t.
+pub record FixedRead (s : Settings) (mode : ℕ) (t : List (List Kind)) (stream : List ℕ)
+    (next at : ℕ) (r : ProductionRead) : Type 0 where
   pub outcome :
-      Outcome
-      (readCode (s .alignment) (leveled (drop 1 (tableOf (s .comments) (s .instructions) mode))))
-      stream at (r .number) (r .next)
-      (FixedCode (drop 1 (tableOf (s .comments) (s .instructions) mode)) (r .kind))
+      Outcome (readCode (s .alignment) (leveled t)) stream next (r .number) (r .next)
+      (FixedCode t (r .kind))
+  pub refused : 0 < r .number → r ≡ refusedAs (r .number) at
+  pub read : r .number ≡ 0 → r ≡ fixedAs (r .kind) (r .next)
   pub inside : r .next ≤ 8 * length stream
   pub stands : r .number ≡ 0 → Stands mode (r .kind)
+
+-- By the last level, in every state.
+abbrev pub KeptRead : Settings → List ℕ → ℕ → ℕ → ProductionRead → Type 0
+KeptRead s stream next at r =
+    (mode : ℕ)
+    → FixedRead s mode (keptKinds (s .comments) (s .instructions) ∷ []) stream next at r
+
+-- By the main level, and the one below it.
+abbrev pub FixedAt : Settings → ℕ → List ℕ → ℕ → ℕ → ProductionRead → Type 0
+FixedAt s mode stream next at r =
+    FixedRead s mode (fixedLevels (s .comments) (s .instructions) mode) stream next at r
+
+-- How many an element's first level has.
+abbrev pub ownCount : ℕ → ℕ
+ownCount mode = cond (eqb mode inElement) 1 0

@@ -3,12 +3,15 @@
 ghost use mathlib.Core.Path.{_≡_};
 ghost use Rattle.read_field.specs.View.{alignmentOf, NumberIn};
 ghost use Rattle.settings.specs.Meant.{settingsFrom};
-ghost use Rattle.read_production.specs.Levels.{PartRead, LevelPre, LevelAt, LowerPre};
-ghost use Rattle.read_production.specs.Levels.{LowerRead};
+ghost use Rattle.read_production.specs.Levels.{PartRead, FixedPre, KeptRead, FixedAt};
+ghost use Rattle.read_production.specs.Levels.{ownCount};
 ghost use Rattle.read_production.specs.Learned.{LearnedPre, LearnedRead};
-ghost use Rattle.read_production.specs.Answers.{refusedAs, fixedAs, unnamedAs};
+ghost use Rattle.read_production.specs.Answers.{refusedAs, fixedAs};
 ghost use Rattle.read_production.specs.Production.{ProductionPre, ProductionPost};
 use event_code::CH;
+use event_code::EE;
+use event_code::IN_ELEMENT;
+use event_code::IN_TAG;
 use event_code::SE;
 use read_field::Field;
 use refusal::CODE;
@@ -33,16 +36,6 @@ struct Part {
     number: u32,
     value: u32,
     next: usize,
-}
-
-// A part of a level: the number of a refusal or 0; the position after it; its value; and the kind
-// of the production that it names, or that it leads on.
-struct Level {
-    number: u32,
-    next: usize,
-    value: u32,
-    kind: u32,
-    on: bool,
 }
 
 fn refused(number: u32, at: usize) -> ProductionRead
@@ -104,58 +97,36 @@ fn read_part(aligned: bool, stream: &[u8], at: usize, among: u32) -> Part
     }
 }
 
-// A part that names no production of the table.
-fn unnamed(number: u32, value: u32, next: usize) -> Level
-    ensures { λ r. ⌜ r ≡ unnamedAs number value next ⌝ }
+// Comments and instructions, as kept: the last part, of a code that began at a position.
+fn read_kept(o: Settings, stream: &[u8], next: usize, at: usize) -> ProductionRead
+    requires { ⌜ FixedPre (now stream) next at ⌝ }
+    ensures { λ r. ⌜ KeptRead (settingsFrom o) (now (stream .entry)) next at r ⌝ }
 {
-    Level {
-        number,
-        next,
-        value,
-        kind: 0,
-        on: false,
-    }
-}
-
-// A part of this level, where so many learned productions stand first.
-fn read_level(o: Settings, stream: &[u8], at: usize, mode: u32, level: u32, before: u32) -> Level
-    requires { ⌜ LevelPre (now stream) at level before ⌝ }
-    ensures { λ r. ⌜
-        LevelAt (settingsFrom o) mode level before (now (stream .entry)) at r ⌝ }
-{
-    let more = grammar_codes::values_at(mode, level, o.comments, o.instructions);
-    let p = read_part(o.aligned, stream, at, before + more);
+    let count = grammar_codes::kept_count(o.comments, o.instructions);
+    let p = read_part(o.aligned, stream, next, count);
     if p.number != 0 {
-        return unnamed(p.number, p.value, p.next);
+        return refused(p.number, at);
     }
-    if p.value < before {
-        return unnamed(0, p.value, p.next);
-    }
-    let v = p.value - before;
-    let count = grammar_codes::count_at(mode, level, o.comments, o.instructions);
-    let kind = grammar_codes::kind_at(mode, level, v, o.comments, o.instructions);
-    Level {
-        number: 0,
-        next: p.next,
-        value: p.value,
-        kind,
-        on: count <= v,
-    }
+    let kind = grammar_codes::kept_at(p.value, o.comments, o.instructions);
+    fixed(kind, p.next)
 }
 
-// The levels below the first.
-fn read_lower(o: Settings, stream: &[u8], at: usize, mode: u32) -> Level
-    requires { ⌜ LowerPre (now stream) at ⌝ }
-    ensures { λ r. ⌜ LowerRead (settingsFrom o) mode (now (stream .entry)) at r ⌝ }
+// A production that is not learned, by the part of the main level: outside an element the code's
+// first, in an element its second.
+fn read_fixed(o: Settings, stream: &[u8], next: usize, at: usize, mode: u32) -> ProductionRead
+    requires { ⌜ FixedPre (now stream) next at ⌝ }
+    ensures { λ r. ⌜ FixedAt (settingsFrom o) mode (now (stream .entry)) next at r ⌝ }
 {
-    let second = read_level(o, stream, at, mode, 1, 0);
-    if second.number != 0 {
-        return second;
+    let here = grammar_codes::fixed_count(mode);
+    let on = grammar_codes::leads_on(mode, o.comments, o.instructions);
+    let p = read_part(o.aligned, stream, next, here + on);
+    if p.number != 0 {
+        return refused(p.number, at);
     }
-    if second.on {
-        return read_level(o, stream, second.next, mode, 2, 0);
+    if p.value < here {
+        return fixed(grammar_codes::fixed_kind(mode, p.value), p.next);
     }
-    second
+    read_kept(o, stream, p.next, at)
 }
 
 // The learned production of a site that has v newer ones, of count in all.
@@ -193,6 +164,16 @@ fn read_learned(
     }
 }
 
+// Productions of an element's first level that are not learned: in its content, the end tag.
+fn own_count(mode: u32) -> u32
+    ensures { λ r. ⌜ r ≡ ownCount mode ⌝ }
+{
+    if mode == IN_ELEMENT {
+        return 1;
+    }
+    0
+}
+
 // Reads an event code, where the innermost element's name has row top and so many productions are
 // learned in all.
 pub fn read_production(
@@ -209,21 +190,21 @@ pub fn read_production(
         ProductionPost (settingsFrom o) (now (stream .entry)) at mode top learned
         (now (work .entry)) r ⌝ }
 {
-    let count = grammar_match::count_here(mode, top, work);
-    let first = read_level(o, stream, at, mode, 0, count);
-    if first.number != 0 {
-        return refused(first.number, at);
+    if mode < IN_TAG {
+        return read_fixed(o, stream, at, at, mode);
     }
-    if first.value < count {
-        let site = grammar_match::site_in(mode, top);
-        return read_learned(site, count, first.value, learned, at, first.next, work);
+    let site = grammar_match::site_in(mode, top);
+    let count = mem_learned::count_at(work, site);
+    let last = count + own_count(mode);
+    let p = read_part(o.aligned, stream, at, last + 1);
+    if p.number != 0 {
+        return refused(p.number, at);
     }
-    if first.on {
-        let lower = read_lower(o, stream, first.next, mode);
-        if lower.number != 0 {
-            return refused(lower.number, at);
-        }
-        return fixed(lower.kind, lower.next);
+    if p.value < count {
+        return read_learned(site, count, p.value, learned, at, p.next, work);
     }
-    fixed(first.kind, first.next)
+    if p.value < last {
+        return fixed(EE, p.next);
+    }
+    read_fixed(o, stream, p.next, at, mode)
 }

@@ -24,8 +24,8 @@ use Rattle.mem_state.proofs.Joins.{holds-grown}
 use Rattle.read_contract.specs.Outcome.{Declined, Gotten}
 use Rattle.read_literal.specs.Literal.{laidAt}
 use Rattle.read_literal.proofs.Store.{laid-none}
-use Rattle.read_step.specs.declared.Stepped.{Stepped}
-use Rattle.read_step.specs.Step.{StepPre, StepRefused, StepLaid, StepMeans, StepPost}
+use Rattle.read_event.specs.declared.Stepped.{Stepped}
+use Rattle.read_event.specs.Step.{coreOf, StepPre, StepRefused, StepLaid, StepMeans, StepPost}
 use Rattle.open_elements.specs.declared.State.{State}
 use Rattle.open_elements.specs.Opened.{openedIn, innermostIn, withTop, Kept}
 use Rattle.open_elements.proofs.Opened.{last-top, innermost-is, innermost-small}
@@ -239,19 +239,19 @@ module _ {s : Settings} {stream events text work : List ℕ} {st : State} {first
 
         -- These cells of the array are the open elements after the event.
         abbrev pub KeptAfter : List ℕ → Type 0
-        KeptAfter rows = Kept (t .core) (r .core) (openedIn t) rows
+        KeptAfter rows = Kept (t .core) (coreOf r) (openedIn t) rows
 
-        pub turn-stored : t .core .depth < r .core .depth
-            → KeptAfter (set (t .opened) (t .core .depth) (r .core .top))
-        turn-stored = stored-row t (r .core) (i .array) (p .bounded .depth)
+        pub turn-stored : t .core .depth < r .depth
+            → KeptAfter (set (t .opened) (t .core .depth) (r .top))
+        turn-stored = stored-row t (coreOf r) (i .array) (p .bounded .depth)
 
-        pub turn-same : r .core .depth ≤ t .core .depth → KeptAfter (t .opened)
-        turn-same = same-rows t (r .core) (i .array)
+        pub turn-same : r .depth ≤ t .core .depth → KeptAfter (t .opened)
+        turn-same = same-rows t (coreOf r) (i .array)
 
         module _ {rows : List ℕ} (kept : KeptAfter rows) {top : ℕ}
-            (inner : top ≡ innermostIn rows (r .core .depth)) where
+            (inner : top ≡ innermostIn rows (r .depth)) where
           abbrev later : State
-          later = record { core = withTop (r .core) top; opened = rows }
+          later = record { core = withTop (coreOf r) top; opened = rows }
 
           module _ (w : Rows)
               (a : Represents work (inStore text (st .core .stored)) (st .core) w (openedIn st))
@@ -261,39 +261,39 @@ module _ {s : Settings} {stream events text work : List ℕ} {st : State} {first
 
             abbrev reads : Gotten
                 (step sizes s (contextAt text′ (t .core) (before .rows) (openedIn t))) stream
-                (t .core .at) (r .core .at)
+                (t .core .at) (r .at)
             reads = p .meant (before .rows) (openedIn t) (before .after) (before .topped) .read z
 
             abbrev means : StepMeans events′ (t .core) (cellsPerEvent * n) (openedIn t) events″
-                text″ work″ (r .core) (reads .value)
+                text″ work″ (coreOf r) (reads .value)
             means = p .meant (before .rows) (openedIn t) (before .after) (before .topped) .is z
 
             opened-is : openedIn later ≡ means .opened′
             opened-is = kept .is (means .opened′) (means .turned)
 
-            represents : Represents work″ (inStore text″ (r .core .stored)) (r .core) (means .w)
+            represents : Represents work″ (inStore text″ (r .stored)) (coreOf r) (means .w)
                 (openedIn later)
             represents =
-                subst (Represents work″ (inStore text″ (r .core .stored)) (r .core) (means .w))
+                subst (Represents work″ (inStore text″ (r .stored)) (coreOf r) (means .w))
                 (sym opened-is) (means .after)
 
             -- The innermost is a row of a name.
-            row-low : 0 < r .core .depth → getD rows (r .core .depth - 1) 0 < nameRows
+            row-low : 0 < r .depth → getD rows (r .depth - 1) 0 < nameRows
             unfolding maxNames
             row-low d =
                 let o = represents .opens .rows 0 (omega (arith, represents .opens .size)) in
                 omega (
                   arith,
                   o,
-                  last-top (r .core .depth) rows d,
+                  last-top (r .depth) rows d,
                   represents .counts .names,
                   p .bounded .names,
                 )
 
-            context-after : reads .value .1 ≡ contextAt text″ (r .core) (means .w) (openedIn later)
+            context-after : reads .value .1 ≡ contextAt text″ (coreOf r) (means .w) (openedIn later)
             context-after =
                 means .context
-                ∙ ap (contextOf (means .w) (take (r .core .stored) text″) (r .core .mode))
+                ∙ ap (contextOf (means .w) (take (r .stored) text″) (r .mode))
                 (sym opened-is)
 
             running : Running s stream events text st first w events″ text″ work″ later (n + 1)
@@ -310,13 +310,13 @@ module _ {s : Settings} {stream events text work : List ℕ} {st : State} {first
                   after = represents-top top represents;
                   topped =
                       record {
-                        is = λ d. last-top (r .core .depth) rows d
-                            ∙ sym (inner ∙ innermost-is rows (r .core .depth) d (row-low d));
+                        is = λ d. last-top (r .depth) rows d
+                            ∙ sym (inner ∙ innermost-is rows (r .depth) d (row-low d));
                       };
                   read = subst
                       (λ c. Steps s (contextAt text (st .core) w (openedIn st))
                       (drop (st .core .at) (unpack stream)) (before .es ++ reads .value .0 ∷ []) c
-                      (drop (r .core .at) (unpack stream)))
+                      (drop (r .at) (unpack stream)))
                       context-after (one-more (reads .value) (before .read) (reads .result));
                   cells =
                       row-next events (cellsPerEvent * first) (cellsOfAll (before .es))
@@ -332,7 +332,7 @@ module _ {s : Settings} {stream events text work : List ℕ} {st : State} {first
           turn-more =
               record {
                 bounded = bounded-top top
-                    (omega (arith, inner, innermost-small rows (r .core .depth))) (p .bounded);
+                    (omega (arith, inner, innermost-small rows (r .depth))) (p .bounded);
                 array = kept .size;
                 inside = p .inside;
                 from = omega (arith, i .from);

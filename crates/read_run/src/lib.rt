@@ -3,6 +3,7 @@
 ghost use mathlib.Core.Path.{_≡_};
 ghost use Rattle.settings.specs.Meant.{settingsFrom};
 ghost use Rattle.read_run.specs.Run.{AdvancePre, AdvancePost};
+use mem_state::Core;
 use mem_state::IS_OVER;
 use open_elements::State;
 use refusal::LIMIT;
@@ -56,13 +57,24 @@ pub fn advance(
         if r.number != 0 {
             return stopped(r.number, n, t);
         }
-        let mut d = r.core;
         let before = c.depth;
-        let after = d.depth;
+        let after = r.depth;
         if before < after {
-            t.opened[before] = d.top as u16;
+            t.opened[before] = r.top as u16;
         }
-        d.top = open_elements::innermost(&t.opened, after);
+        let top = open_elements::innermost(&t.opened, after);
+        let d = Core {
+            at: r.at,
+            stored: r.stored,
+            uris: r.uris,
+            names: r.names,
+            values: r.values,
+            learned: r.learned,
+            grammars: r.grammars,
+            mode: r.mode,
+            top,
+            depth: after,
+        };
         t.core = d;
         n += 1;
     }

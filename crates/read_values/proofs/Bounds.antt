@@ -11,7 +11,8 @@ use Rattle.read_field.specs.declared.Field.{Field}
 use Rattle.read_field.specs.declared.Field.the-variants.{Value}
 use Rattle.read_field.specs.View.{fieldAt, InStream, NumberIn}
 use Rattle.read_contract.proofs.Outcome.{unsigned-gotten}
-use Rattle.read_literal.specs.Literal.{LiteralFit}
+use Rattle.read_literal.specs.declared.Literal as declared
+use Rattle.read_literal.specs.Literal.{LiteralFit, LiteralRead}
 use Rattle.read_partition.specs.declared.StringRead.{StringRead}
 use Rattle.read_values.specs.Values.{HitPre, NewPre, ValuePre, SoughtPre, JoinsWithin}
 
@@ -52,14 +53,17 @@ module _ {stream : List ℕ} {at : ℕ} {stored : ℕ} {work : List ℕ} {values
   pub row-asks : RowRoom work 0
   row-asks = record { room = fit .room; low = omega arith }
 
-pub find-asks : {stored : ℕ} {work : List ℕ} {values : ℕ} → SoughtPre stored work values
-    → Findable work values
+pub find-asks : {text : List ℕ} {stored n hash : ℕ} {work : List ℕ} {values : ℕ}
+    → SoughtPre text stored n hash work values → Findable work values
 unfolding maxValues
 find-asks fit = record { room = fit .room; few = omega (arith, fit .few) }
 
 pub seek-asks : {stream : List ℕ} {at : ℕ} {text : List ℕ} {stored : ℕ} {work : List ℕ} {values : ℕ}
-    → NewPre stream at text stored work values → SoughtPre stored work values
-seek-asks fit = record { store = fit .literal .few; room = fit .room; few = fit .few }
+    → NewPre stream at text stored work values
+    → {n : ℕ} {text′ : List ℕ} {l : declared.Literal} → LiteralRead stream at text stored n text′ l
+    → l .number ≡ 0 → SoughtPre text′ stored n (l .hash) work values
+seek-asks fit r z =
+    record { is = r .hashed .is z; store = fit .literal .few; room = fit .room; few = fit .few }
 
 -- A value after its number.
 module _ {stream : List ℕ} {at : ℕ} {text : List ℕ} {stored : ℕ} {work : List ℕ} {values owner : ℕ}

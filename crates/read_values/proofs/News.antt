@@ -36,9 +36,7 @@ use Rattle.read_literal.proofs.Store.{laid-part, laid-size, laid-before}
 use Rattle.read_partition.specs.Strings.{refusedAs, literalAs, Tabled}
 use Rattle.read_partition.proofs.Steps.{judge-loose, judge-limit}
 use Rattle.read_partition.proofs.Posts.{literal-judged, Passes, literal-passed}
-use Rattle.read_values.specs.declared.Sought.{Sought}
 use Rattle.read_values.specs.Values.{NewPre, ValueRows, valueRole, asNew, ValuePost}
-use Rattle.read_values.specs.Values.{SoughtPost}
 use Rattle.read_values.proofs.Meaning.{count-is, form-of}
 
 -- ---- texts by their length
@@ -94,74 +92,75 @@ module _ {text : List ℕ} {stored n : ℕ} {text′ : List ℕ} {x : Text}
 module _ {text : List ℕ} {stored : ℕ} {w : Rows} {store : Text} (t : Tabled text stored w store)
     {work : List ℕ} {values owner : ℕ} (p : ValueRows work text stored values owner w)
     {n : ℕ} {text′ : List ℕ} {x : Text} (d : TextLaid text stored n text′ x)
-    {q : Sought} (s : SoughtPost work text′
-    (part text′ (record { place = stored; size = n })) values q) where
-  -- The answer of the search.
-  row-is : q .row ≡ since 0 (lastThat (hasTextAt (w .values) x) values)
-  row-is =
-      let e = laid-found d in
-      let f : FoundText work text′ x (q .hash) values 0 (q .row) =
-      subst (λ y. FoundText work text′ y (q .hash) values 0 (q .row)) e (s .found) in
-      f .newest stored (w .values) (values-grown (store-grown d) (p .stand .holds))
-      (s .hash ∙ ap hashOf e)
-      (omega (arith, p .stand .near))
+    {hash row : ℕ} (is : hash ≡ hashOf (part text′ (record { place = stored; size = n })))
+    (s : FoundText work text′ (part text′ (record { place = stored; size = n })) hash values 0 row)
+  where
+    -- The answer of the search.
+    row-is : row ≡ since 0 (lastThat (hasTextAt (w .values) x) values)
+    row-is =
+        let e = laid-found d in
+        let f : FoundText work text′ x hash values 0 row =
+        subst (λ y. FoundText work text′ y hash values 0 row) e s in
+        f .newest stored (w .values) (values-grown (store-grown d) (p .stand .holds))
+        (is ∙ ap hashOf e)
+        (omega (arith, p .stand .near))
 
-  absent-strict : q .row ≡ 0
-      → eqForm literal (formOf (partitionsOf (tablesOf w store) (valueRole owner w)) x) ≡ true
-  absent-strict z = ap (eqForm literal) (form-of t p x (q .row) row-is)
-      ∙ absent-form (w .values) owner (q .row) z
+    absent-strict : row ≡ 0
+        → eqForm literal (formOf (partitionsOf (tablesOf w store) (valueRole owner w)) x) ≡ true
+    absent-strict z = ap (eqForm literal) (form-of t p x row row-is)
+        ∙ absent-form (w .values) owner row z
 
-  present-loose : (q .row ≡ 0 → ⊥)
-      → eqForm literal (formOf (partitionsOf (tablesOf w store) (valueRole owner w)) x) ≡ false
-  present-loose ne = ap (eqForm literal) (form-of t p x (q .row) row-is)
-      ∙ present-form (w .values) owner (q .row) ne
+    present-loose : (row ≡ 0 → ⊥)
+        → eqForm literal (formOf (partitionsOf (tablesOf w store) (valueRole owner w)) x) ≡ false
+    present-loose ne = ap (eqForm literal) (form-of t p x row row-is)
+        ∙ present-form (w .values) owner row ne
 
-  store-fits : length (tablesOf w store .store) + length x ≤ maxStore
-  unfolding tablesOf
-  store-fits = omega (arith, t .size)
+    store-fits : length (tablesOf w store .store) + length x ≤ maxStore
+    unfolding tablesOf
+    store-fits = omega (arith, t .size)
 
-  -- An empty value joins no table.
-  empty-passes : q .row ≡ 0 → n ≡ 0
-      → Passes (λ w y. withValue w owner y) (valueRole owner w) w store x false
-  unfolding newUri newName newValue newEntry laid nameAllowed
-  empty-passes z e =
-      let i : isEmpty x ≡ true = empty-is x (omega (arith, d .size)) in
-      record {
-        strict = absent-strict z;
-        allowed = refl;
-        within = within-none (tablesOf w store) x (t .within) store-fits
-            (valueRole owner w) refl refl (rw i);
-        stays = λ _. nothing-joins w store x (valueRole owner w) refl refl (rw i);
-        joined = λ j. absurd (true≢false (sym j));
-        valid = λ j. absurd (true≢false (sym j));
-      }
-
-  module _ (some : n ≡ 0 → ⊥) where
-    within-is : withinTables sizes (added (tablesOf w store) (valueRole owner w) x)
-        ≡ ltb values maxValues
-    within-is =
-        within-value (tablesOf w store) x (t .within) store-fits (nameAt w owner)
-        (full-is x (omega (arith, d .size)))
-        ∙ ap (λ m. ltb m maxValues) (values-count w store ∙ count-is t p)
-
-    new-passes : q .row ≡ 0 → values < maxValues
-        → Passes (λ w y. withValue w owner y) (valueRole owner w) w store x true
-    unfolding nameAllowed laid tablesOf
-    new-passes z h =
-        let absent : 0 ≡ since 0 (lastThat (hasTextAt (w .values) x) (length (w .values))) =
-        sym z ∙ row-is
-        ∙ ap (λ m. since 0 (lastThat (hasTextAt (w .values) x) m)) (sym (count-is t p)) in
+    -- An empty value joins no table.
+    empty-passes : row ≡ 0 → n ≡ 0
+        → Passes (λ w y. withValue w owner y) (valueRole owner w) w store x false
+    unfolding newUri newName newValue newEntry laid nameAllowed
+    empty-passes z e =
+        let i : isEmpty x ≡ true = empty-is x (omega (arith, d .size)) in
         record {
           strict = absent-strict z;
           allowed = refl;
-          within = within-is ∙ lt-ltb values maxValues h;
-          stays = λ j. absurd (true≢false j);
-          joined = λ _. value-joins w (t .valid .refers) store x owner
-              (full-is x (omega (arith, d .size)));
-          valid = λ _.
-              value-grows (t .valid) owner _ (p .row)
-              (λ i l y. found-none (w .values) 0 x absent i (omega arith) l y);
+          within = within-none (tablesOf w store) x (t .within) store-fits
+              (valueRole owner w) refl refl (rw i);
+          stays = λ _. nothing-joins w store x (valueRole owner w) refl refl (rw i);
+          joined = λ j. absurd (true≢false (sym j));
+          valid = λ j. absurd (true≢false (sym j));
         }
+
+    module _ (some : n ≡ 0 → ⊥) where
+      within-is : withinTables sizes (added (tablesOf w store) (valueRole owner w) x)
+          ≡ ltb values maxValues
+      within-is =
+          within-value (tablesOf w store) x (t .within) store-fits (nameAt w owner)
+          (full-is x (omega (arith, d .size)))
+          ∙ ap (λ m. ltb m maxValues) (values-count w store ∙ count-is t p)
+
+      new-passes : row ≡ 0 → values < maxValues
+          → Passes (λ w y. withValue w owner y) (valueRole owner w) w store x true
+      unfolding nameAllowed laid tablesOf
+      new-passes z h =
+          let absent : 0 ≡ since 0 (lastThat (hasTextAt (w .values) x) (length (w .values))) =
+          sym z ∙ row-is
+          ∙ ap (λ m. since 0 (lastThat (hasTextAt (w .values) x) m)) (sym (count-is t p)) in
+          record {
+            strict = absent-strict z;
+            allowed = refl;
+            within = within-is ∙ lt-ltb values maxValues h;
+            stays = λ j. absurd (true≢false j);
+            joined = λ _. value-joins w (t .valid .refers) store x owner
+                (full-is x (omega (arith, d .size)));
+            valid = λ _.
+                value-grows (t .valid) owner _ (p .row)
+                (λ i l y. found-none (w .values) 0 x absent i (omega arith) l y);
+          }
 
 -- ---- by what `read_literal` and `seek` answer
 
@@ -180,24 +179,25 @@ module _ {stream : List ℕ} {at : ℕ} {text : List ℕ} {stored : ℕ} {work :
       let h : stored + length (b .x) ≤ length text = omega (arith, r .ends z, fit .literal .room) in
       omega (arith, ap length (b .text-is), laid-size text stored (b .x) h)
 
-  module _ {q : Sought} (s : SoughtPost work text′
-      (part text′ (record { place = stored; size = n })) values q) where
-    pub new-loose : (q .row ≡ 0 → ⊥) → {text″ : List ℕ}
+  module _ {row : ℕ} (s : FoundText work text′
+      (part text′ (record { place = stored; size = n })) (l .hash) values 0 row) where
+    pub new-loose : (row ≡ 0 → ⊥) → {text″ : List ℕ}
         → text″ ≡ laidAt text′ stored (replicate n 0) → {a : Alignment} {owner : ℕ}
         → ValuePost a (asNew n) stream at text stored work values owner text″
         (refusedAs (numberOf loose) (l .next) 0 stored)
     unfolding laid numberOf
     new-loose ne c {owner = owner} =
         literal-judged (valueRole owner) r z (fit .literal .room) (numberOf loose) (omega arith) c
-        (λ w store t p x e f. judge-loose _ _ _ (present-loose t p (text-laid x e f) s ne))
+        (λ w store t p x e f.
+        judge-loose _ _ _ (present-loose t p (text-laid x e f) (r .hashed .is z) s ne))
 
-    module _ (absent : q .row ≡ 0) where
+    module _ (absent : row ≡ 0) where
       pub new-empty : n ≡ 0 → {a : Alignment} {owner : ℕ}
           → ValuePost a (asNew n) stream at text stored work values owner text′
           (literalAs (l .next) stored n 0 false 0)
       new-empty e {owner = owner} =
           literal-passed (valueRole owner) r z (fit .literal .room) 0 false 0
-          (λ w store t p x b f. empty-passes t p (text-laid x b f) s absent e)
+          (λ w store t p x b f. empty-passes t p (text-laid x b f) (r .hashed .is z) s absent e)
 
       module _ (some : n ≡ 0 → ⊥) where
         pub new-full : maxValues ≤ values → {text″ : List ℕ}
@@ -211,12 +211,13 @@ module _ {stream : List ℕ} {at : ℕ} {text : List ℕ} {stored : ℕ} {work :
             (λ w store t p x e f.
             let d = text-laid x e f in
             judge-limit (tablesOf w store) (valueRole owner w) (literal, laid (tablesOf w store) x)
-            (absent-strict t p d s absent) refl
-            (within-is t p d s some ∙ le-ltb values maxValues h))
+            (absent-strict t p d (r .hashed .is z) s absent) refl
+            (within-is t p d (r .hashed .is z) s some ∙ le-ltb values maxValues h))
 
         pub new-joins : values < maxValues → {a : Alignment} {owner : ℕ}
             → ValuePost a (asNew n) stream at text stored work values owner text′
-            (literalAs (l .next) stored n values true (q .hash))
+            (literalAs (l .next) stored n values true (l .hash))
         new-joins h {owner = owner} =
-            literal-passed (valueRole owner) r z (fit .literal .room) values true (q .hash)
-            (λ w store t p x e f. new-passes t p (text-laid x e f) s some absent h)
+            literal-passed (valueRole owner) r z (fit .literal .room) values true (l .hash)
+            (λ w store t p x e f.
+            new-passes t p (text-laid x e f) (r .hashed .is z) s some absent h)

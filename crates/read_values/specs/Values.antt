@@ -6,18 +6,16 @@ use mathlib.Core.List.{List}
 use mathlib.Core.Option.{none}
 use lib.ListN.{length}
 use Rattle.spec_fields.specs.Field.{Alignment}
-use Rattle.text.specs.Text.{Text}
+use Rattle.text.specs.Text.{Text, part}
 use Rattle.spec_exi.specs.Sizes.{maxStream, maxStore, maxValues}
 use Rattle.spec_exi.specs.Tables.{Role, value, valuesOf, allValues}
 use Rattle.mem_layout.specs.Layout.{nameRows, workCells}
 use Rattle.mem_entries.specs.Texts.{hashOf}
-use Rattle.mem_values.specs.Hold.{FoundText}
 use Rattle.mem_values.specs.Forms.{ValuesStand}
 use Rattle.mem_rows.specs.Rows.{Rows, nameAt, tablesOf, withValue}
 use Rattle.read_literal.specs.Literal.{LiteralFit}
 use Rattle.read_partition.specs.declared.StringRead.{StringRead}
 use Rattle.read_partition.specs.Strings.{Hashed, Reading, asString, asHit, asLiteral, StringPost}
-use Rattle.read_values.specs.declared.Sought.{Sought}
 
 -- ---- bounds
 
@@ -43,7 +41,10 @@ pub record ValuePre (stream : List ℕ) (at : ℕ) (text : List ℕ) (stored : �
   pub few : values ≤ maxValues
   pub low : owner < nameRows
 
-pub record SoughtPre (stored : ℕ) (work : List ℕ) (values : ℕ) : Type 0 where
+-- With the hash of the text after the store.
+pub record SoughtPre (text : List ℕ) (stored n hash : ℕ) (work : List ℕ) (values : ℕ)
+    : Type 0 where
+  pub is : hash ≡ hashOf (part text (record { place = stored; size = n }))
   pub store : stored ≤ maxStore
   pub room : workCells ≤ length work
   pub few : values ≤ maxValues
@@ -80,8 +81,3 @@ ValuePost a read stream at text stored work values owner text′ r =
 pub record JoinsWithin (values : ℕ) (text : List ℕ) (r : StringRead) : Type 0 where
   pub left : r .joins ≡ true → values < maxValues
   pub hashed : Hashed text r
-
--- The hash of a text, and where it is found among all values.
-pub record SoughtPost (work text x : List ℕ) (values : ℕ) (r : Sought) : Type 0 where
-  pub hash : r .hash ≡ hashOf x
-  pub found : FoundText work text x (r .hash) values 0 (r .row)

@@ -8,12 +8,12 @@ ghost use Prim.Native.Nat.{ℕ};
 ghost use Rattle.spec_fields.specs.Field.{Alignment};
 ghost use Rattle.text.specs.Text.{part};
 ghost use Rattle.spec_exi.specs.Tables.{Role, target, plain};
+ghost use Rattle.mem_values.specs.Hold.{FoundText};
 ghost use Rattle.read_field.specs.View.{alignmentOf};
 ghost use Rattle.read_literal.specs.Literal.{LiteralFit};
 ghost use Rattle.read_partition.specs.Strings.{asString, asLiteral};
 ghost use Rattle.read_values.specs.Values.{HitPre, NewPre, ValuePre, SoughtPre, asValue};
 ghost use Rattle.read_values.specs.Values.{asOwn, asAny, asNew, ValuePost, JoinsWithin};
-ghost use Rattle.read_values.specs.Values.{SoughtPost};
 ghost use Rattle.read_values.specs.Texts.{Textual, TextPost};
 use read_field::Field;
 use read_partition::StringRead;
@@ -87,23 +87,15 @@ fn any_value(
     }
 }
 
-// The number of a value and 1, or 0 for none; and the hash of its text.
-struct Sought {
-    row: u32,
-    hash: u32,
-}
-
-// Seeks the text of n code points after the store among all values.
-fn seek(text: &[u32], stored: usize, n: u32, work: &[u32], values: u32) -> Sought
-    requires { ⌜ SoughtPre stored (now work) values ⌝ }
+// The number and 1 of the value whose text is the n code points after the store, or 0 for none.
+fn seek(text: &[u32], stored: usize, n: u32, hash: u32, work: &[u32], values: u32) -> u32
+    requires { ⌜ SoughtPre (now text) stored n hash (now work) values ⌝ }
     ensures { λ r. ⌜
-        SoughtPost (now (work .entry)) (now (text .entry))
-        (part (now (text .entry)) (record { place = stored; size = n })) values r ⌝ }
+        FoundText (now (work .entry)) (now (text .entry))
+        (part (now (text .entry)) (record { place = stored; size = n })) hash values 0 r ⌝ }
 {
     let x = text::look_up(text, stored as u32, n);
-    let hash = mem_entries::hash(x);
-    let row = mem_values::find(work, text, x, hash, values, 0);
-    Sought { row, hash }
+    mem_values::find(work, text, x, hash, values, 0)
 }
 
 // A value as a literal of n code points, of any name; an empty one joins no table.
@@ -126,8 +118,8 @@ fn new_value(
     if read.number != 0 {
         return read_partition::refused(read.number, read.next, read.left, stored);
     }
-    let sought = seek(text, stored, n, work, values);
-    if sought.row != 0 {
+    let row = seek(text, stored, n, read.hash, work, values);
+    if row != 0 {
         return read_partition::dropped(LOOSE, read.next, n, stored, text);
     }
     if n == 0 {
@@ -136,7 +128,7 @@ fn new_value(
     if MAX_VALUES <= values as usize {
         return read_partition::dropped(LIMIT, read.next, n, stored, text);
     }
-    read_partition::laid(read.next, stored, n, values, true, sought.hash)
+    read_partition::laid(read.next, stored, n, values, true, read.hash)
 }
 
 // A value of the element or attribute whose name has this row.

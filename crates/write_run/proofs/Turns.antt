@@ -1,10 +1,12 @@
 -- A turn of the loop: one event more, or its refusal.
 use Prim.Native.Nat.{ℕ, suc, _+_, _*_, _-_, _≤_, _<_}
 use native.Mathlib.Omega.{arith}
+use native.Mathlib.Decide.{ℕ-discrete}
 use mathlib.Core.Path.{_≡_, refl, sym, ap, ap₂, subst, _∙_}
 use mathlib.Core.List.{List, [], _∷_, _++_, append-nil}
 use mathlib.Core.Option.{none, some}
-use lib.ListN.{length, take, drop, getD, set}
+use lib.ListN.{length, take, drop, getD, set, length-drop, take-append-drop}
+use lib.Seq.{length-take-le, take-add, drop-drop}
 use lib.Dec.{ltb}
 use mir.Syntax.{w8}
 use mir.Val.{Fits}
@@ -20,7 +22,8 @@ use Rattle.spec_exi.specs.Context.{Context, next}
 use Rattle.spec_exi.specs.Strict.{eventBits}
 use Rattle.spec_exi.specs.Writer.{Stored, faultOf, writeEvents}
 use Rattle.spec_exi.specs.Alike.{Alike}
-use Rattle.spec_exi.proofs.Alike.{write-alike}
+use Rattle.spec_exi.proofs.Alike.{alike-same, alike-then, event-bits-alike, next-alike}
+use Rattle.spec_exi.proofs.Alike.{fault-alike, write-alike}
 use Rattle.event.specs.Cells.{loadedFrom, eventsOf}
 use Rattle.event.proofs.Laws.{events-at, events-cut, events-end}
 use Rattle.mem_layout.specs.Layout.{nameRows}
@@ -37,70 +40,130 @@ use Rattle.write_field.proofs.Written.{put-then, put-blank, put-nothing}
 use Rattle.write_partition.proofs.Tests.{fault-none}
 use Rattle.write_qname.specs.Premise.{contextIn}
 use Rattle.write_step.specs.declared.Stepped.{Stepped}
-use Rattle.write_step.specs.Step.{maxEventBits, maxListBits, StepPre, StepPut, Stands}
+use Rattle.write_step.specs.Step.{maxListBits, StepPre, StepPut, Stands}
 use Rattle.write_step.specs.Step.{StepLeaves, StepMeans, StepPost}
-use Rattle.write_run.specs.Run.{stoppedAs, RunPre, Joins, none-joined, one-joined, RunPost}
-use Rattle.write_run.proofs.Events.{shifted, shifted-none, shifted-refused, shifted-accepted}
-use Rattle.write_run.proofs.Events.{shifted-prepended, Stops, answer-ended, stops-early}
-use Rattle.write_run.proofs.Events.{stops-full, stops-shape, stops-fault, answer-more}
+use Rattle.write_run.specs.declared.Run.{Run}
+use Rattle.write_run.specs.Events.{Steps, none-written}
+use Rattle.write_run.specs.Run.{stoppedAs, RunPre, Joins, none-joined, one-joined, Running}
+use Rattle.write_run.specs.Run.{Progress, RunPost}
+use Rattle.write_run.proofs.Events.{shifted, shifted-refused, shifted-accepted, Stops}
+use Rattle.write_run.proofs.Events.{answer-ended, stops-early, stops-full, stops-shape}
+use Rattle.write_run.proofs.Events.{stops-fault, one-more, steps-answer}
 
 -- ---- what the loop keeps
 
--- The definitions' answer for what is left.
+-- The definitions' answer for events from a state on.
 abbrev answerAt : Settings → Text → State → Rows → ℕ → List Stored → Answer Bits
 answerAt s text t w n xs = writeEvents n sizes s (contextIn (t .core) w (openedIn t)) text xs
 
--- Memory represents the context that the events before this cell leave.
-pub record Running (s : Settings) (opening cells : List ℕ) (text : Text) (st : State) (w : Rows)
-    (bits : Bits) (work : List ℕ) (t : State) (n cell : ℕ) : Type 0 where
-  pub rows : Rows
-  pub after : Stands opening text work (t .core) rows (openedIn t)
-  pub topped : Topped (t .core) (openedIn t)
-  pub answer : answerAt s text st w maxEvents (eventsOf cells)
-      ≡ shifted n bits (answerAt s text t rows (maxEvents - n) (eventsOf (drop cell cells)))
-
--- n events, those before this cell, are written, and t is the state after them.
-pub record Progress (s : Settings) (opening cells : List ℕ) (text : Text) (stream₀ work₀ : List ℕ)
+-- The events before this cell are written; those that are left begin with it.
+pub record Reached (s : Settings) (opening cells : List ℕ) (text : Text) (stream₀ work₀ : List ℕ)
     (st : State) (stream work : List ℕ) (t : State) (n cell : ℕ) : Type 0 where
-  pub bits : Bits
-  pub put : Put stream₀ (st .core .at) bits stream (t .core .at)
-  pub near : t .core .at ≤ 64 + maxEventBits * n
-  pub bounded : Bounded (t .core)
-  pub array : length (t .opened) ≡ maxOpen
-  pub few : n ≤ maxEvents
+  pub so-far : Progress s opening (eventsOf cells) text stream₀ work₀ st stream work t n
   pub place : cell ≡ 9 * n
-  pub work-size : length work ≡ length work₀
-  pub joins : Joins (st .core) work₀ (t .core) work
-  pub meant : (w : Rows) → Stands opening text work₀ (st .core) w (openedIn st)
-      → Topped (st .core) (openedIn st) → Running s opening cells text st w bits work t n cell
+  pub left : drop n (eventsOf cells) ≡ eventsOf (drop cell cells)
 
-pub progress-start : {s : Settings} {opening cells : List ℕ} {text : Text} {stream work : List ℕ}
+pub reached-start : {s : Settings} {opening cells : List ℕ} {text : Text} {stream work : List ℕ}
     {st : State} → ((i : ℕ) → Fits w8 (getD stream i 0)) → RunPre stream work st
-    → Progress s opening cells text stream work st stream work st 0 0
+    → Reached s opening cells text stream work st stream work st 0 0
 unfolding maxString
-progress-start {s} {cells = cells} {text} {st = st} known h =
-    let e : maxEvents - 0 ≡ maxEvents = omega arith in
+reached-start {st = st} known h =
     record {
-      bits = [];
-      put = put-nothing known (h .blank);
-      near = omega (arith, h .near);
-      bounded = h .bounded;
-      array = h .array;
-      few = omega arith;
-      place = omega arith;
-      work-size = refl;
-      joins = none-joined;
-      meant = λ w a b.
+      so-far =
           record {
-            rows = w;
-            after = a;
-            topped = b;
-            answer = sym (
-                ap (λ m. shifted 0 [] (answerAt s text st w m (eventsOf cells))) e
-                ∙ shifted-none (answerAt s text st w maxEvents (eventsOf cells))
-                );
+            bits = [];
+            put = put-nothing known (h .blank);
+            near = omega (arith, h .near);
+            bounded = h .bounded;
+            array = h .array;
+            few = omega arith;
+            listed = omega arith;
+            work-size = refl;
+            joins = none-joined;
+            meant = λ w a b.
+                record {
+                  reached = contextIn (st .core) w (openedIn st);
+                  written = none-written;
+                  rows = w;
+                  after = a;
+                  topped = b;
+                  context = alike-same (contextIn (st .core) w (openedIn st));
+                };
           };
+      place = omega arith;
+      left = refl;
     }
+
+-- ---- what was written, and what is left of the answer
+
+module _ {s : Settings} {opening : List ℕ} {xs : List Stored} {text : Text}
+    {stream₀ work₀ : List ℕ} {st : State} {stream work : List ℕ} {t : State} {n : ℕ}
+    (p : Progress s opening xs text stream₀ work₀ st stream work t n) where
+  pub progress-near : t .core .at ≤ maxListBits
+  unfolding maxEvents maxString
+  progress-near = omega (arith, p .near, p .few)
+
+  taken-size : length (take n xs) ≡ n
+  taken-size = length-take-le n xs (p .listed)
+
+  -- Memory stood for these rows.
+  module _ (w : Rows) (a : Stands opening text work₀ (st .core) w (openedIn st))
+      (b : Topped (st .core) (openedIn st)) where
+    abbrev run : Running s opening xs text st w (p .bits) work t n
+    run = p .meant w a b
+
+    answer-left : answerAt s text st w maxEvents xs
+        ≡ shifted n (p .bits) (answerAt s text t (run .rows) (maxEvents - n) (drop n xs))
+    answer-left =
+        let sum : maxEvents ≡ length (take n xs) + (maxEvents - n) =
+        omega (arith, taken-size, p .few) in
+        ap (answerAt s text st w maxEvents) (sym (take-append-drop n xs))
+        ∙ steps-answer maxEvents (maxEvents - n) sum (drop n xs) (run .written)
+        ∙ ap₂ (λ k x. shifted k (p .bits) x) taken-size
+        (write-alike (maxEvents - n) sizes s (run .context) text (drop n xs))
+
+  -- No octet and no cell was written since.
+  unwritten : {stream′ work′ : List ℕ} → stream′ ≡ stream → work′ ≡ work
+      → Progress s opening xs text stream₀ work₀ st stream′ work′ t n
+  unwritten {stream′} same-octets same-cells =
+      subst (λ (m : List ℕ). Progress s opening xs text stream₀ work₀ st stream′ m t n)
+      (sym same-cells)
+      (subst (λ (m : List ℕ). Progress s opening xs text stream₀ work₀ st m work t n)
+      (sym same-octets) p)
+
+  -- What is left is refused at its first event, whatever rows memory holds.
+  stop : (number : ℕ) → (number ≡ 0 → ⊥)
+      → ((v : Rows) → Stands opening text work (t .core) v (openedIn t)
+      → Topped (t .core) (openedIn t)
+      → Stops (maxEvents - n) s (contextIn (t .core) v (openedIn t)) text (drop n xs) number)
+      → RunPost s opening xs text stream₀ work₀ st stream work (stoppedAs number n (t .core .at))
+  stop number some-number stops =
+      record {
+        state = t;
+        count = n;
+        progress = p;
+        at = refl;
+        over = λ z. absurd (some-number z);
+        refused = λ _. refl;
+        meant = λ w a b.
+            let g = run w a b in
+            let x = stops (g .rows) (g .after) (g .topped) in
+            let whole : answerAt s text st w maxEvents xs ≡ refused (x .refusal) n =
+            answer-left w a b ∙ ap (shifted n (p .bits)) (x .answer)
+            ∙ shifted-refused n (p .bits) (x .refusal) in
+            record {
+              refused-as = λ k j e. (cc (x .is), cc);
+              accepted-as = λ bs e. let z : _≡_ {A = ℕ} 0 1 = cc in absurd (omega arith);
+            };
+      }
+
+pub index-few : {s : Settings} {opening : List ℕ} {xs : List Stored} {text : Text}
+    {stream work : List ℕ} {st : State} {stream′ work′ : List ℕ} {r : Run}
+    → RunPost s opening xs text stream work st stream′ work′ r → r .index ≤ maxEvents
+index-few {r = r} p = elim (ℕ-discrete (r .number) 0) [
+  | yes z ↦ omega (arith, p .over z .0)
+  | no z ↦ omega (arith, p .refused (omega (arith, z)), p .progress .few)
+]
 
 -- The event in this cell is e, and there may be one more.
 pub record Next (cells : List ℕ) (n cell : ℕ) (e : Event Span) : Type 0 where
@@ -110,74 +173,53 @@ pub record Next (cells : List ℕ) (n cell : ℕ) (e : Event Span) : Type 0 wher
 
 module _ {s : Settings} {opening cells : List ℕ} {text : Text} {stream₀ work₀ : List ℕ}
     {st : State} {stream work : List ℕ} {t : State} {n cell : ℕ}
-    (i : Progress s opening cells text stream₀ work₀ st stream work t n cell) where
-  near-end : t .core .at ≤ maxListBits
-  unfolding maxEvents maxString
-  near-end = omega (arith, i .near, i .few)
-
-  -- What is left is refused at its first event, whatever rows memory holds.
-  stop : {stream′ work′ : List ℕ} (number : ℕ) → stream′ ≡ stream → work′ ≡ work
-      → ((v : Rows) → Stands opening text work (t .core) v (openedIn t)
-      → Topped (t .core) (openedIn t)
-      → Stops (maxEvents - n) s (contextIn (t .core) v (openedIn t)) text
-      (eventsOf (drop cell cells)) number)
-      → RunPost s opening (eventsOf cells) text stream₀ work₀ st stream′ work′
-      (stoppedAs number n (t .core .at))
-  stop number same-octets same-cells stops =
-      record {
-        bits = i .bits;
-        put = record { octets = same-octets ∙ i .put .octets; next = i .put .next };
-        near = near-end;
-        few = i .few;
-        work-size = ap length same-cells ∙ i .work-size;
-        core = t .core;
-        joins = subst (Joins (st .core) work₀ (t .core)) (sym same-cells) (i .joins);
-        meant = λ w a b.
-            let g = i .meant w a b in
-            let x = stops (g .rows) (g .after) (g .topped) in
-            let whole : answerAt s text st w maxEvents (eventsOf cells) ≡ refused (x .refusal) n =
-            g .answer ∙ ap (shifted n (i .bits)) (x .answer)
-            ∙ shifted-refused n (i .bits) (x .refusal) in
-            record {
-              refused-as = λ k j e. (cc (x .is), cc);
-              accepted-as = λ bs e. let z : _≡_ {A = ℕ} 0 1 = cc in absurd (omega arith);
-            };
-      }
-
+    (i : Reached s opening cells text stream₀ work₀ st stream work t n cell) where
   -- ---- the list's end
 
   module _ (end : length cells ≤ cell) where
+    none-left : drop n (eventsOf cells) ≡ []
+    none-left = i .left ∙ events-end cells cell end
+
     pub ended-early : (t .core .mode ≡ isOver → ⊥)
         → RunPost s opening (eventsOf cells) text stream₀ work₀ st stream work
         (stoppedAs 14 n (t .core .at))
     ended-early other =
-        stop 14 refl refl
-        (λ v a b. rw (events-end cells cell end) (stops-early (maxEvents - n) s
+        stop (i .so-far) 14 (λ z. absurd (omega arith))
+        (λ v a b. rw none-left (stops-early (maxEvents - n) s
         (contextIn (t .core) v (openedIn t)) text
-        (context-going (i .bounded) (a .represents) _ other)))
+        (context-going (i .so-far .bounded) (a .represents) _ other)))
+
+    all-written : n ≡ length (eventsOf cells)
+    all-written =
+        omega (
+          arith,
+          i .so-far .listed,
+          ap length none-left,
+          length-drop n (eventsOf cells),
+        )
 
     pub ended : t .core .mode ≡ isOver
         → RunPost s opening (eventsOf cells) text stream₀ work₀ st stream work
         (stoppedAs 0 0 (t .core .at))
     ended last =
+        let p = i .so-far in
         record {
-          bits = i .bits;
-          put = i .put;
-          near = near-end;
-          few = omega arith;
-          work-size = i .work-size;
-          core = t .core;
-          joins = i .joins;
+          state = t;
+          count = n;
+          progress = p;
+          at = refl;
+          over = λ _. (refl, all-written);
+          refused = λ l. absurd (omega arith);
           meant = λ w a b.
-              let g = i .meant w a b in
-              let all : answerAt s text t (g .rows) (maxEvents - n) (eventsOf (drop cell cells))
+              let g = p .meant w a b in
+              let all : answerAt s text t (g .rows) (maxEvents - n) (drop n (eventsOf cells))
               ≡ accepted [] =
-              rw (events-end cells cell end) (answer-ended (maxEvents - n) s
+              rw none-left (answer-ended (maxEvents - n) s
               (contextIn (t .core) (g .rows) (openedIn t)) text
-              (context-over (i .bounded) (g .after .represents) _ last)) in
-              let whole : answerAt s text st w maxEvents (eventsOf cells) ≡ accepted (i .bits) =
-              g .answer ∙ ap (shifted n (i .bits)) all ∙ shifted-accepted n (i .bits) []
-              ∙ ap accepted (append-nil (i .bits)) in
+              (context-over (p .bounded) (g .after .represents) _ last)) in
+              let whole : answerAt s text st w maxEvents (eventsOf cells) ≡ accepted (p .bits) =
+              answer-left p w a b ∙ ap (shifted n (p .bits)) all
+              ∙ shifted-accepted n (p .bits) [] ∙ ap accepted (append-nil (p .bits)) in
               record {
                 refused-as = λ k j e. let z : _≡_ {A = ℕ} 0 1 = cc in absurd (omega arith);
                 accepted-as = λ bs e. (refl, refl, cc);
@@ -187,11 +229,12 @@ module _ {s : Settings} {opening cells : List ℕ} {text : Text} {stream₀ work
   -- ---- the next is no event, or one too many
 
   module _ (inside : cell < length cells) where
-    some-left : (x : Stored) × (xs : List Stored) × (eventsOf (drop cell cells) ≡ x ∷ xs)
+    some-left : (x : Stored) × (xs : List Stored) × (drop n (eventsOf cells) ≡ x ∷ xs)
     some-left =
         split (ltb (length cells) (cell + 9))
-        (λ l. (none, [], events-cut cells cell inside (ltb-true (length cells) (cell + 9) l)))
-        (λ l. (_, _, events-at cells cell (ltb-false (length cells) (cell + 9) l)))
+        (λ l. (none, [],
+        i .left ∙ events-cut cells cell inside (ltb-true (length cells) (cell + 9) l)))
+        (λ l. (_, _, i .left ∙ events-at cells cell (ltb-false (length cells) (cell + 9) l)))
 
     pub too-many : n ≡ 4096
         → RunPost s opening (eventsOf cells) text stream₀ work₀ st stream work
@@ -200,20 +243,20 @@ module _ {s : Settings} {opening cells : List ℕ} {text : Text} {stream₀ work
     too-many full =
         let (x, xs, e) = some-left in
         let z : maxEvents - n ≡ 0 = omega arith in
-        stop 12 refl refl
+        stop (i .so-far) 12 (λ y. absurd (omega arith))
         (λ v a b. rw (e, z) (stops-full 0 s (contextIn (t .core) v (openedIn t)) text x xs))
 
   module _ (more : n ≡ 4096 → ⊥) where
     one-less : maxEvents - n ≡ suc (maxEvents - (n + 1))
     unfolding maxEvents
-    one-less = omega (arith, i .few, more)
+    one-less = omega (arith, i .so-far .few, more)
 
     shape-here : {xs : List Stored} → eventsOf (drop cell cells) ≡ none ∷ xs
         → RunPost s opening (eventsOf cells) text stream₀ work₀ st stream work
         (stoppedAs 14 n (t .core .at))
     shape-here {xs} e =
-        stop 14 refl refl
-        (λ v a b. rw (e, one-less) (stops-shape (maxEvents - (n + 1)) s
+        stop (i .so-far) 14 (λ z. absurd (omega arith))
+        (λ v a b. rw (i .left, e, one-less) (stops-shape (maxEvents - (n + 1)) s
         (contextIn (t .core) v (openedIn t)) text xs))
 
     pub cut-short : cell < length cells → length cells - cell < 9
@@ -233,10 +276,10 @@ module _ {s : Settings} {opening cells : List ℕ} {text : Text} {stream₀ work
   pub turn-asks : RunPre stream₀ work₀ st → StepPre stream work (t .core)
   turn-asks pre =
       record {
-        blank = put-blank (i .put);
-        near = near-end;
-        rows = omega (arith, pre .rows, i .work-size);
-        bounded = i .bounded;
+        blank = put-blank (i .so-far .put);
+        near = progress-near (i .so-far);
+        rows = omega (arith, pre .rows, i .so-far .work-size);
+        bounded = i .so-far .bounded;
       }
 
   module _ {e : Event Span} {stream′ work′ : List ℕ} {r : Stepped}
@@ -247,27 +290,32 @@ module _ {s : Settings} {opening cells : List ℕ} {text : Text} {stream₀ work
 
     pub turn-stored : t .core .depth < r .core .depth
         → KeptAfter (set (t .opened) (t .core .depth) (r .core .top))
-    turn-stored = stored-row t (r .core) (i .array) (p .bounded .depth)
+    turn-stored = stored-row t (r .core) (i .so-far .array) (p .bounded .depth)
 
     pub turn-same : r .core .depth ≤ t .core .depth → KeptAfter (t .opened)
-    turn-same = same-rows t (r .core) (i .array)
+    turn-same = same-rows t (r .core) (i .so-far .array)
 
     module _ (h : Next cells n cell e) where
       abbrev later-events : List Stored
       later-events = eventsOf (drop (cell + 9) cells)
 
-      first-is : eventsOf (drop cell cells) ≡ some e ∷ later-events
-      first-is = events-at cells cell (omega (arith, h .whole)) ∙ ap (λ x. x ∷ later-events) (h .loaded)
+      first-is : drop n (eventsOf cells) ≡ some e ∷ later-events
+      first-is =
+          i .left ∙ events-at cells cell (omega (arith, h .whole))
+          ∙ ap (λ x. x ∷ later-events) (h .loaded)
 
       pub turn-refused : (r .number ≡ 0 → ⊥)
           → RunPost s opening (eventsOf cells) text stream₀ work₀ st stream′ work′
           (stoppedAs (r .number) n (t .core .at))
       turn-refused some-number =
           let x = p .refused (omega (arith, some-number)) in
-          stop (r .number) (x .stream-is) (x .work-is)
+          stop (unwritten (i .so-far) (x .stream-is) (x .work-is)) (r .number) some-number
           (λ v a b. rw (first-is, one-less (h .more))
           (stops-fault (maxEvents - (n + 1)) s (contextIn (t .core) v (openedIn t)) text e
-          later-events (p .meant v (openedIn t) a b .fault) some-number))
+          later-events
+          (p .meant v (openedIn t)
+          (subst (λ (m : List ℕ). Stands opening text m (t .core) v (openedIn t)) (x .work-is) a)
+          b .fault) some-number))
 
       -- ---- one event more
 
@@ -281,8 +329,8 @@ module _ {s : Settings} {opening cells : List ℕ} {text : Text} {stream₀ work
 
         module _ (w : Rows) (a : Stands opening text work₀ (st .core) w (openedIn st))
             (b : Topped (st .core) (openedIn st)) where
-          abbrev before : Running s opening cells text st w (i .bits) work t n cell
-          before = i .meant w a b
+          abbrev before : Running s opening (eventsOf cells) text st w (i .so-far .bits) work t n
+          before = i .so-far .meant w a b
 
           abbrev context : Context
           context = contextIn (t .core) (before .rows) (openedIn t)
@@ -298,8 +346,15 @@ module _ {s : Settings} {opening cells : List ℕ} {text : Text} {stream₀ work
               (written .bits) work′ (r .core)
           leaves = means .leaves z
 
-          fine : faultOf sizes s context text e ≡ none
-          fine = fault-none (faultOf sizes s context text e) (sym (means .fault) ∙ z)
+          -- By the definitions' context: it has the event's fault and bits, for they are the same
+          -- wherever strings lie.
+          fine : faultOf sizes s (before .reached) text e ≡ none
+          fine =
+              fault-alike (before .context) s sizes text e
+              ∙ fault-none (faultOf sizes s context text e) (sym (means .fault) ∙ z)
+
+          bits-are : eventBits s (before .reached) event ≡ written .bits
+          bits-are = event-bits-alike (before .context) s event ∙ sym (leaves .bits-are)
 
           opened-is : openedIn later ≡ leaves .opened′
           opened-is = kept .is (leaves .opened′) (leaves .turned)
@@ -324,28 +379,35 @@ module _ {s : Settings} {opening cells : List ℕ} {text : Text} {stream₀ work
               )
 
           -- The definitions' next context and that of the rows differ at most in places.
-          context-after : Alike (next s context event)
+          context-after : Alike (next s (before .reached) event)
               (contextIn (r .core) (leaves .rows) (openedIn later))
           context-after =
-              subst (λ o. Alike (next s context event) (contextIn (r .core) (leaves .rows) o))
-              (sym opened-is) (leaves .context)
+              alike-then (next-alike (before .context) s event)
+              (subst (λ o. Alike (next s context event) (contextIn (r .core) (leaves .rows) o))
+              (sym opened-is) (leaves .context))
 
-          answer-after : answerAt s text st w maxEvents (eventsOf cells)
-              ≡ shifted (n + 1) (i .bits ++ written .bits)
-              (answerAt s text later (leaves .rows) (maxEvents - (n + 1)) later-events)
-          answer-after =
-              before .answer
-              ∙ ap (shifted n (i .bits))
-              (ap₂ (λ m xs. writeEvents m sizes s context text xs) (one-less (h .more)) first-is
-              ∙ answer-more (maxEvents - (n + 1)) s context text e later-events fine)
-              ∙ shifted-prepended n (i .bits) (eventBits s context event) _
-              ∙ ap₂ (λ u x. shifted (n + 1) (i .bits ++ u) x) (sym (leaves .bits-are))
-              (write-alike (maxEvents - (n + 1)) sizes s context-after text later-events)
+          taken-is : take (n + 1) (eventsOf cells) ≡ take n (eventsOf cells) ++ (some e ∷ [])
+          taken-is =
+              take-add n 1 (eventsOf cells)
+              ∙ ap (λ (l : List Stored). take n (eventsOf cells) ++ take 1 l) first-is
 
-          running : Running s opening cells text st w (i .bits ++ written .bits) work′ later
-              (n + 1) (cell + 9)
+          written-after : Steps s text (contextIn (st .core) w (openedIn st))
+              (take (n + 1) (eventsOf cells)) (i .so-far .bits ++ written .bits)
+              (next s (before .reached) event)
+          written-after =
+              subst (λ (l : List Stored). Steps s text (contextIn (st .core) w (openedIn st)) l
+              (i .so-far .bits ++ written .bits) (next s (before .reached) event)) (sym taken-is)
+              (subst (λ (u : Bits). Steps s text (contextIn (st .core) w (openedIn st))
+              (take n (eventsOf cells) ++ (some e ∷ [])) (i .so-far .bits ++ u)
+              (next s (before .reached) event)) bits-are
+              (one-more e (before .written) fine))
+
+          running : Running s opening (eventsOf cells) text st w (i .so-far .bits ++ written .bits)
+              work′ later (n + 1)
           running =
               record {
+                reached = next s (before .reached) event;
+                written = written-after;
                 rows = leaves .rows;
                 after =
                     record {
@@ -358,7 +420,7 @@ module _ {s : Settings} {opening cells : List ℕ} {text : Text} {stream₀ work
                       is = λ d. last-top (r .core .depth) rows d
                           ∙ sym (inner ∙ innermost-is rows (r .core .depth) d (row-low d));
                     };
-                answer = answer-after;
+                context = context-after;
               }
 
         -- The event's rows are all that joined.
@@ -368,22 +430,32 @@ module _ {s : Settings} {opening cells : List ℕ} {text : Text} {stream₀ work
             (sym (written .core-is))
             (subst (Joins (st .core) work₀ _) (sym (written .work-is))
             (one-joined (written .strings) (written .growth) (r .core .at) (r .core .stored) top
-            (i .joins)))
+            (i .so-far .joins) (i .so-far .bounded) (written .rows)))
 
-        pub turn-more : Progress s opening cells text stream₀ work₀ st stream′ work′ later (n + 1)
+        left-after : drop (n + 1) (eventsOf cells) ≡ later-events
+        left-after =
+            sym (drop-drop 1 n (eventsOf cells)) ∙ ap (λ (l : List Stored). drop 1 l) first-is
+
+        pub turn-more : Reached s opening cells text stream₀ work₀ st stream′ work′ later (n + 1)
             (cell + 9)
         unfolding maxString
         turn-more =
             record {
-              bits = i .bits ++ written .bits;
-              put = put-then (i .put) (written .put);
-              near = omega (arith, i .near, written .near);
-              bounded = bounded-top top
-                  (omega (arith, inner, innermost-small rows (r .core .depth))) (p .bounded);
-              array = kept .size;
-              few = omega (arith, one-less (h .more), i .few);
+              so-far =
+                  record {
+                    bits = i .so-far .bits ++ written .bits;
+                    put = put-then (i .so-far .put) (written .put);
+                    near = omega (arith, i .so-far .near, written .near);
+                    bounded = bounded-top top
+                        (omega (arith, inner, innermost-small rows (r .core .depth))) (p .bounded);
+                    array = kept .size;
+                    few = omega (arith, one-less (h .more), i .so-far .few);
+                    listed =
+                        omega (arith, ap length first-is, length-drop n (eventsOf cells));
+                    work-size = written .work-size ∙ i .so-far .work-size;
+                    joins = joins-after;
+                    meant = running;
+                  };
               place = omega (arith, i .place);
-              work-size = written .work-size ∙ i .work-size;
-              joins = joins-after;
-              meant = running;
+              left = left-after;
             }

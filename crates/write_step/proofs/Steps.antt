@@ -240,6 +240,7 @@ module _ {stream work : List ℕ} {c : Core} (pre : StepPre stream work c) where
               near = omega (arith, p .next, bits-few put-asks);
               strings = r .content .strings;
               growth = r .growth;
+              rows = post .rows zero;
               work-is = refl;
               work-size = grown-size c (r .growth) (joinedStrings c (r .content .strings) work)
                   ∙ strings-size c (r .content .strings) work;

@@ -10,7 +10,7 @@ use Rattle.spec_fields.specs.Bits.{Bits}
 use Rattle.spec_fields.specs.Refusal.{numberOf, limit}
 use Rattle.text.specs.Text.{part}
 use Rattle.spec_exi.specs.Settings.{Settings}
-use Rattle.spec_exi.specs.Sizes.{sizes, maxStore}
+use Rattle.spec_exi.specs.Sizes.{sizes}
 use Rattle.spec_exi.specs.Event.{mapEvent, SE}
 use Rattle.spec_exi.specs.Grammar.{kindNumber}
 use Rattle.spec_exi.specs.Context.{next}
@@ -19,7 +19,7 @@ use Rattle.spec_exi.specs.Writer.{faultOf}
 use Rattle.spec_exi.specs.Alike.{Alike}
 use Rattle.event.specs.declared.Event as declared
 use Rattle.event.specs.Cells.{meaning}
-use Rattle.mem_layout.specs.Layout.{nameRows, sites, workCells}
+use Rattle.mem_layout.specs.Layout.{nameRows, workCells}
 use Rattle.mem_rows.specs.Rows.{Rows, modeAfter, openedAfter, leaves, contextOf}
 use Rattle.mem_rows.specs.Valid.{Valid}
 use Rattle.mem_state.specs.declared.Core.{Core}
@@ -29,7 +29,6 @@ use Rattle.mem_state.specs.Commit.{joinedStrings, grown}
 use Rattle.mem_state.specs.Strung.{StringsJoin}
 use Rattle.mem_state.specs.Grows.{learntOf, Grows}
 use Rattle.grammar_codes.specs.declared.Place.{Place}
-use Rattle.grammar_codes.specs.Table.{Stands}
 use Rattle.grammar_match.specs.Here.{CountedHere}
 use Rattle.grammar_match.specs.Found.{FoundHere, PartHere}
 use Rattle.grammar_update.specs.Growth.{growthOf, fitsIn}
@@ -104,14 +103,9 @@ pub record JudgePre (work : List ℕ) (c : Core) : Type 0 where
   pub rows : workCells ≤ length work
   pub bounded : Bounded c
 
--- On every memory: what an accepted event adds to it.
-pub record RowBounds (c : Core) (r : EventJudged) : Type 0 where
-  pub strings : ContentBounds c (r .content .strings)
-  pub stands : Stands (c .mode) (r .growth .kind)
-  pub fits : fitsIn c (r .growth) ≡ true
-  pub site : r .growth .site < sites
-  pub name : r .growth .name ≡ r .content .strings .«name_row»
-  pub store : r .content .stored ≤ maxStore
+-- What an accepted event adds to memory.
+abbrev pub JudgedRows : Core → EventJudged → Type 0
+JudgedRows c r = step.RowBounds c (r .content .strings) (r .growth) (r .content .stored)
 
 -- And what is written of it.
 pub record BitBounds (s : Settings) (text : List ℕ) (e : declared.Event) (c : Core)
@@ -156,7 +150,7 @@ pub record EventMeans (s : Settings) (opening text : List ℕ) (e : declared.Eve
 pub record JudgePost (s : Settings) (opening text : List ℕ) (e : declared.Event) (work : List ℕ)
     (c : Core) (r : EventJudged) : Type 0 where
   pub refused : 0 < r .number → r ≡ refusedAs (r .number) c
-  pub rows : r .number ≡ 0 → RowBounds c r
+  pub rows : r .number ≡ 0 → JudgedRows c r
   pub bits : r .number ≡ 0 → BitBounds s text e c r
   pub meant : (w : Rows) (opened : List ℕ) → step.Stands opening text work c w opened
       → Topped c opened → EventMeans s opening text e work c w opened r
@@ -174,7 +168,7 @@ pub record PutEventPre (s : Settings) (stream text : List ℕ) (e : declared.Eve
 pub record CommitPre (work : List ℕ) (c : Core) (r : EventJudged) : Type 0 where
   pub rows : workCells ≤ length work
   pub bounded : Bounded c
-  pub bounds : RowBounds c r
+  pub bounds : JudgedRows c r
 
 pub record CommitPost (work : List ℕ) (c : Core) (at : ℕ) (r : EventJudged) (work′ : List ℕ)
     (d : Core) : Type 0 where

@@ -1,30 +1,35 @@
 -- What writing one event asks and leaves.
 use Prim.Native.Nat.{ℕ, _+_, _*_, _≤_, _<_}
 use mathlib.Core.Path.{_≡_}
+use mathlib.Core.Bool.{true}
 use mathlib.Core.List.{List}
 use lib.ListN.{length}
 use lib.Dec.{T}
 use Rattle.spec_fields.specs.Bits.{Bits}
 use Rattle.text.specs.Text.{Text, Span, part}
 use Rattle.spec_exi.specs.Settings.{Settings}
-use Rattle.spec_exi.specs.Sizes.{sizes, maxEvents, maxString}
+use Rattle.spec_exi.specs.Sizes.{sizes, maxEvents, maxString, maxStore}
 use Rattle.spec_exi.specs.Event.{Event, mapEvent}
 use Rattle.spec_exi.specs.Context.{next}
 use Rattle.spec_exi.specs.Strict.{eventBits}
 use Rattle.spec_exi.specs.Writer.{faultOf}
 use Rattle.spec_exi.specs.Alike.{Alike}
-use Rattle.mem_layout.specs.Layout.{workCells}
+use Rattle.mem_layout.specs.Layout.{sites, workCells}
 use Rattle.mem_rows.specs.Rows.{Rows}
 use Rattle.mem_state.specs.declared.Core.{Core}
 use Rattle.mem_state.specs.declared.Strings.{Strings}
 use Rattle.mem_state.specs.declared.Growth.{Growth}
-use Rattle.mem_state.specs.Commit.{joinedStrings, grown, counted, turned}
+use Rattle.mem_state.specs.Commit.{joinedStrings, grown}
 use Rattle.mem_state.specs.Holds.{Bounded, Topped, Represents}
 use Rattle.open_elements.specs.Opened.{Turned}
+use Rattle.grammar_codes.specs.Table as table
+use Rattle.grammar_update.specs.Growth.{fitsIn}
+use Rattle.grammar_update.specs.After.{coreAfter}
 use Rattle.write_field.specs.Written.{blankFrom, Put}
 use Rattle.write_partition.specs.Writable.{Writable}
 use Rattle.write_partition.specs.Judged.{faultNumber}
 use Rattle.write_qname.specs.Premise.{listStores, contextIn, Begun}
+use Rattle.write_content.specs.Contents.{ContentBounds}
 use Rattle.write_step.specs.declared.Stepped.{Stepped}
 
 -- ---- how many bits there can be
@@ -58,20 +63,15 @@ pub record StepRefused (stream work : List ℕ) (c : Core) (stream′ work′ : 
   pub stream-is : stream′ ≡ stream
   pub work-is : work′ ≡ work
 
-abbrev pub movedTo : Core → ℕ → ℕ → Core
-movedTo c at stored =
-    record {
-      at = at;
-      stored = stored;
-      uris = c .uris;
-      names = c .names;
-      values = c .values;
-      learned = c .learned;
-      grammars = c .grammars;
-      mode = c .mode;
-      top = c .top;
-      depth = c .depth;
-    }
+-- What an accepted event adds to work memory: rows after the others, where each table has room, and
+-- the count of code points that they come to.
+pub record RowBounds (c : Core) (s : Strings) (g : Growth) (stored : ℕ) : Type 0 where
+  pub strings : ContentBounds c s
+  pub stands : table.Stands (c .mode) (g .kind)
+  pub fits : fitsIn c g ≡ true
+  pub site : g .site < sites
+  pub name : g .name ≡ s .«name_row»
+  pub store : stored ≤ maxStore
 
 -- The event's bits are written; its strings and its growth are all that joins work memory, and the
 -- numbers are those after it.
@@ -82,11 +82,10 @@ pub record StepPut (stream work : List ℕ) (c : Core) (stream′ work′ : List
   pub near : r .core .at ≤ c .at + maxEventBits
   pub strings : Strings
   pub growth : Growth
+  pub rows : RowBounds c strings growth (r .core .stored)
   pub work-is : work′ ≡ grown c growth (joinedStrings c strings work)
   pub work-size : length work′ ≡ length work
-  pub core-is : r .core
-      ≡ turned (counted (movedTo c (r .core .at) (r .core .stored)) strings growth) (growth .kind)
-      (growth .name)
+  pub core-is : r .core ≡ coreAfter c (r .core .at) (r .core .stored) strings growth
 
 -- ---- by the definitions
 

@@ -3,7 +3,7 @@
 use Prim.Native.Nat.{ℕ, zero, suc, _≤_, _<_}
 use native.Mathlib.Omega.{arith}
 use native.Mathlib.Nat.{le-refl}
-use mathlib.Core.Path.{_≡_, refl, ap, subst, _∙_}
+use mathlib.Core.Path.{_≡_, refl, sym, ap, subst, _∙_}
 use mathlib.Core.Bool.{true, _&&_, and-eq-true-iff}
 use mathlib.Core.List.{List}
 use lib.ListN.{length, getD, replicate, length-replicate}
@@ -39,6 +39,7 @@ use Rattle.write_qname.specs.Premise.{Begun, contextIn}
 use Rattle.write_step.specs.Step.{Stands}
 use Rattle.write_run.specs.declared.Run.{Run}
 use Rattle.write_run.specs.Run.{RunPre, RunPost}
+use Rattle.write_run.proofs.Turns.{progress-near, index-few}
 use Rattle.writer.specs.Write.{BodyPre, BodyPost}
 
 -- ---- the header
@@ -159,11 +160,14 @@ module _ {stream : List ℕ} {at : ℕ} {work : List ℕ} (h : BodyPre stream at
         → BodyPost s xs store stream at stream′ r
     body-put {s} {xs} {store} {stream′} {r = r} p =
         let m = p .meant startRows (start-stands store) topped in
+        let put-there =
+        subst (λ k. Put stream (st .core .at) (p .progress .bits) stream′ k) (sym (p .at))
+        (p .progress .put) in
         record {
-          bits = p .bits;
-          put = subst (λ k. Put stream k (p .bits) stream′ (r .at)) there (p .put);
-          near = p .near;
-          few = p .few;
+          bits = p .progress .bits;
+          put = subst (λ k. Put stream k (p .progress .bits) stream′ (r .at)) there put-there;
+          near = omega (arith, p .at, progress-near (p .progress));
+          few = index-few p;
           means =
               record {
                 refused-as = λ k i e. m .refused-as k i (answer-is s store xs ∙ e);

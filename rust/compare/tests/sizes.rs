@@ -78,7 +78,7 @@ fn sizes_are_as_agreed() {
 }
 
 /// The library asks for what the scope says, and for work memory that it may choose up to 1,048,576
-/// octets; the writer's has a text store behind the reader's.
+/// octets; the writer's is as long as the reader's.
 #[test]
 fn lent_sizes_follow_from_the_scopes() {
     let stated = ReaderSizes::stated();
@@ -90,7 +90,7 @@ fn lent_sizes_follow_from_the_scopes() {
     let stated = WriterSizes::stated();
     assert_eq!(stated.octets, MAX_STREAM);
     assert!(4 * stated.work <= 1_048_576);
-    assert_eq!(stated.work, reader.work + MAX_STORE);
+    assert_eq!(stated.work, reader.work);
 }
 
 #[test]

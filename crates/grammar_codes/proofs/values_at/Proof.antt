@@ -3,51 +3,37 @@ use native.Mathlib.Omega.{arith}
 use borrow.Author.Needs.{needs}
 use Rattle.grammar_codes.proofs.values_at.Statement.{statement}
 use Rattle.grammar_codes.proofs.values_at.Tie as tie
-use Rattle.grammar_codes.proofs.values_at.Reads as reads
-use Rattle.grammar_codes.proofs.values_at.Lts as lts
-use Rattle.grammar_codes.proofs.count_at.Reads as count-at-reads
 
--- src/lib.rt:100:9
 returns : tie.Need-returns
 returns c = values-content _ _ _ _ (c .if1 .taken)
 
--- src/lib.rt:103:9
 returns-2 : tie.Need-returns-2
 returns-2 c = values-tag _ _ _ _ (c .if2 .taken)
 
--- src/lib.rt:105:9
 count-at-requires : tie.Need-count-at-requires
 count-at-requires c κs = search needs
 
--- src/lib.rt:106:31
 add-count-at : tie.Need-add-count-at
 add-count-at c = search needs
 
--- src/lib.rt:106:9
 count-at-requires-2 : tie.Need-count-at-requires-2
 count-at-requires-2 c κs = search needs
 
--- src/lib.rt:107:31
 add-count-at-2 : tie.Need-add-count-at-2
 add-count-at-2 c = search needs
 
--- src/lib.rt:107:9
 count-at-requires-3 : tie.Need-count-at-requires-3
 count-at-requires-3 c κs = search needs
 
--- src/lib.rt:108:8
 add-if3 : tie.Need-add-if3
 add-if3 c = omega (arith, c .before .count-at2 .ensures .few, c .count-at3 .ensures .few)
 
--- src/lib.rt:109:9
 returns-3 : tie.Need-returns-3
 returns-3 c = values-last _ _ _ _ (c .before .before .before .count-at .ensures) (c .before .before .count-at2 .ensures) (c .before .count-at3 .ensures) (c .if3 .taken)
 
--- src/lib.rt:111:5
 add-result : tie.Need-add-result
 add-result c = omega (arith, c .before .before .before .count-at .ensures .few)
 
--- src/lib.rt:94:1
 returns-4 : tie.Need-returns-4
 returns-4 c = values-more _ _ _ _ (c .before .before .before .count-at .ensures) (c .before .before .count-at2 .ensures) (c .before .count-at3 .ensures) (c .if3 .left)
 

@@ -4,12 +4,12 @@ use borrow.Author.Needs.{needs}
 use Rattle.read_field.proofs.octet.Statement.{statement}
 use Rattle.read_field.proofs.octet.Tie as tie
 
-bits-requires : tie.Need-bits-requires
-bits-requires c κs = search needs
+few-bits-requires : tie.Need-few-bits-requires
+few-bits-requires c κs = search needs
 
 returns : tie.Need-returns
 unfolding octet numberField
-returns c = c .bits .ensures
+returns c = c .few-bits .ensures
 
 pub octet-spec : {M : Type 1} → statement M
-octet-spec = tie.close (tie.spec bits-requires returns)
+octet-spec = tie.close (tie.spec few-bits-requires returns)

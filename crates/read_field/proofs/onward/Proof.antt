@@ -3,6 +3,7 @@ use Rattle.read_field.proofs.Groups.{Going, going-none, going-past, Tur
 use denote.Ref.{now}
 use mathlib.Core.Path.{refl}
 use native.Mathlib.Omega.{arith}
+use borrow.Author.Needs.{needs}
 use Rattle.read_field.proofs.onward.Statement.{statement}
 use Rattle.read_field.proofs.onward.Tie as tie
 
@@ -22,7 +23,7 @@ turn c =
       going = c .before .before .before .before .loop .inv;
       some = c .before .before .before .loop-test .taken;
       room = c .before .before .if1 .left;
-      peeked = rw (c .wide .ensures) (c .before .peek .ensures);
+      peeked = rw (c .wide .ensures) (c .before .octet-in .ensures);
     }
 
 loop-holds : tie.Need-loop-holds Inv-loop μ-loop
@@ -37,8 +38,8 @@ add-if1 c = omega arith
 returns : tie.Need-returns Inv-loop μ-loop
 returns c = going-past (c .before .before .loop .inv) (c .before .loop-test .taken) (c .if1 .taken)
 
-peek-requires : tie.Need-peek-requires Inv-loop μ-loop
-peek-requires c κs = tt
+octet-in-requires : tie.Need-octet-in-requires Inv-loop μ-loop
+octet-in-requires c κs = search needs
 
 wide-requires : tie.Need-wide-requires Inv-loop μ-loop
 wide-requires c κs = tt
@@ -104,7 +105,7 @@ onward-spec =
     mul-if1
     add-if1
     returns
-    peek-requires
+    octet-in-requires
     wide-requires
     returns-2
     mul-v

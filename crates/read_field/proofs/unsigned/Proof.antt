@@ -1,55 +1,33 @@
--- `read_field::unsigned` meets its contract: the first octet is the whole, or `onward` reads the rest.
-use native.Mathlib.Omega.{arith}
-use Rattle.read_field.proofs.Groups.{unsigned-past, unsigned-first, unsigned-more}
-use mathlib.Core.Path.{_∙_}
+-- `read_field::unsigned` meets its contract: one octet is the whole, or more are read.
+use Rattle.read_field.proofs.Groups.{unsigned-past, unsigned-first}
 use borrow.Author.Needs.{needs}
 use Rattle.read_field.proofs.unsigned.Statement.{statement}
 use Rattle.read_field.proofs.unsigned.Tie as tie
 
-mul-if1 : tie.Need-mul-if1
-mul-if1 c = omega arith
+add-next : tie.Need-add-next
+add-next c = search needs
 
-add-if1 : tie.Need-add-if1
-add-if1 c = omega arith
+mul-if1 : tie.Need-mul-if1
+mul-if1 c = search needs
 
 returns : tie.Need-returns
 returns c = unsigned-past (c .before .before .pre) (c .if1 .taken)
 
-peek-requires : tie.Need-peek-requires
-peek-requires c κs = tt
-
-add-t8 : tie.Need-add-t8
-add-t8 c = omega arith
+octet-in-requires : tie.Need-octet-in-requires
+octet-in-requires c κs = search needs
 
 returns-2 : tie.Need-returns-2
-returns-2 c = unsigned-first (c .before .peek .ensures) (c .before .before .if1 .left) (c .if2 .taken)
+returns-2 c =
+    let o = c .before in
+    unsigned-first (o .octet-in .ensures) (o .before .if1 .left) (c .if2 .taken)
 
-add-onward : tie.Need-add-onward
-add-onward c = omega arith
-
-wide-requires : tie.Need-wide-requires
-wide-requires c κs = tt
-
-onward-requires : tie.Need-onward-requires
-onward-requires c κs = search needs
+unsigned-any-requires : tie.Need-unsigned-any-requires
+unsigned-any-requires c κs = search needs
 
 returns-3 : tie.Need-returns-3
-returns-3 c =
-    let b = c .before .before in
-    let o = b .before in
-    c .onward .ensures ∙ rw (c .before .wide .ensures) (unsigned-more (o .peek .ensures) (o .before .if1 .left) (b .if2 .left))
+returns-3 c = search needs
 
 pub unsigned-spec : {M : Type 1} → statement M
 unsigned-spec =
     tie.close
-    (tie.spec
-    mul-if1
-    add-if1
-    returns
-    peek-requires
-    add-t8
-    returns-2
-    add-onward
-    wide-requires
-    onward-requires
-    returns-3)
+    (tie.spec add-next mul-if1 returns octet-in-requires returns-2 unsigned-any-requires returns-3)

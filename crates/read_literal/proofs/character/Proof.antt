@@ -10,7 +10,7 @@ use Rattle.read_literal.proofs.character.Reads as reads
 use Rattle.read_literal.proofs.character.Lts as lts
 use Rattle.read_literal.proofs.plain.Reads as plain-reads
 use Rattle.read_literal.proofs.refused.Reads as refused-reads
-use Rattle.read_field.proofs.unsigned.Reads as unsigned-reads
+use Rattle.read_field.proofs.unsigned_any.Reads as unsigned-any-reads
 use Rattle.text.proofs.is_char.Reads as is-char-reads
 
 -- src/lib.rt:80:9
@@ -27,18 +27,22 @@ returns : tie.Need-returns
 returns c = point-plain (c .before .before .before .pre) (c .before .plain .ensures) (c .if1 .taken)
 
 -- src/lib.rt:88:35
-mul-unsigned : tie.Need-mul-unsigned
+mul-unsigned-any : tie.Need-mul-unsigned-any
 unfolding maxStream
-mul-unsigned c = omega (arith, c .before .before .before .pre .inside, c .before .before .before .pre .size)
+mul-unsigned-any c =
+    let p = c .before .before .before .pre in
+    omega (arith, p .inside, p .size)
 
 -- src/lib.rt:88:35
-add-unsigned : tie.Need-add-unsigned
+add-unsigned-any : tie.Need-add-unsigned-any
 unfolding maxStream
-add-unsigned c = omega (arith, c .before .before .before .pre .inside, c .before .before .before .pre .size)
+add-unsigned-any c =
+    let p = c .before .before .before .pre in
+    omega (arith, p .inside, p .size)
 
 -- src/lib.rt:88:11
-unsigned-requires : tie.Need-unsigned-requires
-unsigned-requires c κs = point-asks (c .before .before .before .pre)
+unsigned-any-requires : tie.Need-unsigned-any-requires
+unsigned-any-requires c κs = point-asks (c .before .before .before .pre)
 
 -- src/lib.rt:89:24
 enum-known-n : tie.Need-enum-known-n
@@ -66,15 +70,29 @@ refused-requires-2 c κs = search needs
 
 -- src/lib.rt:92:17
 returns-2 : tie.Need-returns-2
-returns-2 c = rw (c .refused2 .ensures) (point-not (c .before .before .before .before .before .before .before .before .before .before .pre) (c .before .before .before .before .before .before .unsigned .ensures) (c .before .before .before .before .value .given .1) (sym (c .before .before .is-char .ensures) ∙ not-true _ (c .before .if2 .taken)))
+returns-2 c =
+    let t = c .before .before in
+    let v = t .before .before in
+    let u = v .before .before in
+    rw (c .refused2 .ensures)
+    (point-not (u .before .before .before .before .pre) (u .unsigned-any .ensures)
+    (v .value .given .1) (sym (t .is-char .ensures) ∙ not-true _ (c .before .if2 .taken)))
 
 -- src/lib.rt:76:1
 returns-3 : tie.Need-returns-3
-returns-3 c = rw (c .refused .ensures) (point-refused (c .before .before .before .before .before .before .before .before .pre) (c .before .before .before .before .unsigned .ensures) (c .before .before .n .given .1))
+returns-3 c =
+    let n = c .before .before in
+    let u = n .before .before in
+    rw (c .refused .ensures)
+    (point-refused (u .before .before .before .before .pre) (u .unsigned-any .ensures) (n .n .given .1))
 
 -- src/lib.rt:76:1
 returns-4 : tie.Need-returns-4
-returns-4 c = point-is (c .before .before .before .before .before .before .before .before .before .pre) (c .before .before .before .before .before .unsigned .ensures) (c .before .before .before .value .given .1) (sym (c .before .is-char .ensures) ∙ not-false _ (c .if2 .left))
+returns-4 c =
+    let v = c .before .before .before in
+    let u = v .before .before in
+    point-is (u .before .before .before .before .pre) (u .unsigned-any .ensures)
+    (v .value .given .1) (sym (c .before .is-char .ensures) ∙ not-false _ (c .if2 .left))
 
 pub character-spec : {M : Type 1} → statement M
 character-spec =
@@ -83,9 +101,9 @@ character-spec =
     plain-requires
     add-t9
     returns
-    mul-unsigned
-    add-unsigned
-    unsigned-requires
+    mul-unsigned-any
+    add-unsigned-any
+    unsigned-any-requires
     enum-known-n
     cast-refused
     refused-requires

@@ -33,17 +33,17 @@ returns c =
 
 seek-name-requires : tie.Need-seek-name-requires
 seek-name-requires c κs =
-    let pre = c .before .before .before .before .before .before .before .before .before .before .pre
-    in
-    name-seek-asks pre
+    let read = c .before .before .before .before .before in
+    name-seek-asks (read .before .before .before .before .before .pre) (read .read-literal .ensures)
+    (c .before .if1 .left)
 
 dropped-requires : tie.Need-dropped-requires
 dropped-requires c κs =
-    let pre = c .before .before .before .before .before .before .before .before .before .before
+    let pre = c .before .before .before .before .before .before .before .before .before
     .before .before .before .before .pre in
-    let read-literal = c .before .before .before .before .before .before .before .before .before
+    let read-literal = c .before .before .before .before .before .before .before .before
     .read-literal in
-    let if1 = c .before .before .before .before .before .if1 in
+    let if1 = c .before .before .before .before .if1 in
     laid-room (pre .literal) (read-literal .ensures) (if1 .left)
 
 same-length-2 : tie.Need-same-length-2
@@ -52,12 +52,12 @@ same-length-2 c = search needs
 returns-2 : tie.Need-returns-2
 unfolding numberOf
 returns-2 c =
-    let pre = c .before .before .before .before .before .before .before .before .before .before
+    let pre = c .before .before .before .before .before .before .before .before .before
     .before .before .before .before .before .before .before .pre in
-    let read-literal = c .before .before .before .before .before .before .before .before .before
+    let read-literal = c .before .before .before .before .before .before .before .before
     .before .before .before .read-literal in
-    let if1 = c .before .before .before .before .before .before .before .before .if1 in
-    let seek-name = c .before .before .before .before .before .before .seek-name in
+    let if1 = c .before .before .before .before .before .before .before .if1 in
+    let seek-name = c .before .before .before .before .before .seek-name in
     let if2 = c .before .before .before .before .if2 in
     let dropped = c .before .before .dropped in
     rw (dropped .ensures .is) (
@@ -68,17 +68,17 @@ returns-2 c =
 
 allowed-requires : tie.Need-allowed-requires
 allowed-requires c κs =
-    let pre = c .before .before .before .before .before .before .before .before .before .before
+    let pre = c .before .before .before .before .before .before .before .before .before
     .before .before .before .before .pre in
     pre .literal .few
 
 dropped-requires-2 : tie.Need-dropped-requires-2
 dropped-requires-2 c κs =
-    let pre = c .before .before .before .before .before .before .before .before .before .before
+    let pre = c .before .before .before .before .before .before .before .before .before
     .before .before .before .before .before .before .before .pre in
-    let read-literal = c .before .before .before .before .before .before .before .before .before
+    let read-literal = c .before .before .before .before .before .before .before .before
     .before .before .before .read-literal in
-    let if1 = c .before .before .before .before .before .before .before .before .if1 in
+    let if1 = c .before .before .before .before .before .before .before .if1 in
     laid-room (pre .literal) (read-literal .ensures) (if1 .left)
 
 same-length-3 : tie.Need-same-length-3
@@ -87,13 +87,13 @@ same-length-3 c = search needs
 returns-3 : tie.Need-returns-3
 unfolding numberOf
 returns-3 c =
-    let pre = c .before .before .before .before .before .before .before .before .before .before
+    let pre = c .before .before .before .before .before .before .before .before .before
     .before .before .before .before .before .before .before .before .before .before .pre in
-    let read-literal = c .before .before .before .before .before .before .before .before .before
+    let read-literal = c .before .before .before .before .before .before .before .before
     .before .before .before .before .before .before .read-literal in
-    let if1 = c .before .before .before .before .before .before .before .before .before .before
+    let if1 = c .before .before .before .before .before .before .before .before .before
     .before .if1 in
-    let seek-name = c .before .before .before .before .before .before .before .before .before
+    let seek-name = c .before .before .before .before .before .before .before .before
     .seek-name in
     let if2 = c .before .before .before .before .before .before .before .if2 in
     let allowed = c .before .before .before .before .before .allowed in
@@ -107,11 +107,11 @@ returns-3 c =
 
 dropped-requires-3 : tie.Need-dropped-requires-3
 dropped-requires-3 c κs =
-    let pre = c .before .before .before .before .before .before .before .before .before .before
+    let pre = c .before .before .before .before .before .before .before .before .before
     .before .before .before .before .before .before .before .before .pre in
-    let read-literal = c .before .before .before .before .before .before .before .before .before
+    let read-literal = c .before .before .before .before .before .before .before .before
     .before .before .before .before .read-literal in
-    let if1 = c .before .before .before .before .before .before .before .before .before .if1 in
+    let if1 = c .before .before .before .before .before .before .before .before .if1 in
     laid-room (pre .literal) (read-literal .ensures) (if1 .left)
 
 same-length-4 : tie.Need-same-length-4
@@ -120,13 +120,13 @@ same-length-4 c = search needs
 returns-4 : tie.Need-returns-4
 unfolding numberOf maxNames
 returns-4 c =
-    let pre = c .before .before .before .before .before .before .before .before .before .before
+    let pre = c .before .before .before .before .before .before .before .before .before
     .before .before .before .before .before .before .before .before .before .before .before .pre in
-    let read-literal = c .before .before .before .before .before .before .before .before .before
+    let read-literal = c .before .before .before .before .before .before .before .before
     .before .before .before .before .before .before .before .read-literal in
-    let if1 = c .before .before .before .before .before .before .before .before .before .before
+    let if1 = c .before .before .before .before .before .before .before .before .before
     .before .before .if1 in
-    let seek-name = c .before .before .before .before .before .before .before .before .before
+    let seek-name = c .before .before .before .before .before .before .before .before
     .before .seek-name in
     let if2 = c .before .before .before .before .before .before .before .before .if2 in
     let allowed = c .before .before .before .before .before .before .allowed in
@@ -141,9 +141,9 @@ returns-4 c =
 
 laid-requires : tie.Need-laid-requires
 laid-requires c κs =
-    let read-literal = c .before .before .before .before .before .before .before .before .before
+    let read-literal = c .before .before .before .before .before .before .before .before
     .before .before .before .read-literal in
-    let if1 = c .before .before .before .before .before .before .before .before .if1 in
+    let if1 = c .before .before .before .before .before .before .before .if1 in
     (read-literal .ensures) .ends (if1 .left)
 
 same-length-5 : tie.Need-same-length-5
@@ -152,12 +152,12 @@ same-length-5 c = search needs
 returns-5 : tie.Need-returns-5
 unfolding maxNames
 returns-5 c =
-    let pre = c .before .before .before .before .before .before .before .before .before .before
+    let pre = c .before .before .before .before .before .before .before .before .before
     .before .before .before .before .before .before .before .before .pre in
-    let read-literal = c .before .before .before .before .before .before .before .before .before
+    let read-literal = c .before .before .before .before .before .before .before .before
     .before .before .before .before .read-literal in
-    let if1 = c .before .before .before .before .before .before .before .before .before .if1 in
-    let seek-name = c .before .before .before .before .before .before .before .seek-name in
+    let if1 = c .before .before .before .before .before .before .before .before .if1 in
+    let seek-name = c .before .before .before .before .before .before .seek-name in
     let if2 = c .before .before .before .before .before .if2 in
     let allowed = c .before .before .before .allowed in
     let if3 = c .before .before .if3 in
@@ -165,7 +165,7 @@ returns-5 c =
     rw (c .laid .ensures) (
       (λ a. new-joins pre (read-literal .ensures) _ (if1 .left) (seek-name .ensures) (if2 .left)
           (allowed .ensures) (not-false _ (if3 .left)) (if4 .left)),
-      name-new-row _ _ _ (if4 .left) (seek-name .ensures .hash),
+      name-new-row _ _ _ (if4 .left) (read-literal .ensures .hashed .is (if1 .left)),
     )
 
 pub new-name-spec : {M : Type 1} → statement M

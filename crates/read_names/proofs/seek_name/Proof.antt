@@ -12,18 +12,12 @@ cast-look-up c = omega (arith, c .before .before .pre .store)
 look-up-requires : tie.Need-look-up-requires
 look-up-requires c κs = search needs
 
-hash-requires : tie.Need-hash-requires
-hash-requires c κs = search needs
-
 find-name-requires : tie.Need-find-name-requires
-find-name-requires c κs = name-find-asks (c .before .before .before .before .pre)
+find-name-requires c κs = name-find-asks (c .before .before .before .pre)
 
 returns : tie.Need-returns
-returns c =
-    let look-up = c .before .before .look-up in
-    let hash = c .before .hash in
-    rw (← (look-up .ensures .0)) (record { hash = hash .ensures; found = c .find-name .ensures })
+returns c = rw (← (c .before .look-up .ensures .0)) (c .find-name .ensures)
 
 pub seek-name-spec : {M : Type 1} → statement M
 seek-name-spec =
-    tie.close (tie.spec cast-look-up look-up-requires hash-requires find-name-requires returns)
+    tie.close (tie.spec cast-look-up look-up-requires find-name-requires returns)

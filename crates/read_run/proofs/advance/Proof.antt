@@ -102,7 +102,7 @@ returns-2 c =
 
 cast-t : tie.Need-cast-t Inv-loop μ-loop
 cast-t c =
-    let step = c .before .before .before .before .before .before .before .before .before .before
+    let step = c .before .before .before .before .before .before .before .before .before
     .before in
     omega (arith, (step .step .ensures) .bounded .top)
 
@@ -110,7 +110,7 @@ mul-t : tie.Need-mul-t Inv-loop μ-loop
 unfolding maxOpen
 mul-t c =
     let if3 = c .before in
-    let step = if3 .before .before .before .before .before .before .before .before .before .before
+    let step = if3 .before .before .before .before .before .before .before .before .before
     in
     omega (arith, (step .step .ensures) .bounded .depth, if3 .if3 .taken)
 
@@ -118,46 +118,50 @@ element-write-t : tie.Need-element-write-t Inv-loop μ-loop
 unfolding maxOpen
 element-write-t c =
     let if3 = c .before in
-    let step = if3 .before .before .before .before .before .before .before .before .before .before
+    let step = if3 .before .before .before .before .before .before .before .before .before
     in
     omega (arith, (step .step .ensures) .bounded .depth, if3 .if3 .taken)
 
 innermost-requires : tie.Need-innermost-requires Inv-loop μ-loop
 innermost-requires c κs =
-    let step = c .before .before .before .before .before .before .before .before .before .before
+    let step = c .before .before .before .before .before .before .before .before .before
     .before .before in
     (step .step .ensures) .bounded .depth
 
 add-n : tie.Need-add-n Inv-loop μ-loop
 add-n c =
-    let if1 = c .before .before .before .before .before .before .before .before .before .before
+    let if1 = c .before .before .before .before .before .before .before .before .before
     .before .before .before .before .before .before .before .before in
     omega (arith, if1 .if1 .left)
 
 loop-less : tie.Need-loop-less Inv-loop μ-loop
 loop-less c =
-    let if1 = c .before .before .before .before .before .before .before .before .before .before
+    let if1 = c .before .before .before .before .before .before .before .before .before
     .before .before .before .before .before .before .before .before in
     omega (arith, if1 .if1 .left)
 
 loop-again : tie.Need-loop-again Inv-loop μ-loop
 unfolding maxEvents cellsPerEvent
 loop-again c =
-    let if3 = c .before .before .before in
-    let if2 = if3 .before .before in
+    let before = c .before .before .before in
+    let if3 = before in
+    let if2 = if3 .before in
     let step = if2 .before .before .before .before .before .before .before .before in
     let if1 = step .before .before .before .before .before in
     let loop-test = if1 .before in
     let loop = loop-test .before in
     let start = loop .before .before .before .before .before in
-    let kept : KeptAfter (start .pre) (loop .loop .inv) (loop-test .loop-test .taken) (if1 .if1 .left)
+    let kept : KeptAfter (start .pre) (loop .loop .inv) (loop-test .loop-test .taken) (if1 .if1
+    .left)
     (step .step .ensures) (if2 .if2 .left) (if3 .if3 .t .opened) =
     ⊎-elim
-    (λ w. subst (λ (x : State). KeptAfter (start .pre) (loop .loop .inv) (loop-test .loop-test .taken)
+    (λ w. subst (λ (x : State). KeptAfter (start .pre) (loop .loop .inv) (loop-test .loop-test
+    .taken)
     (if1 .if1 .left) (step .step .ensures) (if2 .if2 .left) (x .opened)) (sym (w .2))
     (turn-stored (start .pre) (loop .loop .inv) (loop-test .loop-test .taken) (if1 .if1 .left) (step
     .step .ensures) (if2 .if2 .left) (w .0 .taken)))
-    (λ w. subst (λ (x : State). KeptAfter (start .pre) (loop .loop .inv) (loop-test .loop-test .taken)
+    (λ w. subst (λ (x : State). KeptAfter (start .pre) (loop .loop .inv) (loop-test .loop-test
+    .taken)
     (if1 .if1 .left) (step .step .ensures) (if2 .if2 .left) (x .opened)) (sym (w .1))
     (turn-same (start .pre) (loop .loop .inv) (loop-test .loop-test .taken) (if1 .if1 .left) (step
     .step .ensures) (if2 .if2 .left) (w .0 .left)))

@@ -1,102 +1,99 @@
-use Rattle.spec_exi.specs.Sizes.{cellsPerEvent}
+use Rattle.read_event.proofs.Steps.{event-asks, step-refused}
+use Rattle.read_event.proofs.Returns.{production-asks, code-refused}
+use mathlib.Core.Path.{refl}
 use native.Mathlib.Omega.{arith}
-use Rattle.read_step.proofs.Steps.{event-asks, step-refused, join-asks, grow-asks}
-use Rattle.read_step.proofs.Steps.{after-asks, step-read}
 use borrow.Author.Needs.{needs}
 use Rattle.read_step.proofs.step.Statement.{statement}
 use Rattle.read_step.proofs.step.Tie as tie
 
-read-event-requires : tie.Need-read-event-requires
-read-event-requires c κs = event-asks (c .before .before .before .before .before .before .pre)
+read-production-requires : tie.Need-read-production-requires
+read-production-requires c κs =
+    let pre = c .before .before .before .before .before .pre in
+    production-asks (event-asks (pre))
+
+answer-requires : tie.Need-answer-requires
+answer-requires c κs = search needs
 
 same-length : tie.Need-same-length
-same-length c = search needs
-
-same-length-2 : tie.Need-same-length-2
-same-length-2 c = search needs
+same-length c = refl
 
 returns : tie.Need-returns
 returns c =
-    let pre = c .before .before .before .before .before .before .before .before .before .before
-    .before .pre in
-    let read-event = c .before .before .before .before .read-event in
-    step-refused (pre) (read-event .ensures) (omega (arith, c .if1 .taken))
+    let pre = c .before .before .before .before .before .before .before .before .before .pre in
+    let read-production = c .before .before .before .read-production in
+    let if1 = c .before .if1 in
+    rw (c .answer .ensures) (step-refused (pre) (code-refused (event-asks (pre)) (read-production
+    .ensures) (omega (arith, if1 .taken))) (omega (arith, if1 .taken)))
 
-join-strings-requires : tie.Need-join-strings-requires
-join-strings-requires c κs =
+learned-requires : tie.Need-learned-requires
+learned-requires c κs =
     let pre = c .before .before .before .before .before .before .before .before .before .before
     .before .before .pre in
-    let read-event = c .before .before .before .before .before .read-event in
-    let if1 = c .before .if1 in
-    join-asks (pre) (read-event .ensures) (if1 .left)
+    let read-production = c .before .before .before .before .before .before .read-production in
+    let if1 = c .before .before .before .before .if1 in
+    let if2 = c .before .before .before .if2 in (
+      pre,
+      record {
+        code = record { post = (read-production .ensures); good = if1 .left };
+        is = if2
+            .taken;
+      },
+    )
 
-grow-requires : tie.Need-grow-requires
-grow-requires c κs =
-    let pre = c .before .before .before .before .before .before .before .before .before .before
-    .before .before .before .before .before .before .pre in
-    let read-event = c .before .before .before .before .before .before .before .before .before
-    .read-event in
-    let if1 = c .before .before .before .before .before .if1 in
-    let join-strings = c .before .before .before .join-strings in
-    grow-asks (pre) (read-event .ensures) (if1 .left) (join-strings .ensures)
-
-store-requires : tie.Need-store-requires
-unfolding cellsPerEvent
-store-requires c κs =
-    let pre = c .before .before .before .before .before .before .before .before .before .before
-    .before .before .before .before .before .before .before .before .before .before .pre in
-    pre .cells
-
-after-requires : tie.Need-after-requires
-after-requires c κs =
-    let pre = c .before .before .before .before .before .before .before .before .before .before
-    .before .before .before .before .before .before .before .before .before .before .before .before
-    .before .pre in
-    let read-event = c .before .before .before .before .before .before .before .before .before
-    .before .before .before .before .before .before .before .read-event in
-    let if1 = c .before .before .before .before .before .before .before .before .before .before
-    .before .before .if1 in
-    after-asks (pre) (read-event .ensures) (if1 .left)
+same-length-2 : tie.Need-same-length-2
+same-length-2 c = c .before .before .before .before .before .events .given
 
 same-length-3 : tie.Need-same-length-3
-same-length-3 c = search needs
+same-length-3 c = c .before .before .before .text .given
 
 same-length-4 : tie.Need-same-length-4
-same-length-4 c = search needs
-
-same-length-5 : tie.Need-same-length-5
-same-length-5 c = search needs
+same-length-4 c = c .before .work .given
 
 returns-2 : tie.Need-returns-2
-unfolding cellsPerEvent
-returns-2 c =
+returns-2 c = c .before .before .before .before .before .before .learned .ensures
+
+fixed-requires : tie.Need-fixed-requires
+fixed-requires c κs =
     let pre = c .before .before .before .before .before .before .before .before .before .before
-    .before .before .before .before .before .before .before .before .before .before .before .before
     .before .before .pre in
-    let read-event = c .before .before .before .before .before .before .before .before .before
-    .before .before .before .before .before .before .before .before .read-event in
-    let if1 = c .before .before .before .before .before .before .before .before .before .before
-    .before .before .before .if1 in
-    let join-strings = c .before .before .before .before .before .before .before .before .before
-    .before .before .join-strings in
-    let grow = c .before .before .before .before .before .before .before .grow in
-    let store = c .before .before .before .store in
-    step-read (pre) (read-event .ensures) (if1 .left) (join-strings .ensures) (grow .ensures) (store
-    .ensures) (c .after .ensures)
+    let read-production = c .before .before .before .before .before .before .read-production in
+    let if1 = c .before .before .before .before .if1 in
+    let if2 = c .before .before .before .if2 in (
+      pre,
+      record {
+        code = record { post = (read-production .ensures); good = if1 .left };
+        is = if2
+            .left;
+      },
+    )
+
+same-length-5 : tie.Need-same-length-5
+same-length-5 c = c .before .before .before .before .before .events2 .given
+
+same-length-6 : tie.Need-same-length-6
+same-length-6 c = c .before .before .before .text2 .given
+
+same-length-7 : tie.Need-same-length-7
+same-length-7 c = c .before .work2 .given
+
+returns-3 : tie.Need-returns-3
+returns-3 c = c .before .before .before .before .before .before .fixed .ensures
 
 pub step-spec : {M : Type 1} → statement M
 step-spec =
     tie.close
     (tie.spec
-    read-event-requires
+    read-production-requires
+    answer-requires
     same-length
-    same-length-2
     returns
-    join-strings-requires
-    grow-requires
-    store-requires
-    after-requires
+    learned-requires
+    same-length-2
     same-length-3
     same-length-4
+    returns-2
+    fixed-requires
     same-length-5
-    returns-2)
+    same-length-6
+    same-length-7
+    returns-3)

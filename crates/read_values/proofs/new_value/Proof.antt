@@ -28,15 +28,17 @@ returns c = rw (c .refused .ensures) (
 )
 
 seek-requires : tie.Need-seek-requires
-seek-requires c κs = seek-asks
-    (c .before .before .before .before .before .before .before .before .before .before .pre)
+seek-requires c κs =
+    let read = c .before .before .before .before .before in
+    seek-asks (read .before .before .before .before .before .pre) (read .read-literal .ensures)
+    (c .before .if1 .left)
 
 dropped-requires : tie.Need-dropped-requires
 dropped-requires c κs = new-room
-    (c .before .before .before .before .before .before .before .before .before .before .before
+    (c .before .before .before .before .before .before .before .before .before .before
     .before .before .before .pre)
-    (c .before .before .before .before .before .before .before .before .before .read-literal
-    .ensures) (c .before .before .before .before .before .if1 .left)
+    (c .before .before .before .before .before .before .before .before .read-literal
+    .ensures) (c .before .before .before .before .if1 .left)
 
 same-length-2 : tie.Need-same-length-2
 same-length-2 c = search needs
@@ -44,42 +46,42 @@ same-length-2 c = search needs
 returns-2 : tie.Need-returns-2
 unfolding numberOf
 returns-2 c = rw (c .before .before .dropped .ensures .is) (
-  (λ a owner. new-loose (c .before .before .before .before .before .before .before .before
+  (λ a owner. new-loose (c .before .before .before .before .before .before .before
       .before .before .before .before .before .before .before .before .before .pre)
-      (c .before .before .before .before .before .before .before .before .before .before .before
+      (c .before .before .before .before .before .before .before .before .before .before
       .before .read-literal .ensures)
-      (c .before .before .before .before .before .before .before .before .if1 .left)
-      (c .before .before .before .before .before .before .seek .ensures)
+      (c .before .before .before .before .before .before .before .if1 .left)
+      (c .before .before .before .before .before .seek .ensures)
       (c .before .before .before .before .if2 .taken)
       (c .before .before .dropped .ensures .text-is)),
   joins-not refl,
 )
 
 laid-requires : tie.Need-laid-requires
-laid-requires c κs = (c .before .before .before .before .before .before .before .before .before
-    .read-literal .ensures) .ends (c .before .before .before .before .before .if1 .left)
+laid-requires c κs = (c .before .before .before .before .before .before .before .before
+    .read-literal .ensures) .ends (c .before .before .before .before .if1 .left)
 
 same-length-3 : tie.Need-same-length-3
 same-length-3 c = search needs
 
 returns-3 : tie.Need-returns-3
 returns-3 c = rw (c .laid .ensures) (
-  (λ a owner. new-empty (c .before .before .before .before .before .before .before .before
+  (λ a owner. new-empty (c .before .before .before .before .before .before .before
       .before .before .before .before .before .before .before .pre)
-      (c .before .before .before .before .before .before .before .before .before .before
+      (c .before .before .before .before .before .before .before .before .before
       .read-literal
-      .ensures) (c .before .before .before .before .before .before .if1 .left)
-      (c .before .before .before .before .seek .ensures) (c .before .before .if2 .left)
+      .ensures) (c .before .before .before .before .before .if1 .left)
+      (c .before .before .before .seek .ensures) (c .before .before .if2 .left)
       (c .before .if3 .taken)),
   joins-not refl,
 )
 
 dropped-requires-2 : tie.Need-dropped-requires-2
 dropped-requires-2 c κs =
-    new-room (c .before .before .before .before .before .before .before .before .before .before
+    new-room (c .before .before .before .before .before .before .before .before .before
     .before .before .before .before .before .before .pre)
-    (c .before .before .before .before .before .before .before .before .before .before .before
-    .read-literal .ensures) (c .before .before .before .before .before .before .before .if1 .left)
+    (c .before .before .before .before .before .before .before .before .before .before
+    .read-literal .ensures) (c .before .before .before .before .before .before .if1 .left)
 
 same-length-4 : tie.Need-same-length-4
 same-length-4 c = search needs
@@ -87,12 +89,12 @@ same-length-4 c = search needs
 returns-4 : tie.Need-returns-4
 unfolding numberOf maxValues
 returns-4 c = rw (c .before .before .dropped2 .ensures .is) (
-  (λ a owner. new-full (c .before .before .before .before .before .before .before .before .before
+  (λ a owner. new-full (c .before .before .before .before .before .before .before .before
       .before .before .before .before .before .before .before .before .before .before .pre)
-      (c .before .before .before .before .before .before .before .before .before .before .before
+      (c .before .before .before .before .before .before .before .before .before .before
       .before .before .before .read-literal .ensures)
-      (c .before .before .before .before .before .before .before .before .before .before .if1 .left)
-      (c .before .before .before .before .before .before .before .before .seek .ensures)
+      (c .before .before .before .before .before .before .before .before .before .if1 .left)
+      (c .before .before .before .before .before .before .before .seek .ensures)
       (c .before .before .before .before .before .before .if2 .left)
       (c .before .before .before .before .before .if3 .left)
       (c .before .before .before .before .if4 .taken)
@@ -101,9 +103,9 @@ returns-4 c = rw (c .before .before .dropped2 .ensures .is) (
 )
 
 laid-requires-2 : tie.Need-laid-requires-2
-laid-requires-2 c κs = (c .before .before .before .before .before .before .before .before .before
+laid-requires-2 c κs = (c .before .before .before .before .before .before .before .before
     .before .read-literal .ensures) .ends
-    (c .before .before .before .before .before .before .if1 .left)
+    (c .before .before .before .before .before .if1 .left)
 
 same-length-5 : tie.Need-same-length-5
 same-length-5 c = search needs
@@ -111,15 +113,21 @@ same-length-5 c = search needs
 returns-5 : tie.Need-returns-5
 unfolding maxValues
 returns-5 c = rw (c .laid2 .ensures) (
-  (λ a owner. new-joins (c .before .before .before .before .before .before .before .before
+  (λ a owner. new-joins (c .before .before .before .before .before .before .before
       .before .before .before .before .before .before .before .before .pre)
-      (c .before .before .before .before .before .before .before .before .before .before .before
-      .read-literal .ensures) (c .before .before .before .before .before .before .before .if1 .left)
-      (c .before .before .before .before .before .seek .ensures)
+      (c .before .before .before .before .before .before .before .before .before .before
+      .read-literal .ensures) (c .before .before .before .before .before .before .if1 .left)
+      (c .before .before .before .before .seek .ensures)
       (c .before .before .before .if2 .left) (c .before .before .if3 .left) (c .before .if4 .left)),
   record {
     left = λ j. c .before .if4 .left;
-    hashed = record { is = λ j. c .before .before .before .before .before .seek .ensures .hash };
+    hashed = record {
+      is = λ j.
+          let read = c .before .before .before .before .before .before .before .before .before
+          .before in
+          read .read-literal .ensures .hashed .is
+          (c .before .before .before .before .before .before .if1 .left);
+    };
   },
 )
 

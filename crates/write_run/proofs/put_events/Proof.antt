@@ -1,4 +1,4 @@
--- `put_events` meets its contract: the loop keeps `Progress`.
+-- `put_events` meets its contract: the loop keeps `Reached`.
 use Prim.Native.Nat.{_-_}
 use native.Mathlib.Omega.{arith}
 use mathlib.Core.Logic.{⊎-elim}
@@ -11,7 +11,7 @@ use Rattle.event.specs.Cells.{judged}
 use Rattle.event.proofs.Laws.{whole-means, shape-means}
 use Rattle.open_elements.specs.declared.State.{State}
 use Rattle.write_field.proofs.Written.{put-length}
-use Rattle.write_run.proofs.Turns.{Progress, progress-start, ended-early, ended, too-many}
+use Rattle.write_run.proofs.Turns.{Reached, reached-start, ended-early, ended, too-many}
 use Rattle.write_run.proofs.Turns.{cut-short, no-event, turn-asks, turn-refused}
 use Rattle.write_run.proofs.Turns.{KeptAfter, turn-stored, turn-same, turn-more}
 use Rattle.write_run.proofs.put_events.Statement.{statement}
@@ -19,7 +19,7 @@ use Rattle.write_run.proofs.put_events.Tie as tie
 
 abbrev Inv-loop : tie.InvT-loop
 Inv-loop o stream₀ opening events text work₀ t₀ n₀ cell₀ stream work t n cell =
-    Progress (settingsFrom o) opening events text stream₀ work₀ t₀ stream work t n cell
+    Reached (settingsFrom o) opening events text stream₀ work₀ t₀ stream work t n cell
 
 abbrev μ-loop : tie.MeasureT-loop
 μ-loop o stream₀ opening events text work₀ t₀ n₀ cell₀ stream work t n cell = length events - cell
@@ -28,16 +28,16 @@ loop-holds : tie.Need-loop-holds Inv-loop μ-loop
 loop-holds c =
     let slice-known = c .before .before .before .before in
     let start = slice-known .before in
-    progress-start (slice-known .slice-known .given) (start .pre)
+    reached-start (slice-known .slice-known .given) (start .pre)
 
 stopped-requires : tie.Need-stopped-requires Inv-loop μ-loop
 stopped-requires c κs = search needs
 
 same-length : tie.Need-same-length Inv-loop μ-loop
-same-length c = put-length ((c .before .before .before .loop .inv) .put)
+same-length c = put-length ((c .before .before .before .loop .inv) .so-far .put)
 
 same-length-2 : tie.Need-same-length-2 Inv-loop μ-loop
-same-length-2 c = (c .before .before .before .loop .inv) .work-size
+same-length-2 c = (c .before .before .before .loop .inv) .so-far .work-size
 
 returns : tie.Need-returns Inv-loop μ-loop
 returns c =
@@ -54,10 +54,10 @@ stopped-requires-2 : tie.Need-stopped-requires-2 Inv-loop μ-loop
 stopped-requires-2 c κs = search needs
 
 same-length-3 : tie.Need-same-length-3 Inv-loop μ-loop
-same-length-3 c = put-length ((c .before .before .before .before .loop .inv) .put)
+same-length-3 c = put-length ((c .before .before .before .before .loop .inv) .so-far .put)
 
 same-length-4 : tie.Need-same-length-4 Inv-loop μ-loop
-same-length-4 c = (c .before .before .before .before .loop .inv) .work-size
+same-length-4 c = (c .before .before .before .before .loop .inv) .so-far .work-size
 
 returns-2 : tie.Need-returns-2 Inv-loop μ-loop
 returns-2 c =
@@ -79,10 +79,11 @@ stopped-requires-3 c κs = search needs
 
 same-length-5 : tie.Need-same-length-5 Inv-loop μ-loop
 same-length-5 c = put-length ((c .before .before .before .before .before .before .before .loop .inv)
-    .put)
+    .so-far .put)
 
 same-length-6 : tie.Need-same-length-6 Inv-loop μ-loop
-same-length-6 c = (c .before .before .before .before .before .before .before .loop .inv) .work-size
+same-length-6 c =
+    (c .before .before .before .before .before .before .before .loop .inv) .so-far .work-size
 
 returns-3 : tie.Need-returns-3 Inv-loop μ-loop
 returns-3 c =
@@ -112,14 +113,14 @@ same-length-7 c =
     let stream = c .before .before .before .before .before .before in
     let loop = stream .before .before .before .before .before .before .before .before .before
     .before .before .before in
-    stream .stream .given ∙ put-length ((loop .loop .inv) .put)
+    stream .stream .given ∙ put-length ((loop .loop .inv) .so-far .put)
 
 same-length-8 : tie.Need-same-length-8 Inv-loop μ-loop
 same-length-8 c =
     let work = c .before .before .before .before in
     let loop = work .before .before .before .before .before .before .before .before .before .before
     .before .before .before .before in
-    work .work .given ∙ (loop .loop .inv) .work-size
+    work .work .given ∙ (loop .loop .inv) .so-far .work-size
 
 returns-4 : tie.Need-returns-4 Inv-loop μ-loop
 returns-4 c =
@@ -168,7 +169,7 @@ add-n c =
     let loop = c .before .before .before .before .before .before .before .before .before .before
     .before .before .before .before .before .before .before .before .before .before .before .before
     in
-    omega (arith, (loop .loop .inv) .few)
+    omega (arith, (loop .loop .inv) .so-far .few)
 
 add-cell : tie.Need-add-cell Inv-loop μ-loop
 unfolding maxEvents
@@ -176,7 +177,7 @@ add-cell c =
     let loop = c .before .before .before .before .before .before .before .before .before .before
     .before .before .before .before .before .before .before .before .before .before .before .before
     in
-    omega (arith, (loop .loop .inv) .few, (loop .loop .inv) .place)
+    omega (arith, (loop .loop .inv) .so-far .few, (loop .loop .inv) .place)
 
 loop-less : tie.Need-loop-less Inv-loop μ-loop
 loop-less c =
@@ -213,10 +214,10 @@ stopped-requires-5 : tie.Need-stopped-requires-5 Inv-loop μ-loop
 stopped-requires-5 c κs = search needs
 
 same-length-9 : tie.Need-same-length-9 Inv-loop μ-loop
-same-length-9 c = put-length ((c .before .before .before .loop .inv) .put)
+same-length-9 c = put-length ((c .before .before .before .loop .inv) .so-far .put)
 
 same-length-10 : tie.Need-same-length-10 Inv-loop μ-loop
-same-length-10 c = (c .before .before .before .loop .inv) .work-size
+same-length-10 c = (c .before .before .before .loop .inv) .so-far .work-size
 
 returns-5 : tie.Need-returns-5 Inv-loop μ-loop
 returns-5 c =
@@ -230,10 +231,10 @@ stopped-requires-6 : tie.Need-stopped-requires-6 Inv-loop μ-loop
 stopped-requires-6 c κs = search needs
 
 same-length-11 : tie.Need-same-length-11 Inv-loop μ-loop
-same-length-11 c = put-length ((c .before .before .before .loop .inv) .put)
+same-length-11 c = put-length ((c .before .before .before .loop .inv) .so-far .put)
 
 same-length-12 : tie.Need-same-length-12 Inv-loop μ-loop
-same-length-12 c = (c .before .before .before .loop .inv) .work-size
+same-length-12 c = (c .before .before .before .loop .inv) .so-far .work-size
 
 returns-6 : tie.Need-returns-6 Inv-loop μ-loop
 returns-6 c =

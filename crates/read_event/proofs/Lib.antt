@@ -1,0 +1,5 @@
+pub mod Rows
+pub mod Judges
+pub mod Events
+pub mod Returns
+pub mod Steps

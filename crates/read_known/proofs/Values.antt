@@ -1,0 +1,176 @@
+-- The answers of the quick steps of events with a value.
+use Prim.Native.Nat.{ℕ, _+_, _<_}
+use native.Mathlib.Omega.{arith}
+use mathlib.Core.Path.{_≡_, refl, sym, ap, subst, _∙_}
+use mathlib.Core.Bool.{true, false, cond}
+use mathlib.Core.List.{List, _++_}
+use mathlib.Core.Option.{none, some}
+use lib.ListN.{take, drop}
+use Rattle.spec_fields.specs.Field.{Alignment}
+use Rattle.spec_exi.specs.Sizes.{maxValues, cellsPerEvent}
+use Rattle.spec_exi.specs.Settings.{Settings}
+use Rattle.spec_exi.specs.Event.{Kind, AT, CH}
+use Rattle.spec_exi.specs.Grammar.{kindNumber}
+use Rattle.event.specs.declared.Part.{Part}
+use Rattle.event.specs.declared.Event as declared
+use Rattle.event.specs.declared.Event.the-variants.{Attribute, Characters}
+use Rattle.event.specs.Cells.{cellsOf, meaning}
+use Rattle.mem_layout.specs.Layout.{nameRows}
+use Rattle.mem_rows.specs.Rows.{placedAt, modeAfter}
+use Rattle.mem_state.specs.declared.Core.{Core}
+use Rattle.mem_state.specs.declared.Joining.{Joining}
+use Rattle.mem_state.specs.Commit as commit
+use Rattle.mem_state.specs.Commit.{joinedUri, joinedName, joinedValue, joinedStrings, entered}
+use Rattle.mem_state.specs.Commit.{learnt, grown, topAfter, depthAfter}
+use Rattle.grammar_match.specs.Here.{siteIn}
+use Rattle.grammar_update.specs.Growth.{growthOf, fitsIn}
+use Rattle.read_partition.specs.declared.StringRead.{StringRead}
+use Rattle.read_values.specs.Values.{ValuePre, asValue, ValuePost, JoinsWithin}
+use Rattle.read_production.specs.declared.ProductionRead.{ProductionRead}
+use Rattle.read_qname.specs.Qnames.{joiningOf, partOf, carriedAs, Carried, NamePost}
+use Rattle.read_qname.proofs.Returns.{carried-read, as-carried}
+use Rattle.read_content.proofs.Contents.{kind-is}
+use Rattle.read_content.proofs.Returns.{name-asks, attribute-stops, attribute-read}
+use Rattle.read_content.proofs.Returns.{characters-refused, characters-read}
+use Rattle.read_event.specs.Judge.{CodeRead, judgeNumber}
+use Rattle.read_event.specs.Step.{steppedAs, StepPre, StepPost}
+use Rattle.read_known.specs.Known.{uriPart, localPart, movedOn, LearnedPre}
+use Rattle.read_known.proofs.Known.{knownStrings, moved-core, known-strict, content-pre, quick-refused}
+use Rattle.read_known.proofs.Known.{growth-by, quick-read}
+
+-- The cells of events with this one from a cell on.
+abbrev pub withEvent : List ℕ → ℕ → declared.Event → List ℕ
+withEvent events cell e =
+    take cell events ++ cellsOf (meaning e) ++ drop (cell + cellsPerEvent) events
+
+-- What the value's reader asks.
+module _ {stream events text work : List ℕ} {c : Core} {cell : ℕ}
+    (pre : StepPre stream events text work c cell) {k : Kind} {p : ProductionRead}
+    (known : LearnedPre k stream c p) where
+  pub value-asks : {owner : ℕ} → owner < nameRows
+      → ValuePre stream (p .next) text (c .stored) work (c .values) owner
+  value-asks low =
+      record {
+        literal = record {
+          size = pre .size;
+          place = known .next;
+          room = pre .room;
+          few = pre .bounded .stored;
+        };
+        room = pre .rows;
+        few = pre .bounded .values;
+        low = low;
+      }
+
+  -- Where it joins there is room.
+  pub join-asks : {text₁ : List ℕ} {x : StringRead} {owner : ℕ} {j : Joining}
+      → JoinsWithin (c .values) text₁ x → owner < nameRows → j ≡ joiningOf x
+      → commit.ValuePre work (c .values) owner j
+  unfolding maxValues
+  join-asks {owner = owner} joins low e =
+      subst (λ (l : Joining). commit.ValuePre work (c .values) owner l) (sym e)
+      (record { room = pre .rows; few = λ h. omega (arith, joins .left h); low = low })
+
+module _ {s : Settings} {stream events text work : List ℕ} {c : Core} {cell : ℕ}
+    (pre : StepPre stream events text work c cell) {p : ProductionRead}
+    (code : CodeRead s stream work c p) (learned : p .learned ≡ true)
+    {a : Alignment} (same : s .alignment ≡ a) {text₁ : List ℕ} {x : StringRead}
+    (joins : JoinsWithin (c .values) text₁ x) where
+  abbrev ValueRead : ℕ → Type 0
+  ValueRead owner =
+      ValuePost (s .alignment) asValue stream (p .next) text (c .stored) work (c .values) owner
+      text₁ x
+
+  -- The value in the settings' alignment.
+  as-set : {owner : ℕ}
+      → ValuePost a asValue stream (p .next) text (c .stored) work (c .values) owner text₁ x
+      → ValueRead owner
+  as-set {owner} post =
+      subst
+      (λ b. ValuePost b asValue stream (p .next) text (c .stored) work (c .values) owner text₁ x)
+      (sym same) post
+
+  -- A value that is refused leaves the store as it was.
+  same-store : {owner : ℕ} → ValueRead owner → 0 < x .number → x .stored ≡ c .stored
+  same-store post h = ap (λ (r : StringRead). r .stored) (post .refused h .is)
+
+  joined : (owner : ℕ) {j : Joining} {work′ : List ℕ} → j ≡ joiningOf x
+      → work′ ≡ joinedValue (c .values) owner j work
+      → work′ ≡ joinedValue (c .values) owner (joiningOf x) work
+  joined owner h e = e ∙ ap (λ (l : Joining). joinedValue (c .values) owner l work) h
+
+  stored : {f g : declared.Event} {events′ : List ℕ} → events′ ≡ withEvent events cell f → f ≡ g
+      → events′ ≡ withEvent events cell g
+  stored e h = e ∙ ap (withEvent events cell) h
+
+  -- ---- an attribute
+
+  module _ (kind : p .kind ≡ kindNumber AT)
+      (post : ValuePost a asValue stream (p .next) text (c .stored) work (c .values) (p .name) text₁
+      x) where
+    name-post : NamePost (s .alignment) true
+        (λ w. p .learned ≡ true → Carried w (p .name) (p .uri) (p .local))
+        (λ w. cond (p .learned) (some (placedAt w (p .name))) none) stream (p .next) text work c text
+        (carriedAs work (p .next) (c .stored) (p .name) (p .uri) (p .local))
+    name-post = as-carried learned (carried-read (name-asks (content-pre pre code)) true)
+
+    pub attribute-stopped : 0 < x .number
+        → StepPost s stream events text work c cell events text₁ work (steppedAs (x .number) c)
+    unfolding carriedAs
+    attribute-stopped h =
+        quick-refused pre code
+        (attribute-stops (content-pre pre code) name-post (kind-is AT kind) refl (as-set post) joins
+        h) h (same-store (as-set post) h)
+
+    pub attribute-stepped : x .number ≡ 0 → {v : Part} {f : declared.Event} {j : Joining}
+        {work′ events′ : List ℕ} → v ≡ partOf x
+        → f ≡ Attribute (uriPart work (p .uri)) (localPart work (p .local)) v
+        → events′ ≡ withEvent events cell f → j ≡ joiningOf x
+        → work′ ≡ joinedValue (c .values) (p .name) j work
+        → StepPost s stream events text work c cell events′ text₁ work′
+        (steppedAs 0
+        (movedOn c (x .next) (x .stored) (x .joins) false (c .mode) (c .top) (c .depth)))
+    unfolding carriedAs uriPart localPart growthOf fitsIn judgeNumber grown learnt entered
+        joinedStrings joinedUri joinedName modeAfter topAfter depthAfter kindNumber
+    attribute-stepped z u i e h w =
+        quick-read pre code
+        (attribute-read (content-pre pre code) name-post (kind-is AT kind) refl (as-set post) joins
+        z) refl (known-strict learned)
+        (growth-by work c (knownStrings (joiningOf x) (p .uri) (p .name) (p .name)) kind learned)
+        refl
+        (joined (p .name) h w)
+        (stored e
+        (i ∙ ap (Attribute (uriPart work (p .uri)) (localPart work (p .local))) u))
+        (moved-core c (x .next) (x .stored) (joiningOf x) (p .uri) (p .name) (p .name) false
+        (siteIn (c .mode) (c .top)) 3 (p .name) (p .uri))
+
+  -- ---- characters
+
+  module _ (kind : p .kind ≡ kindNumber CH)
+      (post : ValuePost a asValue stream (p .next) text (c .stored) work (c .values) (c .top) text₁
+      x) where
+    pub characters-stopped : 0 < x .number
+        → StepPost s stream events text work c cell events text₁ work (steppedAs (x .number) c)
+    characters-stopped h =
+        quick-refused pre code
+        (characters-refused (content-pre pre code) (as-set post) joins (kind-is CH kind) kind h) h
+        (same-store (as-set post) h)
+
+    pub characters-stepped : x .number ≡ 0 → {v : Part} {j : Joining} {work′ events′ : List ℕ}
+        {mode : ℕ} → v ≡ partOf x → events′ ≡ withEvent events cell (Characters v)
+        → j ≡ joiningOf x → work′ ≡ joinedValue (c .values) (c .top) j work
+        → mode ≡ modeAfter (kindNumber CH) (c .mode) (c .depth)
+        → StepPost s stream events text work c cell events′ text₁ work′
+        (steppedAs 0
+        (movedOn c (x .next) (x .stored) (x .joins) false mode (c .top) (c .depth)))
+    unfolding growthOf fitsIn judgeNumber grown learnt entered
+        joinedStrings joinedUri joinedName topAfter depthAfter kindNumber
+    characters-stepped z u e h w m =
+        quick-read pre code
+        (characters-read (content-pre pre code) (as-set post) joins (kind-is CH kind) kind z) refl
+        (known-strict learned)
+        (growth-by work c (knownStrings (joiningOf x) 0 0 (c .top)) kind learned) refl (joined (c .top) h w)
+        (stored e (ap Characters u))
+        (ap (λ n. movedOn c (x .next) (x .stored) (x .joins) false n (c .top) (c .depth)) m
+        ∙ moved-core c (x .next) (x .stored) (joiningOf x) 0 0 (c .top) false
+        (siteIn (c .mode) (c .top)) 5 0 0)
