@@ -16,7 +16,7 @@ use Rattle.spec_exi.specs.Event.{eqName}
 use Rattle.spec_exi.specs.Tables.{Placed, Tables, nameText, eventText}
 use Rattle.spec_exi.specs.Grammar.{kindNumber, Production, Code, fits, fitsName}
 use Rattle.spec_exi.specs.Grammar.{State}
-use Rattle.spec_exi.specs.Grammar.{sameCode, firstFit, codeOf}
+use Rattle.spec_exi.specs.Grammar.{sameCode, firstFit, codeOf, tagAllows}
 use Rattle.spec_exi.specs.Context.{levelsIn, after}
 use Rattle.spec_exi.specs.Lists.{withinGrammars}
 use Rattle.spec_exi.proofs.Codes.{eqName-refl}
@@ -39,12 +39,13 @@ use Rattle.grammar_update.proofs.Represented.{code-rows, inner-state}
 use Rattle.grammar_update.proofs.Events.{EventNamed, EventTaught, nameless, carried-is, carried-not}
 use Rattle.grammar_update.proofs.Events.{text-of}
 use Rattle.grammar_update.proofs.Events as update
+use Rattle.grammar_update.proofs.Allowed as update-allows
 use Rattle.read_production.specs.declared.ProductionRead.{ProductionRead}
 use Rattle.read_production.specs.Production.{IsCode, ProductionBounds}
 use Rattle.read_qname.specs.Qnames.{tablesAt}
 use Rattle.read_content.specs.declared.Content.{Content}
 use Rattle.read_content.specs.Contents.{ContentRows, ContentBounds, ContentMeans}
-use Rattle.read_event.specs.Judge.{LooseHere}
+use Rattle.read_event.specs.Judge.{LooseHere, allowedHere}
 use Rattle.read_event.proofs.Rows.{kind-text, name-text}
 
 -- ---- productions and names
@@ -161,6 +162,13 @@ module _ {work text : List ℕ} {c : Core} {w : Rows} {opened : List ℕ}
         (λ k.
         ap (λ o. fitsName o (nameOf e))
         (carried-none w (p .learned) (kindAt (p .kind)) (p .name) k) ∙ fits-any (nameOf e)))
+
+    -- ---- SHAPE
+
+    pub allows-is : ContentBounds c (y .strings)
+        → tagAllows (contextAt text c w opened .tag) e ≡ allowedHere work c p (y .strings)
+    allows-is bs =
+        update-allows.allows-is rep ahead (m .joins .valid) known (bs .name) (take (c .stored) text)
 
     -- ---- LOOSE
 

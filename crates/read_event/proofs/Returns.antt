@@ -7,13 +7,14 @@ use mathlib.Core.List.{List, map}
 use mathlib.Core.Option.{some}
 use lib.ListN.{length, take, drop, replicate}
 use Rattle.spec_fields.specs.Bits.{unpack}
-use Rattle.spec_fields.specs.Refusal.{numberOf, loose, limit}
+use Rattle.spec_fields.proofs.Tests.{split}
+use Rattle.spec_fields.specs.Refusal.{numberOf, shape, loose, limit}
 use Rattle.spec_fields.specs.Parser.{Parser, return, need, _>>=_, _>>_}
 use Rattle.spec_exi.specs.Sizes.{sizes}
 use Rattle.spec_exi.specs.Settings.{Settings}
 use Rattle.spec_exi.specs.Event.{Event, nameOf}
 use Rattle.spec_exi.specs.Tables.{Placed, Tables, eventText}
-use Rattle.spec_exi.specs.Grammar.{State, Production, Code, codeOf, sameCode}
+use Rattle.spec_exi.specs.Grammar.{State, Production, Code, codeOf, sameCode, tagAllows}
 use Rattle.spec_exi.specs.Context.{Context, levelsIn, after}
 use Rattle.spec_exi.specs.Lists.{withinGrammars}
 use Rattle.spec_exi.specs.Reader.{readCode, readContent, step}
@@ -40,10 +41,11 @@ use Rattle.read_content.specs.declared.Content.{Content}
 use Rattle.read_content.specs.Contents.{ContentPre, ContentMeans, ContentPost, carriedBy}
 use Rattle.read_event.specs.declared.Judged.{Judged}
 use Rattle.read_event.specs.declared.EventRead.{EventRead}
-use Rattle.read_event.specs.Judge.{judgeNumber, JudgePost, EventPre, refusedAs, EventBounds}
-use Rattle.read_event.specs.Judge.{EventPost}
+use Rattle.read_event.specs.Judge.{judgeNumber, allowedHere, JudgePost, EventPre, refusedAs}
+use Rattle.read_event.specs.Judge.{EventBounds, EventPost}
 use Rattle.read_event.proofs.Rows.{prepared, content-name}
-use Rattle.read_event.proofs.Events.{content-rows, same-code, other-code, fits-is, grows}
+use Rattle.read_event.proofs.Events.{content-rows, allows-is, same-code, other-code}
+use Rattle.read_event.proofs.Events.{fits-is, grows}
 use Rattle.read_event.proofs.Events.{left-valid, start-named, left-context, carried-some}
 
 -- ---- what is judged
@@ -62,27 +64,43 @@ module _ (s : Settings) (C : Context) (x : Code) (v : Event Placed × Tables) wh
   abbrev isStrict : Bool
   isStrict = sameCode (x .parts) (codeOf (levelsIn s C) (eventText (v .0)))
 
-  abbrev tests : Parser (Event Placed × Context)
-  tests =
+  abbrev isAllowed : Bool
+  isAllowed = tagAllows (C .tag) (eventText (v .0))
+
+  -- LOOSE, then the sizes.
+  abbrev later : Parser (Event Placed × Context)
+  later =
       need isStrict loose >> (need (withinGrammars sizes left) limit >> return (v .0, left))
 
-  tests-declined : {stream : List ℕ} {at : ℕ} (l f : Bool) → 0 < judgeNumber l f
+  abbrev tests : Parser (Event Placed × Context)
+  tests = need isAllowed shape >> later
+
+  tests-equal : {stream : List ℕ} {at : ℕ} → isAllowed ≡ false
+      → Declined tests stream at (numberOf shape)
+  tests-equal a = need-declined isAllowed shape _ a
+
+  later-declined : {stream : List ℕ} {at : ℕ} (l f : Bool) → 0 < judgeNumber l f
       → (l ≡ true → isStrict ≡ false) → (l ≡ false → isStrict ≡ true)
       → (l ≡ false → withinGrammars sizes left ≡ f)
-      → Declined tests stream at (judgeNumber l f)
+      → Declined later stream at (judgeNumber l f)
   unfolding judgeNumber
-  tests-declined true f h a b d = need-declined isStrict loose _ (a refl)
-  tests-declined false true h a b d = absurd (omega arith)
-  tests-declined false false h a b d =
+  later-declined true f h a b d = need-declined isStrict loose _ (a refl)
+  later-declined false true h a b d = absurd (omega arith)
+  later-declined false false h a b d =
       declined-as (need-true isStrict loose _ _ (b refl))
       (need-declined (withinGrammars sizes left) limit _ (d refl))
 
+  tests-declined : {stream : List ℕ} {at k : ℕ} → isAllowed ≡ true → Declined later stream at k
+      → Declined tests stream at k
+  tests-declined a d = declined-as (need-true isAllowed shape later _ a) d
+
   tests-passed : {stream : List ℕ} {at : ℕ} {good : Event Placed × Context → Type 0}
-      → at ≤ 8 * length stream → isStrict ≡ true → withinGrammars sizes left ≡ true
-      → good (v .0, left) → Outcome tests stream at 0 at good
-  tests-passed l a b h =
-      need-passed isStrict loose a
-      (need-passed (withinGrammars sizes left) limit b (return-outcome (v .0, left) h l))
+      → at ≤ 8 * length stream → isAllowed ≡ true → isStrict ≡ true
+      → withinGrammars sizes left ≡ true → good (v .0, left) → Outcome tests stream at 0 at good
+  tests-passed l o a b h =
+      need-passed isAllowed shape o
+      (need-passed isStrict loose a
+      (need-passed (withinGrammars sizes left) limit b (return-outcome (v .0, left) h l)))
 
 pub production-asks : {stream text work : List ℕ} {c : Core} → EventPre stream text work c
     → ProductionPre stream (c .at) (c .top) (c .learned) work
@@ -268,32 +286,50 @@ module _ {s : Settings} {stream text work : List ℕ} {c : Core}
                 → Outcome (step sizes s (C rep top)) stream (c .at) k (y .next) good
             after-content o = after-code rep top (outcome-then _ content-got o)
 
-          -- LOOSE, or a size that is passed.
+            allows : {o : Bool} → allowedHere work c p (y .strings) ≡ o
+                → isAllowed s (C rep top) (code-got rep top .value) (content-got .value) ≡ o
+            allows z =
+                allows-is rep (pre .bounded) top s (post₁ .bounds z₁) (code rep top) means own
+                (post₂ .bounds z₂) ∙ z
+
+            -- SHAPE, LOOSE, or a size that is passed.
+            abbrev DeclinedAs : ℕ → Type 0
+            DeclinedAs k =
+                Declined (tests s (C rep top) (code-got rep top .value) (content-got .value)) stream
+                (y .next) k
+
+            declined : 0 < j .number → DeclinedAs (j .number)
+            declined h =
+                let e = pre .bounded in
+                let b = post₁ .bounds z₁ in
+                let x = code rep top in
+                let d = post₂ .bounds z₂ in
+                split (allowedHere work c p (y .strings))
+                (λ z.
+                let t = judged .tested z in
+                let l = t .l-is in
+                subst DeclinedAs (sym (t .number-is))
+                (tests-declined s (C rep top) (code-got rep top .value) (content-got .value)
+                (allows z)
+                (later-declined s (C rep top) (code-got rep top .value) (content-got .value)
+                (t .l) (fitsIn c g) (omega (arith, t .number-is, h))
+                (other-code rep e top s b x means own l) (same-code rep e top s b x means own l)
+                (λ i.
+                ap (withinGrammars sizes) (left-context rep e top s b x means own l i d)
+                ∙ fits-is rep e top s b x means own l i d (take (y .stored) text₁)))))
+                (λ z.
+                subst DeclinedAs (sym (judged .equal z))
+                (tests-equal s (C rep top) (code-got rep top .value) (content-got .value)
+                (allows z)))
+
           pub judge-stops : 0 < j .number → {text₂ : List ℕ}
               → text₂ ≡ laidAt text₁ (c .stored) (replicate (y .stored - c .stored) 0)
               → EventPost s stream text work c text₂ (refusedAs (j .number) c)
           judge-stops h cl =
               dropped (j .number) h cl
               (λ w opened rep top.
-              let e = pre .bounded in
-              let b = post₁ .bounds z₁ in
-              let m = means rep top in
-              let l = judged .l-is in
               after-content rep top {good = λ _. Unit {0}}
-              (subst
-              (λ k. Outcome (tests s (C rep top) (code-got rep top .value)
-              (content-got rep top .value)) stream (y .next) k (y .next) (λ _. Unit {0}))
-              (sym (judged .number-is))
-              (refused-outcome
-              (tests-declined s (C rep top) (code-got rep top .value) (content-got rep top .value)
-              (judged .l) (fitsIn c g) (omega (arith, judged .number-is, h))
-              (other-code rep e top s b (code rep top) m (own rep top) l)
-              (same-code rep e top s b (code rep top) m (own rep top) l)
-              (λ z.
-              ap (withinGrammars sizes)
-              (left-context rep e top s b (code rep top) m (own rep top) l z (post₂ .bounds z₂))
-              ∙ fits-is rep e top s b (code rep top) m (own rep top) l z (post₂ .bounds z₂)
-              (take (y .stored) text₁))))) .refused h)
+              (refused-outcome (declined rep top h)) .refused h)
 
           abbrev readAs : EventRead
           readAs =
@@ -327,10 +363,18 @@ module _ {s : Settings} {stream text work : List ℕ} {c : Core}
                 uri = refl;
               }
 
+          passes : j .number ≡ 0 → allowedHere work c p (y .strings) ≡ true
+          unfolding numberOf
+          passes z =
+              split (allowedHere work c p (y .strings)) (λ o. o)
+              (λ o. absurd (omega (arith, judged .equal o, z)))
+
           -- The event.
           pub event-read : j .number ≡ 0 → EventPost s stream text work c text₁ readAs
           event-read z₃ =
-              let (l, f) = judge-none (judged .l) (fitsIn c g) (sym (judged .number-is) ∙ z₃) in
+              let a = passes z₃ in
+              let t = judged .tested a in
+              let (l, f) = judge-none (t .l) (fitsIn c g) (sym (t .number-is) ∙ z₃) in
               subst
               (λ (h : Growth). EventPost s stream text work c text₁
               (record {
@@ -352,13 +396,14 @@ module _ {s : Settings} {stream text work : List ℕ} {c : Core}
                     let b = post₁ .bounds z₁ in
                     let m = means rep top in
                     let o = own rep top in
-                    let i = judged .l-is in
+                    let i = t .l-is in
                     let d = post₂ .bounds z₂ in
                     let x = code rep top in
                     let ctx = left-context rep e top s b x m o i l d in
                     after-content rep top
                     (tests-passed s (C rep top) (code-got rep top .value)
-                    (content-got rep top .value) (post₂ .inside) (same-code rep e top s b x m o i l)
+                    (content-got rep top .value) (post₂ .inside) (allows rep top a)
+                    (same-code rep e top s b x m o i l)
                     (ap (withinGrammars sizes) ctx
                     ∙ fits-is rep e top s b x m o i l d (take (y .stored) text₁) ∙ f)
                     (record {

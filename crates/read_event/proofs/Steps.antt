@@ -5,7 +5,7 @@ use mathlib.Core.Path.{_≡_, refl, sym, ap, subst, _∙_}
 use mathlib.Core.List.{List, _++_, append-nil}
 use lib.ListN.{length, take, drop, replicate}
 use Rattle.spec_exi.specs.Sizes.{sizes, maxStore, maxUris, maxNames, maxValues, maxLearned}
-use Rattle.spec_exi.specs.Sizes.{cellsPerEvent}
+use Rattle.spec_exi.specs.Sizes.{maxEvents, cellsPerEvent}
 use Rattle.spec_exi.specs.Settings.{Settings}
 use Rattle.spec_exi.specs.Event.{Event}
 use Rattle.spec_exi.specs.Tables.{Placed}
@@ -34,8 +34,8 @@ use Rattle.read_event.specs.declared.EventRead.{EventRead}
 use Rattle.read_event.specs.Judge.{EventPre, EventPost, EventMeans}
 use Rattle.read_event.specs.Step.{steppedAs, StepPre, StepMeans, StepPost}
 
-module _ {stream events text work : List ℕ} {c : Core} {cell : ℕ}
-    (pre : StepPre stream events text work c cell) where
+module _ {stream events text work : List ℕ} {c : Core} {cell n : ℕ}
+    (pre : StepPre stream events text work c cell n) where
   pub event-asks : EventPre stream text work c
   event-asks =
       record {
@@ -46,10 +46,23 @@ module _ {stream events text work : List ℕ} {c : Core} {cell : ℕ}
         bounded = pre .bounded;
       }
 
+  -- Bounds are the same whatever the event's number.
+  pub numbered : {m : ℕ} → m < maxEvents → StepPre stream events text work c cell m
+  numbered h =
+      record {
+        size = pre .size;
+        place = pre .place;
+        room = pre .room;
+        rows = pre .rows;
+        cells = pre .cells;
+        bounded = pre .bounded;
+        early = h;
+      }
+
   module _ {s : Settings} {text′ : List ℕ} {r : EventRead}
       (post : EventPost s stream text work c text′ r) where
     pub step-refused : 0 < r .number
-        → StepPost s stream events text work c cell events text′ work
+        → StepPost s stream events text work c cell n events text′ work
         (steppedAs (r .number) c)
     step-refused h =
         record {
@@ -62,7 +75,7 @@ module _ {stream events text work : List ℕ} {c : Core} {cell : ℕ}
             cleared = post .refused h .1;
           };
           laid = λ z. absurd (omega arith);
-          meant = λ w opened rep top.
+          meant = λ w opened rep top late.
               refused-outcome (post .meant w opened rep top .refused h);
         }
 
@@ -95,8 +108,9 @@ module _ {stream events text work : List ℕ} {c : Core} {cell : ℕ}
             name = omega (arith, b .name, b .strings .name);
           }
 
-      pub after-asks : AfterPre c (r .growth)
-      after-asks = record { bounded = pre .bounded; stands = post .bounds z .stands }
+      pub after-asks : AfterPre c (r .growth) n
+      after-asks =
+          record { bounded = pre .bounded; early = pre .early; stands = post .bounds z .stands }
 
       stored-few : r .stored ≤ maxStore
       stored-few = let t = post .laid z in omega (arith, t .room, t .stored-is)
@@ -106,21 +120,21 @@ module _ {stream events text work : List ℕ} {c : Core} {cell : ℕ}
       module _ {w : Rows} {opened : List ℕ}
           (rep : Represents work (inStore text (c .stored)) c w opened) (top : Topped c opened) {v : Event Placed × Context}
           (m : EventMeans text′ c w opened r v) where
-        step-means : {events′ : List ℕ}
+        step-means : c .tag ≤ n + 1 → {events′ : List ℕ}
             → events′ ≡ take cell events ++ cellsOf (meaning (r .event))
             ++ drop (cell + cellsPerEvent) events
             → StepMeans events c cell opened events′ text′
             (grown c (r .growth) (joinedStrings c (r .strings) work))
-            (coreAfter c (r .next) (r .stored) (r .strings) (r .growth)) v
+            (coreAfter c (r .next) (r .stored) (r .strings) (r .growth) n) v
         unfolding turned counted
-        step-means e =
+        step-means late e =
             record {
               w = leaves (r .growth .kind) (r .growth .name) (r .growth .teaches)
                   (learntOf (r .growth)) (m .rows);
               opened′ = openedAfter (r .growth .kind) (r .growth .name) opened;
               after = left-represents (m .joins) (m .grows) (rep .counts) (rep .opens) join-asks
-                  (holds-grown (text-grown (pre .room) (post .laid z)) (rep .holds)) (m .valid)
-                  (m .named) (r .next) (r .stored);
+                  (holds-grown (text-grown (pre .room) (post .laid z)) (rep .holds)) (rep .marks)
+                  (m .valid) (m .named) (r .next) (r .stored) n late;
               turned = left-turned (r .strings) after-asks (rep .opens) top (r .next) (r .stored);
               context = m .context;
               cells = e
@@ -131,9 +145,9 @@ module _ {stream events text work : List ℕ} {c : Core} {cell : ℕ}
       step-post : {events′ : List ℕ}
           → events′ ≡ take cell events ++ cellsOf (meaning (r .event))
           ++ drop (cell + cellsPerEvent) events
-          → StepPost s stream events text work c cell events′ text′
+          → StepPost s stream events text work c cell n events′ text′
           (grown c (r .growth) (joinedStrings c (r .strings) work))
-          (steppedAs 0 (coreAfter c (r .next) (r .stored) (r .strings) (r .growth)))
+          (steppedAs 0 (coreAfter c (r .next) (r .stored) (r .strings) (r .growth) n))
       unfolding turned counted
       step-post {events′} e =
           let t = post .laid z in
@@ -159,8 +173,8 @@ module _ {stream events text work : List ℕ} {c : Core} {cell : ℕ}
               work-size = grown-size c (r .growth) (joinedStrings c (r .strings) work)
                   ∙ strings-size c (r .strings) work;
             };
-            meant = λ w opened rep top.
-                outcome-weaken (λ _ v m. step-means rep top m e)
+            meant = λ w opened rep top late.
+                outcome-weaken (λ _ v m. step-means rep top m late e)
                 (subst
                 (λ k. Outcome (step sizes s (contextAt text c w opened)) stream (c .at) k (r .next)
                 (EventMeans text′ c w opened r)) z (post .meant w opened rep top));
@@ -170,12 +184,12 @@ module _ {stream events text work : List ℕ} {c : Core} {cell : ℕ}
           → work₁ ≡ joinedStrings c (r .strings) work → work₂ ≡ grown c (r .growth) work₁
           → events′ ≡ take cell events ++ cellsOf (meaning (r .event))
           ++ drop (cell + cellsPerEvent) events
-          → d ≡ coreAfter c (r .next) (r .stored) (r .strings) (r .growth)
-          → StepPost s stream events text work c cell events′ text′ work₂
+          → d ≡ coreAfter c (r .next) (r .stored) (r .strings) (r .growth) n
+          → StepPost s stream events text work c cell n events′ text′ work₂
           (steppedAs 0 d)
       step-read {work₁} {work₂} {events′} {d} a b e f =
-          subst (λ (k : Core). StepPost s stream events text work c cell events′ text′ work₂
+          subst (λ (k : Core). StepPost s stream events text work c cell n events′ text′ work₂
           (steppedAs 0 k)) (sym f)
-          (subst (λ k. StepPost s stream events text work c cell events′ text′ k
-          (steppedAs 0 (coreAfter c (r .next) (r .stored) (r .strings) (r .growth))))
+          (subst (λ k. StepPost s stream events text work c cell n events′ text′ k
+          (steppedAs 0 (coreAfter c (r .next) (r .stored) (r .strings) (r .growth) n)))
           (sym (b ∙ ap (grown c (r .growth)) a)) (step-post e))

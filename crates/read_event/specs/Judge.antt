@@ -5,7 +5,7 @@ use mathlib.Core.Bool.{Bool, true, false, cond, not}
 use mathlib.Core.List.{List}
 use lib.ListN.{length, take}
 use lib.Dec.{eqb}
-use Rattle.spec_fields.specs.Refusal.{numberOf, loose, limit}
+use Rattle.spec_fields.specs.Refusal.{numberOf, shape, loose, limit}
 use Rattle.spec_exi.specs.Settings.{Settings}
 use Rattle.spec_exi.specs.Sizes.{sizes, maxStream, maxStore}
 use Rattle.spec_exi.specs.Event.{Event, mapEvent, SE}
@@ -26,7 +26,7 @@ use Rattle.mem_state.specs.Strung.{StringsJoin}
 use Rattle.mem_state.specs.Grows.{learntOf, Grows}
 use Rattle.grammar_codes.specs.Table.{Stands}
 use Rattle.grammar_match.specs.Found.{FoundHere}
-use Rattle.grammar_update.specs.Growth.{growthOf, fitsIn}
+use Rattle.grammar_update.specs.Growth.{growthOf, allowedIn, fitsIn}
 use Rattle.read_contract.specs.Outcome.{Outcome}
 use Rattle.read_literal.specs.Literal.{Cleared}
 use Rattle.read_production.specs.declared.ProductionRead.{ProductionRead}
@@ -55,13 +55,23 @@ pub record LooseHere (work : List ℕ) (c : Core) (p : ProductionRead) (s : Stri
 unfoldable pub judgeNumber : Bool → Bool → ℕ
 judgeNumber l f = cond l (numberOf loose) (cond f 0 (numberOf limit))
 
+-- LOOSE, then the sizes.
+pub record Tested (work : List ℕ) (c : Core) (p : ProductionRead) (s : Strings) (number : ℕ) :
+    Type 0 where
+  pub l : Bool
+  pub l-is : LooseHere work c p s l
+  pub number-is : number ≡ judgeNumber l (fitsIn c (growthOf work c (p .kind) (p .learned) s))
+
+-- The start tag may have the event: it is no second attribute of one name.
+abbrev pub allowedHere : List ℕ → Core → ProductionRead → Strings → Bool
+allowedHere work c p s = allowedIn work (c .tag) (p .kind) (s .«name_row»)
+
+-- SHAPE comes before the others.
 pub record JudgePost (work : List ℕ) (c : Core) (p : ProductionRead) (s : Strings) (r : Judged) :
     Type 0 where
   pub growth-is : r .growth ≡ growthOf work c (p .kind) (p .learned) s
-  pub l : Bool
-  pub l-is : LooseHere work c p s l
-  pub number-is : r .number ≡ judgeNumber l
-      (fitsIn c (growthOf work c (p .kind) (p .learned) s))
+  pub equal : allowedHere work c p s ≡ false → r .number ≡ numberOf shape
+  pub tested : allowedHere work c p s ≡ true → Tested work c p s (r .number)
 
 -- ---- an event
 

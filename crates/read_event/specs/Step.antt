@@ -5,7 +5,8 @@ use mathlib.Core.List.{List, _++_}
 use lib.ListN.{length, take, drop}
 use Rattle.text.specs.Text.{Text}
 use Rattle.spec_exi.specs.Settings.{Settings}
-use Rattle.spec_exi.specs.Sizes.{sizes, maxStream, maxStore, cellsPerEvent}
+use Rattle.spec_exi.specs.Sizes.{sizes, maxStream, maxStore, maxEvents}
+use Rattle.spec_exi.specs.Sizes.{cellsPerEvent}
 use Rattle.spec_exi.specs.Event.{Event, mapEvent}
 use Rattle.spec_exi.specs.Tables.{Placed, spanOf}
 use Rattle.spec_exi.specs.Context.{Context}
@@ -40,6 +41,7 @@ coreOf r =
       mode = r .mode;
       top = r .top;
       depth = r .depth;
+      tag = r .tag;
     }
 
 abbrev pub steppedAs : ℕ → Core → Stepped
@@ -56,16 +58,18 @@ steppedAs number c =
       mode = c .mode;
       top = c .top;
       depth = c .depth;
+      tag = c .tag;
     }
 
--- Bounds alone; the event's cells begin at this one.
-pub record StepPre (stream events text work : List ℕ) (c : Core) (cell : ℕ) : Type 0 where
+-- Bounds alone; the event's cells begin at this one, and n events have come before it.
+pub record StepPre (stream events text work : List ℕ) (c : Core) (cell n : ℕ) : Type 0 where
   pub size : length stream ≤ maxStream
   pub place : c .at ≤ 8 * length stream
   pub room : maxStore ≤ length text
   pub rows : workCells ≤ length work
   pub cells : cell + cellsPerEvent ≤ length events
   pub bounded : Bounded c
+  pub early : n < maxEvents
 
 -- ---- on every memory
 
@@ -79,8 +83,8 @@ pub record StepRefused (events text work : List ℕ) (c : Core) (events′ text�
 
 -- Nine cells are the event's; its literals are laid after the store; its strings and its growth are
 -- all that joins work memory, and the numbers are those after it.
-pub record StepLaid (events text work : List ℕ) (c : Core) (cell : ℕ) (events′ text′ work′ : List ℕ)
-    (r : Stepped) : Type 0 where
+pub record StepLaid (events text work : List ℕ) (c : Core) (cell n : ℕ)
+    (events′ text′ work′ : List ℕ) (r : Stepped) : Type 0 where
   pub row : List ℕ
   pub row-size : length row ≡ cellsPerEvent
   pub events-is : events′ ≡ take cell events ++ row ++ drop (cell + cellsPerEvent) events
@@ -93,7 +97,7 @@ pub record StepLaid (events text work : List ℕ) (c : Core) (cell : ℕ) (event
   pub work-size : length work′ ≡ length work
   pub core-is : coreOf r
       ≡ turned (counted (movedTo c (r .at) (r .stored)) strings growth) (growth .kind)
-      (growth .name)
+      (growth .name) n
 
 -- ---- by the definitions
 
@@ -108,13 +112,13 @@ pub record StepMeans (events : List ℕ) (c : Core) (cell : ℕ) (opened events�
   pub cells : events′
       ≡ take cell events ++ cellsOf (mapEvent spanOf (v .0)) ++ drop (cell + cellsPerEvent) events
 
-pub record StepPost (s : Settings) (stream events text work : List ℕ) (c : Core) (cell : ℕ)
+pub record StepPost (s : Settings) (stream events text work : List ℕ) (c : Core) (cell n : ℕ)
     (events′ text′ work′ : List ℕ) (r : Stepped) : Type 0 where
   pub bounded : Bounded (coreOf r)
   pub inside : r .at ≤ 8 * length stream
   pub refused : 0 < r .number → StepRefused events text work c events′ text′ work′ r
-  pub laid : r .number ≡ 0 → StepLaid events text work c cell events′ text′ work′ r
+  pub laid : r .number ≡ 0 → StepLaid events text work c cell n events′ text′ work′ r
   pub meant : (w : Rows) (opened : List ℕ)
-      → Represents work (inStore text (c .stored)) c w opened → Topped c opened
+      → Represents work (inStore text (c .stored)) c w opened → Topped c opened → c .tag ≤ n + 1
       → Outcome (step sizes s (contextAt text c w opened)) stream (c .at) (r .number)
       (r .at) (StepMeans events c cell opened events′ text′ work′ (coreOf r))

@@ -14,6 +14,7 @@ use mem_state::Strings;
 use read_production::ProductionRead;
 use refusal::LIMIT;
 use refusal::LOOSE;
+use refusal::SHAPE;
 use settings::Settings;
 
 // The number of the event's refusal or 0, and the numbers after the event, those of a core one by
@@ -30,6 +31,7 @@ pub struct Stepped {
     pub mode: u32,
     pub top: u32,
     pub depth: usize,
+    pub tag: u32,
 }
 
 // The answer of a step: a number, and the numbers after it.
@@ -48,6 +50,7 @@ pub fn answer(number: u32, c: Core) -> Stepped
         mode: c.mode,
         top: c.top,
         depth: c.depth,
+        tag: c.tag,
     }
 }
 
@@ -79,13 +82,19 @@ fn loose(c: Core, p: ProductionRead, s: Strings, work: &[u32]) -> bool
     grammar_match::find_learned(c.mode, c.top, p.kind, s.name_row, c.learned, work) != 0
 }
 
-// Judges an event after its content: LOOSE, then the sizes.
+// Judges an event after its content: a second attribute of one name, then LOOSE, then the sizes.
 fn judge(c: Core, p: ProductionRead, s: Strings, work: &[u32]) -> Judged
     requires { ⌜ GrowthPre (now work) c s ⌝ }
     requires { ⌜ p .learned ≡ false ⌝ }
     ensures { λ r. ⌜ JudgePost (now (work .entry)) c p s r ⌝ }
 {
     let growth = grammar_update::growth(c, p.kind, p.learned, s, work);
+    if !grammar_update::allows(c.tag, p.kind, s.name_row, work) {
+        return Judged {
+            number: SHAPE,
+            growth,
+        };
+    }
     if loose(c, p, s, work) {
         return Judged {
             number: LOOSE,

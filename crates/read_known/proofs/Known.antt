@@ -3,19 +3,25 @@
 use Prim.Native.Nat.{ℕ, _+_, _-_, _<_}
 use native.Mathlib.Omega.{arith}
 use mathlib.Core.Path.{_≡_, refl, sym, ap, subst, _∙_}
-use mathlib.Core.Bool.{Bool, true, false, cond, true≢false}
+use mathlib.Core.Bool.{Bool, true, false, cond, _&&_, not, true≢false}
 use mathlib.Core.List.{List, _++_}
 use lib.ListN.{take, drop, replicate}
+use lib.Dec.{eqb}
+use Rattle.spec_fields.specs.Refusal.{numberOf, shape}
 use Rattle.spec_exi.specs.Sizes.{cellsPerEvent}
 use Rattle.spec_exi.specs.Settings.{Settings}
+use Rattle.spec_exi.specs.Event.{AT}
+use Rattle.spec_exi.specs.Grammar.{kindNumber}
 use Rattle.event.specs.Cells.{cellsOf, meaning}
+use Rattle.mem_marks.specs.Marks.{markedIn}
 use Rattle.mem_rows.specs.Rows.{modeAfter}
 use Rattle.mem_state.specs.declared.Core.{Core}
 use Rattle.mem_state.specs.declared.Joining.{Joining}
 use Rattle.mem_state.specs.declared.Strings.{Strings}
 use Rattle.mem_state.specs.declared.Growth.{Growth}
 use Rattle.mem_state.specs.Commit.{joinedStrings, grown, counted, turned, topAfter, depthAfter}
-use Rattle.grammar_update.specs.Growth.{growthOf, fitsIn}
+use Rattle.mem_state.specs.Commit.{tagNumber}
+use Rattle.grammar_update.specs.Growth.{growthOf, allowedIn, fitsIn}
 use Rattle.grammar_update.specs.After.{coreAfter}
 use Rattle.read_literal.specs.Literal.{laidAt}
 use Rattle.read_literal.proofs.Store.{laid-none}
@@ -23,7 +29,8 @@ use Rattle.read_production.specs.declared.ProductionRead.{ProductionRead}
 use Rattle.read_qname.specs.Qnames.{noJoining}
 use Rattle.read_content.specs.declared.Content.{Content}
 use Rattle.read_content.specs.Contents.{ContentPre, ContentPost}
-use Rattle.read_event.specs.Judge.{CodeRead, LooseHere, judgeNumber, JudgePost, EventPre}
+use Rattle.read_event.specs.Judge.{CodeRead, LooseHere, judgeNumber, allowedHere, JudgePost}
+use Rattle.read_event.specs.Judge.{EventPre}
 use Rattle.read_event.specs.Step.{steppedAs, StepPre, StepPost}
 use Rattle.read_event.proofs.Returns.{content-asks, content-stops, judge-stops, event-read}
 use Rattle.read_event.proofs.Steps.{event-asks, step-refused, step-read}
@@ -48,14 +55,14 @@ knownStrings x uri name owner =
 
 -- An event with such strings, that teaches nothing.
 pub moved-core : (c : Core) (at stored : ℕ) (x : Joining) (uri name owner : ℕ) (enters : Bool)
-    (site kind named of : ℕ)
+    (site kind named of n : ℕ)
     → movedOn c at stored (x .joins) enters (modeAfter kind (c .mode) (c .depth))
-    (topAfter kind named (c .top)) (depthAfter kind (c .depth))
+    (topAfter kind named (c .top)) (depthAfter kind (c .depth)) (tagNumber kind n (c .tag))
     ≡ coreAfter c at stored
     (knownStrings x uri name owner)
-    (record { enters = enters; teaches = false; site = site; kind = kind; name = named; uri = of })
+    (record { enters = enters; teaches = false; site = site; kind = kind; name = named; uri = of }) n
 unfolding turned counted
-moved-core c at stored x uri name owner enters site kind named of =
+moved-core c at stored x uri name owner enters site kind named of n =
     λ t. record {
       at = at;
       stored = stored;
@@ -67,7 +74,25 @@ moved-core c at stored x uri name owner enters site kind named of =
       mode = modeAfter kind (c .mode) (c .depth);
       top = topAfter kind named (c .top);
       depth = depthAfter kind (c .depth);
+      tag = tagNumber kind n (c .tag);
     }
+
+-- ---- the start tag
+
+-- An event that is no attribute is allowed.
+pub other-allowed : (work : List ℕ) (tag name : ℕ) {kind k : ℕ} → kind ≡ k
+    → eqb k (kindNumber AT) ≡ false → allowedIn work tag kind name ≡ true
+unfolding allowedIn
+other-allowed work tag name e f =
+    ap (λ m. not (eqb m (kindNumber AT) && markedIn work tag name)) e
+    ∙ ap (λ b. not (b && markedIn work tag name)) f
+
+-- Of an attribute the mark decides.
+pub attribute-allowed : (work : List ℕ) (tag name : ℕ) {kind : ℕ} {m : Bool}
+    → kind ≡ kindNumber AT → m ≡ markedIn work tag name → allowedIn work tag kind name ≡ not m
+unfolding allowedIn kindNumber
+attribute-allowed work tag name e f =
+    ap (λ k. not (eqb k 3 && markedIn work tag name)) e ∙ ap not (sym f)
 
 -- ---- the step
 
@@ -83,8 +108,8 @@ pub known-strict : {work : List ℕ} {c : Core} {p : ProductionRead} {x : String
 known-strict l =
     record { learned = λ _. refl; fixed = λ f. absurd (true≢false (sym l ∙ f)) }
 
-module _ {s : Settings} {stream events text work : List ℕ} {c : Core} {cell : ℕ}
-    (pre : StepPre stream events text work c cell) {p : ProductionRead}
+module _ {s : Settings} {stream events text work : List ℕ} {c : Core} {cell n : ℕ}
+    (pre : StepPre stream events text work c cell n) {p : ProductionRead}
     (code : CodeRead s stream work c p) where
   abbrev asks : EventPre stream text work c
   asks = event-asks pre
@@ -103,29 +128,48 @@ module _ {s : Settings} {stream events text work : List ℕ} {c : Core} {cell : 
         (laid-none text₁ (c .stored))
 
     pub quick-refused : 0 < y .number → y .stored ≡ c .stored
-        → StepPost s stream events text work c cell events text₁ work (steppedAs (y .number) c)
+        → StepPost s stream events text work c cell n events text₁ work (steppedAs (y .number) c)
     quick-refused h e =
         step-refused pre
         (content-stops asks (code .post) (code .good) content h (none-laid e)) h
 
-    module _ (z : y .number ≡ 0) {l : Bool} (loose : LooseHere work c p (y .strings) l)
-        {g : Growth}
+    -- A second attribute of one name: what was laid is cleared.
+    pub quick-equal : y .number ≡ 0 → allowedHere work c p (y .strings) ≡ false → {text₂ : List ℕ}
+        → text₂ ≡ laidAt text₁ (c .stored) (replicate (y .stored - c .stored) 0)
+        → StepPost s stream events text work c cell n events text₂ work
+        (steppedAs (numberOf shape) c)
+    unfolding numberOf
+    quick-equal z a cl =
+        step-refused pre
+        (judge-stops asks (code .post) (code .good) content z
+        (record {
+          growth-is = refl;
+          equal = λ _. refl;
+          tested = λ t. absurd (true≢false (sym t ∙ a));
+        }) (omega arith) cl) (omega arith)
+
+    module _ (z : y .number ≡ 0) (allowed : allowedHere work c p (y .strings) ≡ true) {l : Bool}
+        (loose : LooseHere work c p (y .strings) l) {g : Growth}
         (growth-same : growthOf work c (p .kind) (p .learned) (y .strings) ≡ g) where
       judged : JudgePost work c p (y .strings)
           (record { number = judgeNumber l (fitsIn c g); growth = g })
       judged =
           record {
             growth-is = sym growth-same;
-            l = l;
-            l-is = loose;
-            number-is = ap (λ (x : Growth). judgeNumber l (fitsIn c x)) (sym growth-same);
+            equal = λ e. absurd (true≢false (sym allowed ∙ e));
+            tested = λ _. record {
+              l = l;
+              l-is = loose;
+              number-is = ap (λ (x : Growth). judgeNumber l (fitsIn c x)) (sym growth-same);
+            };
           }
 
       -- LOOSE, or a size that is passed.
-      pub quick-stopped : (n : ℕ) → judgeNumber l (fitsIn c g) ≡ n → 0 < n → y .stored ≡ c .stored
-          → StepPost s stream events text work c cell events text₁ work (steppedAs n c)
-      quick-stopped n i h e =
-          subst (λ m. StepPost s stream events text work c cell events text₁ work (steppedAs m c)) i
+      pub quick-stopped : (k : ℕ) → judgeNumber l (fitsIn c g) ≡ k → 0 < k → y .stored ≡ c .stored
+          → StepPost s stream events text work c cell n events text₁ work (steppedAs k c)
+      quick-stopped k i h e =
+          subst
+          (λ m. StepPost s stream events text work c cell n events text₁ work (steppedAs m c)) i
           (step-refused pre
           (judge-stops asks (code .post) (code .good) content z judged (omega (arith, i, h))
           (none-laid e)) (omega (arith, i, h)))
@@ -134,8 +178,8 @@ module _ {s : Settings} {stream events text work : List ℕ} {c : Core} {cell : 
           → work′ ≡ grown c g (joinedStrings c (y .strings) work)
           → events′ ≡ take cell events ++ cellsOf (meaning (y .event))
           ++ drop (cell + cellsPerEvent) events
-          → d ≡ coreAfter c (y .next) (y .stored) (y .strings) g
-          → StepPost s stream events text work c cell events′ text₁ work′ (steppedAs 0 d)
-      quick-read n a e d =
-          step-read pre (event-read asks (code .post) (code .good) content z judged n) refl refl a e
+          → d ≡ coreAfter c (y .next) (y .stored) (y .strings) g n
+          → StepPost s stream events text work c cell n events′ text₁ work′ (steppedAs 0 d)
+      quick-read i a e d =
+          step-read pre (event-read asks (code .post) (code .good) content z judged i) refl refl a e
           d

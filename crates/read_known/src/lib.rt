@@ -1,21 +1,28 @@
 // Quick steps: an event with a value, by a learned production, which carries its name (EXI 8.4.3).
 // Its strings but the value are known, and nothing is learned. What the functions ask and leave is
 // in specs/Known.antt.
+ghost use Prim.Native.Nat.{_+_, _<_};
 ghost use mathlib.Core.Path.{_≡_};
+ghost use Rattle.spec_exi.specs.Sizes.{maxEvents};
 ghost use Rattle.spec_exi.specs.Event.{AT, CH};
 ghost use Rattle.event.specs.declared.Event.the-variants.{Attribute};
 ghost use Rattle.mem_names.specs.Uris.{UriRow};
 ghost use Rattle.mem_names.specs.Names.{NameRow};
+ghost use Rattle.mem_marks.specs.Marks.{withMark};
+ghost use Rattle.mem_state.specs.Commit.{ValuePre, joinedValue};
 ghost use Rattle.mem_state.specs.Holds.{Bounded};
 ghost use Rattle.read_field.specs.View.{alignmentOf};
 ghost use Rattle.read_event.specs.Step.{steppedAs, StepPre};
 ghost use Rattle.read_known.specs.Known.{uriPart, localPart, movedOn, LearnedPre, KnownPost};
+ghost use Rattle.read_known.specs.Known.{AttributePost};
 use event::Event;
 use event::Part;
 use event_code::CH;
 use mem_state::Core;
+use mem_state::Joining;
 use read_event::Stepped;
 use read_production::ProductionRead;
+use refusal::SHAPE;
 
 // Where a URI lies, by its row.
 pub fn uri_part(work: &[u32], row: u32) -> Part
@@ -41,6 +48,14 @@ pub fn local_part(work: &[u32], row: u32) -> Part
     }
 }
 
+// The mark after an event that is no attribute, before which so many have come.
+pub fn next_tag(n: usize) -> u32
+    requires { ⌜ n < maxEvents ⌝ }
+    ensures { λ r. ⌜ r ≡ n + 2 ⌝ }
+{
+    n as u32 + 2
+}
+
 // The answer after an event that teaches no production: whether its value joins, and whether its
 // name gets a grammar.
 pub fn moved_on(
@@ -52,9 +67,10 @@ pub fn moved_on(
     mode: u32,
     top: u32,
     depth: usize,
+    tag: u32,
 ) -> Stepped
     requires { ⌜ Bounded c ⌝ }
-    ensures { λ r. ⌜ r ≡ steppedAs 0 (movedOn c at stored joins enters mode top depth) ⌝ }
+    ensures { λ r. ⌜ r ≡ steppedAs 0 (movedOn c at stored joins enters mode top depth tag) ⌝ }
 {
     Stepped {
         number: 0,
@@ -68,6 +84,7 @@ pub fn moved_on(
         mode,
         top,
         depth,
+        tag,
     }
 }
 
@@ -84,7 +101,17 @@ fn attribute(work: &[u32], uri: u32, local: u32, value: Part) -> Event
     Event::Attribute(u, l, value)
 }
 
-// Reads an attribute whose name is known.
+// Adds an attribute's value, which may join, and the mark of its name.
+fn keep(work: &mut [u32], values: u32, name: u32, tag: u32, x: Joining)
+    requires { ⌜ ValuePre (now work) values name x ⌝ }
+    ensures { λ _. ⌜
+        now (work .exit) ≡ withMark (joinedValue values name x (now (work .entry))) tag name ⌝ }
+{
+    mem_state::join_value(work, values, name, x);
+    mem_marks::mark(work, name, tag);
+}
+
+// Reads an attribute whose name is known; the second of one name is SHAPE.
 pub fn known_attribute(
     aligned: bool,
     stream: &[u8],
@@ -95,10 +122,10 @@ pub fn known_attribute(
     text: &mut [u32],
     work: &mut [u32],
 ) -> Stepped
-    requires { ⌜ StepPre (now stream) (now events) (now text) (now work) c cell ⌝ }
+    requires { ⌜ StepPre (now stream) (now events) (now text) (now work) c cell 0 ⌝ }
     requires { ⌜ LearnedPre AT (now stream) c p ⌝ }
     ensures { λ r. ⌜
-        KnownPost (alignmentOf aligned) (now (stream .entry)) (now (events .entry))
+        AttributePost (alignmentOf aligned) (now (stream .entry)) (now (events .entry))
         (now (text .entry)) (now (work .entry)) c cell p (now (events .exit)) (now (text .exit))
         (now (work .exit)) r ⌝ }
 {
@@ -115,10 +142,14 @@ pub fn known_attribute(
     if x.number != 0 {
         return read_event::answer(x.number, c);
     }
+    if mem_marks::is_marked(work, p.name, c.tag) {
+        read_literal::clear_cells(text, c.stored, x.stored - c.stored);
+        return read_event::answer(SHAPE, c);
+    }
     let event = attribute(work, p.uri, p.local, read_qname::part_of(x));
     event::store(event, events, cell);
-    mem_state::join_value(work, c.values, p.name, read_qname::joining(x));
-    moved_on(c, x.next, x.stored, x.joins, false, c.mode, c.top, c.depth)
+    keep(work, c.values, p.name, c.tag, read_qname::joining(x));
+    moved_on(c, x.next, x.stored, x.joins, false, c.mode, c.top, c.depth, c.tag)
 }
 
 // Reads characters, which are a value of the innermost element.
@@ -128,15 +159,16 @@ pub fn known_characters(
     p: ProductionRead,
     c: Core,
     cell: usize,
+    n: usize,
     events: &mut [u32],
     text: &mut [u32],
     work: &mut [u32],
 ) -> Stepped
-    requires { ⌜ StepPre (now stream) (now events) (now text) (now work) c cell ⌝ }
+    requires { ⌜ StepPre (now stream) (now events) (now text) (now work) c cell n ⌝ }
     requires { ⌜ LearnedPre CH (now stream) c p ⌝ }
     ensures { λ r. ⌜
         KnownPost (alignmentOf aligned) (now (stream .entry)) (now (events .entry))
-        (now (text .entry)) (now (work .entry)) c cell p (now (events .exit)) (now (text .exit))
+        (now (text .entry)) (now (work .entry)) c cell n p (now (events .exit)) (now (text .exit))
         (now (work .exit)) r ⌝ }
 {
     let x = read_values::read_value(
@@ -156,5 +188,6 @@ pub fn known_characters(
     event::store(Event::Characters(value), events, cell);
     mem_state::join_value(work, c.values, c.top, read_qname::joining(x));
     let mode = mem_state::mode_after(CH, c.mode, c.depth);
-    moved_on(c, x.next, x.stored, x.joins, false, mode, c.top, c.depth)
+    let tag = next_tag(n);
+    moved_on(c, x.next, x.stored, x.joins, false, mode, c.top, c.depth, tag)
 }

@@ -1,6 +1,6 @@
 -- What the events that were read, and where it stopped, come to: the definitions' answer, and the
 -- events that are complete.
-use Prim.Native.Nat.{ℕ, zero, suc, _+_, _-_, _<_}
+use Prim.Native.Nat.{ℕ, zero, suc, _+_, _-_, _≤_, _<_}
 use native.Mathlib.Omega.{arith}
 use native.Mathlib.Decide.{ℕ-discrete}
 use mathlib.Core.Path.{_≡_, refl, ap, _∙_}
@@ -70,9 +70,9 @@ module _ {s : Settings} {stream events text work : List ℕ} {st : State} {first
     {events′ text′ work′ : List ℕ} {r : Advanced}
     (p : AdvancePost s stream events text work st first events′ text′ work′ r) {w : Rows}
     (a : Represents work (inStore text (st .core .stored)) (st .core) w (openedIn st))
-    (b : Topped (st .core) (openedIn st)) where
+    (b : Topped (st .core) (openedIn st)) (d : st .core .tag ≤ first + 1) where
   abbrev run : Running s stream events text st first w events′ text′ work′ (r .state) (r .index)
-  run = p .progress .meant w a b
+  run = p .progress .meant w a b d
 
   abbrev reached : Context
   reached = contextAt text′ (r .state .core) (run .rows) (openedIn (r .state))
@@ -88,7 +88,7 @@ module _ {s : Settings} {stream events text work : List ℕ} {st : State} {first
 
   next-refused : 0 < r .number → r .index < maxEvents
       → Declined (step sizes s reached) stream (r .state .core .at) (r .number)
-  next-refused l h = p .refused l h .next (run .rows) (run .after) (run .topped)
+  next-refused l h = p .refused l h .next (run .rows) (run .after) (run .topped) (run .late)
 
   -- The first events may be read already, from c on; for none, c is the state's own context.
   module _ {c : Context} {bs : Bits} {es : List (Event Placed)}

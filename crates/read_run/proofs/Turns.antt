@@ -21,6 +21,7 @@ use Rattle.mem_rows.specs.Rows.{Rows, isOver, contextOf}
 use Rattle.mem_state.specs.declared.Core.{Core}
 use Rattle.mem_state.specs.Holds.{inStore, Topped, Represents, contextAt}
 use Rattle.mem_state.proofs.Joins.{holds-grown}
+use Rattle.grammar_update.proofs.Turns.{after-late}
 use Rattle.read_contract.specs.Outcome.{Declined, Gotten}
 use Rattle.read_literal.specs.Literal.{laidAt}
 use Rattle.read_literal.proofs.Store.{laid-none}
@@ -51,6 +52,7 @@ represents-text {c = c} e room h =
           (h .holds);
       counts = h .counts;
       opens = h .opens;
+      marks = h .marks;
     }
 
 -- ---- no event yet
@@ -81,13 +83,14 @@ progress-start s {events = events} {text} {st = st} {first} h =
             is = laid-none text (st .core .stored);
           };
       work-size = refl;
-      meant = λ w a b.
+      meant = λ w a b d.
           record {
             es = [];
             count = omega arith;
             rows = w;
             after = a;
             topped = b;
+            late = d;
             read = none-read;
             cells = laid-none events (cellsPerEvent * first);
           };
@@ -111,7 +114,7 @@ module _ {s : Settings} {stream events text work : List ℕ} {st : State} {first
   store-room : maxStore ≤ length text′
   store-room = omega (arith, pre .room, same-text)
 
-  pub turn-asks : n < maxEvents → StepPre stream events′ text′ work′ (t .core) (cellsPerEvent * n)
+  pub turn-asks : n < maxEvents → StepPre stream events′ text′ work′ (t .core) (cellsPerEvent * n) n
   unfolding cellsPerEvent eventCells
   turn-asks h =
       record {
@@ -121,6 +124,7 @@ module _ {s : Settings} {stream events text work : List ℕ} {st : State} {first
         rows = omega (arith, pre .rows, i .work-size);
         cells = omega (arith, pre .cells, same-events);
         bounded = i .bounded;
+        early = h;
       }
 
   pub turn-over : t .core .mode ≡ isOver
@@ -150,7 +154,7 @@ module _ {s : Settings} {stream events text work : List ℕ} {st : State} {first
         }
 
     module _ (h : n < maxEvents) {events″ text″ work″ : List ℕ} {r : Stepped}
-        (p : StepPost s stream events′ text′ work′ (t .core) (cellsPerEvent * n) events″ text″
+        (p : StepPost s stream events′ text′ work′ (t .core) (cellsPerEvent * n) n events″ text″
         work″ r) where
       module _ (some : r .number ≡ 0 → ⊥) where
         refusal : StepRefused events′ text′ work′ (t .core) events″ text″ work″ r
@@ -185,8 +189,8 @@ module _ {s : Settings} {stream events text work : List ℕ} {st : State} {first
                   };
               text-laid = text-left;
               work-size = ap length (refusal .work-is) ∙ i .work-size;
-              meant = λ w a b.
-                  let g = i .meant w a b in
+              meant = λ w a b d.
+                  let g = i .meant w a b d in
                   record {
                     es = g .es;
                     count = g .count;
@@ -198,6 +202,7 @@ module _ {s : Settings} {stream events text work : List ℕ} {st : State} {first
                         (g .rows) (openedIn t))
                         (sym (refusal .work-is)) (g .after));
                     topped = g .topped;
+                    late = g .late;
                     read = subst
                         (λ c. Steps s (contextAt text (st .core) w (openedIn st))
                         (drop (st .core .at) (unpack stream)) (g .es) c
@@ -207,17 +212,17 @@ module _ {s : Settings} {stream events text work : List ℕ} {st : State} {first
                   };
             }
 
-        refuses : Refuses s stream text″ work″ t (r .number)
+        refuses : Refuses s stream text″ work″ t n (r .number)
         refuses =
             record {
-              next = λ w a b.
+              next = λ w a b d.
                   subst (λ c. Declined (step sizes s c) stream (t .core .at) (r .number))
                   (sym (context-is w))
                   (p .meant w (openedIn t)
                   (represents-text (sym store-is) (omega (arith, store-room, i .bounded .stored))
                   (subst (λ (m : List ℕ). Represents m (inStore text″ (t .core .stored)) (t .core)
                   w (openedIn t))
-                  (refusal .work-is) a)) b .refused (omega (arith, some)));
+                  (refusal .work-is) a)) b d .refused (omega (arith, some)));
             }
 
         pub turn-refused : AdvancePost s stream events text work st first events″ text″ work″
@@ -234,7 +239,7 @@ module _ {s : Settings} {stream events text work : List ℕ} {st : State} {first
       -- ---- one event more
 
       module _ (z : r .number ≡ 0) where
-        laid : StepLaid events′ text′ work′ (t .core) (cellsPerEvent * n) events″ text″ work″ r
+        laid : StepLaid events′ text′ work′ (t .core) (cellsPerEvent * n) n events″ text″ work″ r
         laid = p .laid z
 
         -- These cells of the array are the open elements after the event.
@@ -255,18 +260,22 @@ module _ {s : Settings} {stream events text work : List ℕ} {st : State} {first
 
           module _ (w : Rows)
               (a : Represents work (inStore text (st .core .stored)) (st .core) w (openedIn st))
-              (b : Topped (st .core) (openedIn st)) where
+              (b : Topped (st .core) (openedIn st)) (d : st .core .tag ≤ first + 1) where
             abbrev before : Running s stream events text st first w events′ text′ work′ t n
-            before = i .meant w a b
+            before = i .meant w a b d
 
             abbrev reads : Gotten
                 (step sizes s (contextAt text′ (t .core) (before .rows) (openedIn t))) stream
                 (t .core .at) (r .at)
-            reads = p .meant (before .rows) (openedIn t) (before .after) (before .topped) .read z
+            reads =
+                p .meant (before .rows) (openedIn t) (before .after) (before .topped) (before .late)
+                .read z
 
             abbrev means : StepMeans events′ (t .core) (cellsPerEvent * n) (openedIn t) events″
                 text″ work″ (coreOf r) (reads .value)
-            means = p .meant (before .rows) (openedIn t) (before .after) (before .topped) .is z
+            means =
+                p .meant (before .rows) (openedIn t) (before .after) (before .topped) (before .late)
+                .is z
 
             opened-is : openedIn later ≡ means .opened′
             opened-is = kept .is (means .opened′) (means .turned)
@@ -276,6 +285,15 @@ module _ {s : Settings} {stream events text work : List ℕ} {st : State} {first
             represents =
                 subst (Represents work″ (inStore text″ (r .stored)) (coreOf r) (means .w))
                 (sym opened-is) (means .after)
+
+            late-still : r .tag ≤ n + 2
+            late-still =
+                let g = laid .growth in
+                omega (
+                  arith,
+                  ap (λ (k : Core). k .tag) (laid .core-is),
+                  after-late (t .core) (r .at) (r .stored) (laid .strings) g n (before .late),
+                )
 
             -- The innermost is a row of a name.
             row-low : 0 < r .depth → getD rows (r .depth - 1) 0 < nameRows
@@ -313,6 +331,7 @@ module _ {s : Settings} {stream events text work : List ℕ} {st : State} {first
                         is = λ d. last-top (r .depth) rows d
                             ∙ sym (inner ∙ innermost-is rows (r .depth) d (row-low d));
                       };
+                  late = omega (arith, late-still);
                   read = subst
                       (λ c. Steps s (contextAt text (st .core) w (openedIn st))
                       (drop (st .core .at) (unpack stream)) (before .es ++ reads .value .0 ∷ []) c

@@ -61,6 +61,7 @@ pub record Running (s : Settings) (stream events text : List ℕ) (st : State) (
   pub rows : Rows
   pub after : Represents work′ (inStore text′ (t .core .stored)) (t .core) rows (openedIn t)
   pub topped : Topped (t .core) (openedIn t)
+  pub late : t .core .tag ≤ n + 1
   pub read : Steps s (contextAt text (st .core) w (openedIn st))
       (drop (st .core .at) (unpack stream)) es
       (contextAt text′ (t .core) rows (openedIn t)) (drop (t .core .at) (unpack stream))
@@ -79,14 +80,14 @@ pub record Progress (s : Settings) (stream events text work : List ℕ) (st : St
   pub work-size : length work′ ≡ length work
   pub meant : (w : Rows)
       → Represents work (inStore text (st .core .stored)) (st .core) w (openedIn st)
-      → Topped (st .core) (openedIn st)
+      → Topped (st .core) (openedIn st) → st .core .tag ≤ first + 1
       → Running s stream events text st first w events′ text′ work′ t n
 
--- The next event is refused: whatever rows memory holds, by the definitions.
-pub record Refuses (s : Settings) (stream text work : List ℕ) (t : State) (number : ℕ)
+-- The event after n others is refused: whatever rows memory holds, by the definitions.
+pub record Refuses (s : Settings) (stream text work : List ℕ) (t : State) (n number : ℕ)
     : Type 0 where
   pub next : (w : Rows) → Represents work (inStore text (t .core .stored)) (t .core) w (openedIn t)
-      → Topped (t .core) (openedIn t)
+      → Topped (t .core) (openedIn t) → t .core .tag ≤ n + 1
       → Declined (step sizes s (contextAt text (t .core) w (openedIn t))) stream (t .core .at)
       number
 
@@ -100,4 +101,4 @@ pub record AdvancePost (s : Settings) (stream events text work : List ℕ) (st :
   -- A refusal: LIMIT after the last event that there may be, else that of the next event.
   pub full : 0 < r .number → r .index ≡ maxEvents → r .number ≡ numberOf limit
   pub refused : 0 < r .number → r .index < maxEvents
-      → Refuses s stream text′ work′ (r .state) (r .number)
+      → Refuses s stream text′ work′ (r .state) (r .index) (r .number)

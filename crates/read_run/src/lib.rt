@@ -53,7 +53,7 @@ pub fn advance(
         }
         let c = t.core;
         let cell = CELLS_PER_EVENT * n;
-        let r = read_step::step(o, stream, c, cell, events, text, work);
+        let r = read_step::step(o, stream, c, cell, n, events, text, work);
         if r.number != 0 {
             return stopped(r.number, n, t);
         }
@@ -74,6 +74,7 @@ pub fn advance(
             mode: r.mode,
             top,
             depth: after,
+            tag: r.tag,
         };
         t.core = d;
         n += 1;

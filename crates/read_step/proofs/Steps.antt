@@ -24,10 +24,16 @@ module _ {b : Bool} {s : Settings} {stream work : List ℕ} {c : Core} {p : Prod
   bounds : ProductionBounds (c .mode) p
   bounds = h .code .post .bounds (h .code .good)
 
-  pub tag-asks : {events text : List ℕ} {cell : ℕ} → StepPre stream events text work c cell
-      → (k : Kind) → p .kind ≡ kindNumber k → TagPre k events c cell p
+  pub tag-asks : {events text : List ℕ} {cell n : ℕ} → StepPre stream events text work c cell n
+      → (k : Kind) → p .kind ≡ kindNumber k → TagPre k events c cell n p
   tag-asks pre k e =
-      record { cells = pre .cells; bounded = pre .bounded; bounds = bounds; kind = e }
+      record {
+        cells = pre .cells;
+        bounded = pre .bounded;
+        bounds = bounds;
+        kind = e;
+        early = pre .early;
+      }
 
   -- The end tag in an element's content.
   module _ (e : eqb (p .kind) 4 && eqb (c .mode) 5 ≡ true) where

@@ -23,15 +23,16 @@ fn general(
     p: ProductionRead,
     c: Core,
     cell: usize,
+    n: usize,
     events: &mut [u32],
     text: &mut [u32],
     work: &mut [u32],
 ) -> Stepped
-    requires { ⌜ StepPre (now stream) (now events) (now text) (now work) c cell ⌝ }
+    requires { ⌜ StepPre (now stream) (now events) (now text) (now work) c cell n ⌝ }
     requires { ⌜ ByCode false (settingsFrom o) (now stream) (now work) c p ⌝ }
     ensures { λ r. ⌜
         StepPost (settingsFrom o) (now (stream .entry)) (now (events .entry)) (now (text .entry))
-        (now (work .entry)) c cell (now (events .exit)) (now (text .exit)) (now (work .exit)) r ⌝ }
+        (now (work .entry)) c cell n (now (events .exit)) (now (text .exit)) (now (work .exit)) r ⌝ }
 {
     let r = read_event::read_event(o, stream, p, c, text, work);
     if r.number != 0 {
@@ -41,7 +42,7 @@ fn general(
     mem_state::grow(work, c, r.growth);
     let event = r.event;
     event::store(event, events, cell);
-    let d = grammar_update::after(c, r.next, r.stored, r.strings, r.growth);
+    let d = grammar_update::after(c, r.next, r.stored, r.strings, r.growth, n);
     read_event::answer(0, d)
 }
 
@@ -52,22 +53,23 @@ fn learned(
     p: ProductionRead,
     c: Core,
     cell: usize,
+    n: usize,
     events: &mut [u32],
     text: &mut [u32],
     work: &mut [u32],
 ) -> Stepped
-    requires { ⌜ StepPre (now stream) (now events) (now text) (now work) c cell ⌝ }
+    requires { ⌜ StepPre (now stream) (now events) (now text) (now work) c cell n ⌝ }
     requires { ⌜ ByCode true (settingsFrom o) (now stream) (now work) c p ⌝ }
     ensures { λ r. ⌜
         StepPost (settingsFrom o) (now (stream .entry)) (now (events .entry)) (now (text .entry))
-        (now (work .entry)) c cell (now (events .exit)) (now (text .exit)) (now (work .exit)) r ⌝ }
+        (now (work .entry)) c cell n (now (events .exit)) (now (text .exit)) (now (work .exit)) r ⌝ }
 {
     let kind = p.kind;
     match kind {
-        SE => read_tags::known_element(p, c, cell, events, work),
+        SE => read_tags::known_element(p, c, cell, n, events, work),
         AT => read_known::known_attribute(o.aligned, stream, p, c, cell, events, text, work),
-        CH => read_known::known_characters(o.aligned, stream, p, c, cell, events, text, work),
-        _ => read_tags::known_end(p, c, cell, events),
+        CH => read_known::known_characters(o.aligned, stream, p, c, cell, n, events, text, work),
+        _ => read_tags::known_end(p, c, cell, n, events),
     }
 }
 
@@ -78,48 +80,51 @@ fn fixed(
     p: ProductionRead,
     c: Core,
     cell: usize,
+    n: usize,
     events: &mut [u32],
     text: &mut [u32],
     work: &mut [u32],
 ) -> Stepped
-    requires { ⌜ StepPre (now stream) (now events) (now text) (now work) c cell ⌝ }
+    requires { ⌜ StepPre (now stream) (now events) (now text) (now work) c cell n ⌝ }
     requires { ⌜ ByCode false (settingsFrom o) (now stream) (now work) c p ⌝ }
     ensures { λ r. ⌜
         StepPost (settingsFrom o) (now (stream .entry)) (now (events .entry)) (now (text .entry))
-        (now (work .entry)) c cell (now (events .exit)) (now (text .exit)) (now (work .exit)) r ⌝ }
+        (now (work .entry)) c cell n (now (events .exit)) (now (text .exit)) (now (work .exit)) r ⌝ }
 {
     if (p.kind == EE) & (c.mode == IN_ELEMENT) {
-        return read_tags::end_tag(p, c, cell, events, work);
+        return read_tags::end_tag(p, c, cell, n, events, work);
     }
     let kind = p.kind;
     match kind {
-        SD => read_tags::start_document(p, c, cell, events),
-        ED => read_tags::end_document(p, c, cell, events),
-        _ => general(o, stream, p, c, cell, events, text, work),
+        SD => read_tags::start_document(p, c, cell, n, events),
+        ED => read_tags::end_document(p, c, cell, n, events),
+        _ => general(o, stream, p, c, cell, n, events, text, work),
     }
 }
 
-// Reads one event after the core's position, and stores it in the nine cells from one on.
+// Reads one event after the core's position, before which n have come, and stores it in the nine
+// cells from one on.
 pub fn step(
     o: Settings,
     stream: &[u8],
     c: Core,
     cell: usize,
+    n: usize,
     events: &mut [u32],
     text: &mut [u32],
     work: &mut [u32],
 ) -> Stepped
-    requires { ⌜ StepPre (now stream) (now events) (now text) (now work) c cell ⌝ }
+    requires { ⌜ StepPre (now stream) (now events) (now text) (now work) c cell n ⌝ }
     ensures { λ r. ⌜
         StepPost (settingsFrom o) (now (stream .entry)) (now (events .entry)) (now (text .entry))
-        (now (work .entry)) c cell (now (events .exit)) (now (text .exit)) (now (work .exit)) r ⌝ }
+        (now (work .entry)) c cell n (now (events .exit)) (now (text .exit)) (now (work .exit)) r ⌝ }
 {
     let p = read_production::read_production(o, stream, c.at, c.mode, c.top, c.learned, work);
     if p.number != 0 {
         return read_event::answer(p.number, c);
     }
     if p.learned {
-        return learned(o, stream, p, c, cell, events, text, work);
+        return learned(o, stream, p, c, cell, n, events, text, work);
     }
-    fixed(o, stream, p, c, cell, events, text, work)
+    fixed(o, stream, p, c, cell, n, events, text, work)
 }

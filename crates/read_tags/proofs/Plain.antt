@@ -1,28 +1,30 @@
 -- The answers of the quick steps of events without strings.
-use Prim.Native.Nat.{ℕ, _-_, _<_}
+use Prim.Native.Nat.{ℕ, _+_, _-_, _<_}
 use native.Mathlib.Omega.{arith}
 use mathlib.Core.Path.{_≡_, refl, sym, ap, subst, _∙_}
 use mathlib.Core.Bool.{Bool, true, false, cond, _&&_, not, true≢false}
-use mathlib.Core.List.{List}
+use mathlib.Core.List.{List, _++_}
+use lib.ListN.{take, drop}
 use lib.Dec.{eqb, leb}
 use borrow.Author.Tests.{eq-eqb, ne-eqb}
 use Rattle.spec_fields.specs.Refusal.{numberOf, loose}
-use Rattle.spec_exi.specs.Sizes.{maxOpen, maxGrammars, maxLearned}
+use Rattle.spec_exi.specs.Sizes.{maxOpen, maxGrammars, maxLearned, cellsPerEvent}
 use Rattle.spec_exi.specs.Settings.{Settings}
-use Rattle.spec_exi.specs.Event.{Kind, SD, ED, SE, EE, startDocument, endDocument, endElement}
+use Rattle.spec_exi.specs.Event.{Kind, SD, ED, SE, AT, EE, startDocument, endDocument, endElement}
 use Rattle.spec_exi.specs.Event.{kindOf, mapEvent}
 use Rattle.spec_exi.specs.Grammar.{kindNumber}
 use Rattle.spec_exi.specs.Reader.{readContent}
 use Rattle.event.specs.declared.Event as declared
 use Rattle.event.specs.declared.Event.the-variants.{StartDocument, EndDocument, EndElement}
-use Rattle.event.specs.Cells.{meaning}
+use Rattle.event.specs.Cells.{cellsOf, meaning}
 use Rattle.event_code.specs.Numbers.{teachesIn, inTag, inElement}
+use Rattle.mem_marks.specs.Marks.{withMark}
 use Rattle.mem_learned.specs.Grammars.{flagIn}
 use Rattle.mem_rows.specs.Rows.{carries, modeAfter}
 use Rattle.mem_state.specs.declared.Core.{Core}
 use Rattle.mem_state.specs.declared.Growth.{Growth}
 use Rattle.mem_state.specs.Commit.{joinedUri, joinedName, joinedValue, joinedStrings, entered}
-use Rattle.mem_state.specs.Commit.{learnt, grown, topAfter, depthAfter}
+use Rattle.mem_state.specs.Commit.{learnt, marked, grown, topAfter, depthAfter, tagNumber}
 use Rattle.grammar_match.specs.Here.{siteIn}
 use Rattle.grammar_match.specs.Found.{FoundHere}
 use Rattle.grammar_match.proofs.Found.{found-outside}
@@ -36,14 +38,15 @@ use Rattle.read_event.specs.declared.Stepped.{Stepped}
 use Rattle.read_event.specs.Judge.{CodeRead, LooseHere, judgeNumber}
 use Rattle.read_event.specs.Step.{steppedAs, StepPre, StepPost}
 use Rattle.read_known.specs.Known.{movedOn}
-use Rattle.read_known.proofs.Known.{moved-core, known-strict, content-pre, quick-stopped}
-use Rattle.read_known.proofs.Known.{quick-read}
+use Rattle.read_known.proofs.Known.{moved-core, other-allowed, known-strict, content-pre}
+use Rattle.read_known.proofs.Known.{quick-stopped, quick-read}
 use Rattle.read_tags.specs.Tags.{TagPre, Stored, Plain, PlainPost, TagPost}
 
-module _ {s : Settings} {stream events text work : List ℕ} {c : Core} {cell : ℕ}
-    (pre : StepPre stream events text work c cell) {p : ProductionRead}
+module _ {s : Settings} {stream events text work : List ℕ} {c : Core} {cell n : ℕ}
+    (pre : StepPre stream events text work c cell n) {p : ProductionRead}
     (code : CodeRead s stream work c p) (k : Kind) (kind : p .kind ≡ kindNumber k)
-    (other : eqb (kindNumber k) (kindNumber SE) ≡ false) (plain : Plain work c p)
+    (other : eqb (kindNumber k) (kindNumber SE) ≡ false)
+    (free : eqb (kindNumber k) (kindNumber AT) ≡ false) (plain : Plain work c p)
     {e : declared.Event}
     (content : ContentPost (s .alignment) stream (p .next) text work c p text
     (plainAs e (p .next) (c .stored))) where
@@ -89,64 +92,87 @@ module _ {s : Settings} {stream events text work : List ℕ} {c : Core} {cell : 
   unfolding topAfter
   top-same = sym (ap (λ b. cond b 0 (c .top)) other)
 
+  tag-next : n + 2 ≡ tagNumber (kindNumber k) n (c .tag)
+  unfolding tagNumber
+  tag-next = sym (ap (λ b. cond b (c .tag) (n + 2)) free)
+
+  unmarked : work ≡ marked (c .tag) (kindNumber k) 0 work
+  unfolding marked
+  unmarked = sym (ap (λ b. cond b (withMark work (c .tag) 0) work) free)
+
   bare-stepped : {mode depth : ℕ} → mode ≡ modeAfter (kindNumber k) (c .mode) (c .depth)
       → depth ≡ depthAfter (kindNumber k) (c .depth) → {events′ : List ℕ} {r : Stepped}
-      → Stored e (p .next) mode depth events c cell events′ r
-      → StepPost s stream events text work c cell events′ text work r
+      → Stored e (p .next) mode depth events c cell n events′ r
+      → StepPost s stream events text work c cell n events′ text work r
   unfolding joinedStrings joinedUri joinedName joinedValue grown learnt entered
   bare-stepped m d {events′} h =
-      subst (λ (x : Stepped). StepPost s stream events text work c cell events′ text work x)
+      subst (λ (x : Stepped). StepPost s stream events text work c cell n events′ text work x)
       (sym (h .is))
-      (quick-read pre code content refl (plain .strict) growth-is passes refl (h .cells)
-      ((λ t. movedOn c (p .next) (c .stored) false false (m t) (top-same t) (d t))
+      (quick-read pre code content refl (other-allowed work (c .tag) 0 kind free) (plain .strict)
+      growth-is passes unmarked (h .cells)
+      ((λ t. movedOn c (p .next) (c .stored) false false (m t) (top-same t) (d t) (tag-next t))
       ∙ moved-core c (p .next) (c .stored) noJoining 0 0 0 false (siteIn (c .mode) (c .top))
-      (kindNumber k) 0 0))
+      (kindNumber k) 0 0 n))
+
+-- What is stored, by the mark after it.
+pub stored-as : {e : declared.Event} {at mode depth : ℕ} {events : List ℕ} {c : Core} {cell n : ℕ}
+    {events′ : List ℕ} {r : Stepped} {tag : ℕ}
+    → events′ ≡ take cell events ++ cellsOf (meaning e) ++ drop (cell + cellsPerEvent) events
+    → tag ≡ n + 2
+    → r ≡ steppedAs 0 (movedOn c at (c .stored) false false mode (c .top) depth tag)
+    → Stored e at mode depth events c cell n events′ r
+stored-as {at = at} {mode} {depth} {c = c} a t i =
+    record {
+      cells = a;
+      is = i
+          ∙ ap (λ m. steppedAs 0 (movedOn c at (c .stored) false false mode (c .top) depth m)) t;
+    }
 
 -- ---- by kind
 
 -- An end tag ends an element.
-pub some-open : {events : List ℕ} {c : Core} {cell : ℕ} {p : ProductionRead}
-    → TagPre EE events c cell p → 0 < c .depth
+pub some-open : {events : List ℕ} {c : Core} {cell n : ℕ} {p : ProductionRead}
+    → TagPre EE events c cell n p → 0 < c .depth
 unfolding kindNumber
 some-open pre =
     pre .bounded .fits .inner
     (pre .bounds .stands .inside (omega (arith, pre .kind)) (omega (arith, pre .kind)))
 
-module _ {events : List ℕ} {c : Core} {cell : ℕ} {p : ProductionRead} {events′ : List ℕ}
+module _ {events : List ℕ} {c : Core} {cell n : ℕ} {p : ProductionRead} {events′ : List ℕ}
     {r : Stepped} where
-  pub end-stepped : TagPre EE events c cell p → {mode : ℕ}
+  pub end-stepped : TagPre EE events c cell n p → {mode : ℕ}
       → mode ≡ modeAfter (kindNumber EE) (c .mode) (c .depth)
-      → Stored EndElement (p .next) mode (c .depth - 1) events c cell events′ r
-      → PlainPost events c cell p events′ r
+      → Stored EndElement (p .next) mode (c .depth - 1) events c cell n events′ r
+      → PlainPost events c cell n p events′ r
   unfolding kindNumber readContent meaning mapEvent kindOf carries depthAfter
   end-stepped pre m h =
       record {
         steps = λ s stream text work q code plain.
-            bare-stepped q code EE (pre .kind) refl plain
+            bare-stepped q code EE (pre .kind) refl refl plain
             (bare-read (content-pre q code) EndElement endElement EE (kind-is EE (pre .kind)) refl
             refl refl (λ s t st n. refl)) m refl h;
       }
 
-  pub start-stepped : TagPre SD events c cell p
-      → Stored StartDocument (p .next) 1 (c .depth) events c cell events′ r
-      → PlainPost events c cell p events′ r
+  pub start-stepped : TagPre SD events c cell n p
+      → Stored StartDocument (p .next) 1 (c .depth) events c cell n events′ r
+      → PlainPost events c cell n p events′ r
   unfolding kindNumber readContent meaning mapEvent kindOf carries depthAfter modeAfter
   start-stepped pre h =
       record {
         steps = λ s stream text work q code plain.
-            bare-stepped q code SD (pre .kind) refl plain
+            bare-stepped q code SD (pre .kind) refl refl plain
             (bare-read (content-pre q code) StartDocument startDocument SD (kind-is SD (pre .kind))
             refl refl refl (λ s t st n. refl)) refl refl h;
       }
 
-  pub over-stepped : TagPre ED events c cell p
-      → Stored EndDocument (p .next) 3 (c .depth) events c cell events′ r
-      → PlainPost events c cell p events′ r
+  pub over-stepped : TagPre ED events c cell n p
+      → Stored EndDocument (p .next) 3 (c .depth) events c cell n events′ r
+      → PlainPost events c cell n p events′ r
   unfolding kindNumber readContent meaning mapEvent kindOf carries depthAfter modeAfter
   over-stepped pre h =
       record {
         steps = λ s stream text work q code plain.
-            bare-stepped q code ED (pre .kind) refl plain
+            bare-stepped q code ED (pre .kind) refl refl plain
             (bare-read (content-pre q code) EndDocument endDocument ED (kind-is ED (pre .kind)) refl
             refl refl (λ s t st n. refl)) refl refl h;
       }
@@ -184,8 +210,8 @@ plain-outside {work} {c} {p} f low =
 
 -- ---- the end tag in an element's content
 
-module _ {events work : List ℕ} {c : Core} {cell : ℕ} {p : ProductionRead} {row : ℕ}
-    (pre : TagPre EE events c cell p) (fixed : p .learned ≡ false)
+module _ {events work : List ℕ} {c : Core} {cell n : ℕ} {p : ProductionRead} {row : ℕ}
+    (pre : TagPre EE events c cell n p) (fixed : p .learned ≡ false)
     (found : FoundHere work (c .mode) (c .top) (kindNumber EE) 0 (c .learned) row) where
   looks : (l : Bool) → l ≡ not (eqb row 0) → LooseHere work c p noStrings l
   looks l e =
@@ -200,19 +226,20 @@ module _ {events work : List ℕ} {c : Core} {cell : ℕ} {p : ProductionRead} {
       }
 
   pub end-loose : (row ≡ 0 → ⊥)
-      → TagPost events work c cell p events work (steppedAs (numberOf loose) c)
+      → TagPost events work c cell n p events work (steppedAs (numberOf loose) c)
   unfolding kindNumber readContent meaning mapEvent kindOf carries judgeNumber numberOf
   end-loose some =
       record {
         steps = λ s stream text q code.
             quick-stopped q code
             (bare-read (content-pre q code) EndElement endElement EE (kind-is EE (pre .kind)) refl
-            refl refl (λ s t st n. refl)) refl (looks true (sym (ap not (ne-eqb row 0 some)))) refl
-            (numberOf loose) refl (omega arith) refl;
+            refl refl (λ s t st n. refl)) refl (other-allowed work (c .tag) 0 (pre .kind) refl)
+            (looks true (sym (ap not (ne-eqb row 0 some)))) refl (numberOf loose) refl (omega arith)
+            refl;
       }
 
   pub end-strict : row ≡ 0 → c .mode ≡ inElement → {events′ : List ℕ} {r : Stepped}
-      → PlainPost events c cell p events′ r → TagPost events work c cell p events′ work r
+      → PlainPost events c cell n p events′ r → TagPost events work c cell n p events′ work r
   unfolding kindNumber teachesIn
   end-strict none inside h =
       record {

@@ -21,7 +21,7 @@ use Rattle.mem_rows.specs.Rows.{placedAt, modeAfter}
 use Rattle.mem_state.specs.declared.Core.{Core}
 use Rattle.mem_state.specs.declared.Strings.{Strings}
 use Rattle.mem_state.specs.Commit.{joinedUri, joinedName, joinedValue, joinedStrings, entered}
-use Rattle.mem_state.specs.Commit.{learnt, grown, topAfter, depthAfter}
+use Rattle.mem_state.specs.Commit.{learnt, marked, grown, topAfter, depthAfter, tagNumber}
 use Rattle.grammar_match.specs.Here.{siteIn}
 use Rattle.grammar_update.specs.Growth.{growthOf, fitsIn}
 use Rattle.read_production.specs.declared.ProductionRead.{ProductionRead}
@@ -35,7 +35,7 @@ use Rattle.read_event.specs.Judge.{CodeRead, judgeNumber}
 use Rattle.read_event.specs.Step.{steppedAs, StepPre}
 use Rattle.read_known.specs.Known.{uriPart, localPart, movedOn}
 use Rattle.read_known.proofs.Known.{knownStrings, moved-core, known-strict, content-pre, growth-by}
-use Rattle.read_known.proofs.Known.{quick-stopped, quick-read}
+use Rattle.read_known.proofs.Known.{other-allowed, quick-stopped, quick-read}
 use Rattle.read_tags.specs.Tags.{hasRoom, TagPre, TagPost}
 
 and-true : (a b : Bool) → a && b && true ≡ a && b
@@ -55,8 +55,8 @@ module _ {depth : ℕ} (grammars : ℕ) (enters : Bool) where
   room-left h =
       sym (ap (λ b. not b && not (enters && leb maxGrammars grammars)) (lt-leb maxOpen depth h))
 
-module _ {events : List ℕ} (work : List ℕ) {c : Core} {cell : ℕ} {p : ProductionRead}
-    (tag : TagPre SE events c cell p) (learned : p .learned ≡ true) {h enters room : Bool}
+module _ {events : List ℕ} (work : List ℕ) {c : Core} {cell n : ℕ} {p : ProductionRead}
+    (tag : TagPre SE events c cell n p) (learned : p .learned ≡ true) {h enters room : Bool}
     (has : h ≡ flagIn work (p .name)) (is : enters ≡ not h)
     (room-is : room ≡ hasRoom (c .depth) (c .grammars) enters) where
   abbrev strings : Strings
@@ -74,7 +74,7 @@ module _ {events : List ℕ} (work : List ℕ) {c : Core} {cell : ℕ} {p : Prod
         strings = strings;
       }
 
-  module _ {s : Settings} {stream text : List ℕ} (pre : StepPre stream events text work c cell)
+  module _ {s : Settings} {stream text : List ℕ} (pre : StepPre stream events text work c cell n)
       (code : CodeRead s stream work c p) where
     name-post : NamePost (s .alignment) false
         (λ w. p .learned ≡ true → Carried w (p .name) (p .uri) (p .local))
@@ -97,12 +97,13 @@ module _ {events : List ℕ} (work : List ℕ) {c : Core} {cell : ℕ} {p : Prod
       ∙ ap (hasRoom (c .depth) (c .grammars)) (sym enters-is) ∙ sym room-is
 
   pub element-limit : not room ≡ true
-      → TagPost events work c cell p events work (steppedAs (numberOf limit) c)
-  unfolding judgeNumber numberOf
+      → TagPost events work c cell n p events work (steppedAs (numberOf limit) c)
+  unfolding judgeNumber numberOf kindNumber
   element-limit full =
       record {
         steps = λ s stream text pre code.
-            quick-stopped pre code (content pre code) refl (known-strict learned)
+            quick-stopped pre code (content pre code) refl
+            (other-allowed work (c .tag) (p .name) (tag .kind) refl) (known-strict learned)
             (growth-by work c strings (tag .kind) learned) (numberOf limit)
             (ap (judgeNumber false) (fits-is ∙ not-true room full)) (omega arith) refl;
       }
@@ -110,23 +111,25 @@ module _ {events : List ℕ} (work : List ℕ) {c : Core} {cell : ℕ} {p : Prod
   pub element-stepped : not room ≡ false → {f : declared.Event} {work′ events′ : List ℕ}
       → f ≡ StartElement (uriPart work (p .uri)) (localPart work (p .local))
       → events′ ≡ take cell events ++ cellsOf (meaning f) ++ drop (cell + cellsPerEvent) events
-      → work′ ≡ entered enters (p .name) work
-      → TagPost events work c cell p events′ work′
+      → work′ ≡ entered enters (p .name) work → {m : ℕ} → m ≡ n + 2
+      → TagPost events work c cell n p events′ work′
       (steppedAs 0
-      (movedOn c (p .next) (c .stored) false enters 4 (p .name) (c .depth + 1)))
-  unfolding judgeNumber growthOf grown learnt joinedStrings joinedUri joinedName joinedValue
-      modeAfter topAfter depthAfter kindNumber
-  element-stepped left {f} {work′} {events′} e i w =
+      (movedOn c (p .next) (c .stored) false enters 4 (p .name) (c .depth + 1) m))
+  unfolding judgeNumber growthOf grown learnt marked joinedStrings joinedUri joinedName joinedValue
+      modeAfter topAfter depthAfter tagNumber kindNumber
+  element-stepped left {f} {work′} {events′} e i w h =
       record {
         steps = λ s stream text pre code.
-            quick-read pre code (content pre code) refl (known-strict learned)
+            quick-read pre code (content pre code) refl
+            (other-allowed work (c .tag) (p .name) (tag .kind) refl) (known-strict learned)
             (growth-by work c strings (tag .kind) learned)
             (ap (judgeNumber false) (fits-is ∙ not-false room left))
             (w ∙ ap (λ b. entered b (p .name) work) enters-is)
             (i
             ∙ ap (λ (x : declared.Event). take cell events ++ cellsOf (meaning x)
             ++ drop (cell + cellsPerEvent) events) e)
-            (ap (λ b. movedOn c (p .next) (c .stored) false b 4 (p .name) (c .depth + 1)) enters-is
+            ((λ t. movedOn c (p .next) (c .stored) false (enters-is t) 4 (p .name) (c .depth + 1)
+            (h t))
             ∙ moved-core c (p .next) (c .stored) noJoining (p .uri) (p .name) (p .name)
-            (not (flagIn work (p .name))) (siteIn (c .mode) (c .top)) 2 (p .name) (p .uri));
+            (not (flagIn work (p .name))) (siteIn (c .mode) (c .top)) 2 (p .name) (p .uri) n);
       }

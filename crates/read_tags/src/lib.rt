@@ -1,11 +1,11 @@
 // Quick steps: an event without a value that teaches nothing, as are elements by learned
 // productions, end tags in an element's content, and start and end of the document. What the
 // functions ask and leave is in specs/Tags.antt.
-ghost use Prim.Native.Nat.{_+_, _≤_};
+ghost use Prim.Native.Nat.{_+_, _≤_, _<_};
 ghost use mathlib.Core.Path.{_≡_};
 ghost use mathlib.Core.Bool.{true, false};
 ghost use lib.ListN.{length};
-ghost use Rattle.spec_exi.specs.Sizes.{cellsPerEvent};
+ghost use Rattle.spec_exi.specs.Sizes.{cellsPerEvent, maxEvents};
 ghost use Rattle.spec_exi.specs.Event.{SD, ED, SE, EE};
 ghost use Rattle.event.specs.declared.Event.the-variants.{StartElement};
 ghost use Rattle.event_code.specs.Numbers.{inElement};
@@ -57,14 +57,15 @@ pub fn known_element(
     p: ProductionRead,
     c: Core,
     cell: usize,
+    n: usize,
     events: &mut [u32],
     work: &mut [u32],
 ) -> Stepped
-    requires { ⌜ TagPre SE (now events) c cell p ⌝ }
+    requires { ⌜ TagPre SE (now events) c cell n p ⌝ }
     requires { ⌜ workCells ≤ length (now work) ⌝ }
     requires { ⌜ p .learned ≡ true ⌝ }
     ensures { λ r. ⌜
-        TagPost (now (events .entry)) (now (work .entry)) c cell p (now (events .exit))
+        TagPost (now (events .entry)) (now (work .entry)) c cell n p (now (events .exit))
         (now (work .exit)) r ⌝ }
 {
     let enters = !mem_learned::has_grammar(work, p.name);
@@ -74,6 +75,7 @@ pub fn known_element(
     let event = element(work, p.uri, p.local);
     event::store(event, events, cell);
     mem_state::enter(work, enters, p.name);
+    let tag = read_known::next_tag(n);
     read_known::moved_on(
         c,
         p.next,
@@ -83,6 +85,7 @@ pub fn known_element(
         IN_TAG,
         p.name,
         c.depth + 1,
+        tag,
     )
 }
 
@@ -96,21 +99,24 @@ fn bare(
     depth: usize,
     c: Core,
     cell: usize,
+    n: usize,
     events: &mut [u32],
 ) -> Stepped
     requires { ⌜ Bounded c ⌝ }
     requires { ⌜ cell + cellsPerEvent ≤ length (now events) ⌝ }
+    requires { ⌜ n < maxEvents ⌝ }
     ensures { λ r. ⌜
-        Stored event at mode depth (now (events .entry)) c cell (now (events .exit)) r ⌝ }
+        Stored event at mode depth (now (events .entry)) c cell n (now (events .exit)) r ⌝ }
 {
     event::store(event, events, cell);
-    read_known::moved_on(c, at, c.stored, false, false, mode, c.top, depth)
+    let tag = read_known::next_tag(n);
+    read_known::moved_on(c, at, c.stored, false, false, mode, c.top, depth, tag)
 }
 
 // An end tag.
-pub fn known_end(p: ProductionRead, c: Core, cell: usize, events: &mut [u32]) -> Stepped
-    requires { ⌜ TagPre EE (now events) c cell p ⌝ }
-    ensures { λ r. ⌜ PlainPost (now (events .entry)) c cell p (now (events .exit)) r ⌝ }
+pub fn known_end(p: ProductionRead, c: Core, cell: usize, n: usize, events: &mut [u32]) -> Stepped
+    requires { ⌜ TagPre EE (now events) c cell n p ⌝ }
+    ensures { λ r. ⌜ PlainPost (now (events .entry)) c cell n p (now (events .exit)) r ⌝ }
 {
     let mode = mem_state::mode_after(EE, c.mode, c.depth);
     bare(
@@ -120,30 +126,38 @@ pub fn known_end(p: ProductionRead, c: Core, cell: usize, events: &mut [u32]) ->
         c.depth - 1,
         c,
         cell,
+        n,
         events,
     )
 }
 
 // The end tag in an element's content, by a production that is not learned.
-pub fn end_tag(p: ProductionRead, c: Core, cell: usize, events: &mut [u32], work: &[u32]) -> Stepped
-    requires { ⌜ TagPre EE (now events) c cell p ⌝ }
+pub fn end_tag(
+    p: ProductionRead,
+    c: Core,
+    cell: usize,
+    n: usize,
+    events: &mut [u32],
+    work: &[u32],
+) -> Stepped
+    requires { ⌜ TagPre EE (now events) c cell n p ⌝ }
     requires { ⌜ workCells ≤ length (now work) ⌝ }
     requires { ⌜ p .learned ≡ false ⌝ }
     requires { ⌜ c .mode ≡ inElement ⌝ }
     ensures { λ r. ⌜
-        TagPost (now (events .entry)) (now (work .entry)) c cell p (now (events .exit))
+        TagPost (now (events .entry)) (now (work .entry)) c cell n p (now (events .exit))
         (now (work .entry)) r ⌝ }
 {
     if grammar_match::find_learned(c.mode, c.top, EE, 0, c.learned, work) != 0 {
         return read_event::answer(LOOSE, c);
     }
-    known_end(p, c, cell, events)
+    known_end(p, c, cell, n, events)
 }
 
 // The document's start.
-pub fn start_document(p: ProductionRead, c: Core, cell: usize, events: &mut [u32]) -> Stepped
-    requires { ⌜ TagPre SD (now events) c cell p ⌝ }
-    ensures { λ r. ⌜ PlainPost (now (events .entry)) c cell p (now (events .exit)) r ⌝ }
+pub fn start_document(p: ProductionRead, c: Core, cell: usize, n: usize, events: &mut [u32]) -> Stepped
+    requires { ⌜ TagPre SD (now events) c cell n p ⌝ }
+    ensures { λ r. ⌜ PlainPost (now (events .entry)) c cell n p (now (events .exit)) r ⌝ }
 {
     bare(
         Event::StartDocument,
@@ -152,14 +166,15 @@ pub fn start_document(p: ProductionRead, c: Core, cell: usize, events: &mut [u32
         c.depth,
         c,
         cell,
+        n,
         events,
     )
 }
 
 // The document's end.
-pub fn end_document(p: ProductionRead, c: Core, cell: usize, events: &mut [u32]) -> Stepped
-    requires { ⌜ TagPre ED (now events) c cell p ⌝ }
-    ensures { λ r. ⌜ PlainPost (now (events .entry)) c cell p (now (events .exit)) r ⌝ }
+pub fn end_document(p: ProductionRead, c: Core, cell: usize, n: usize, events: &mut [u32]) -> Stepped
+    requires { ⌜ TagPre ED (now events) c cell n p ⌝ }
+    ensures { λ r. ⌜ PlainPost (now (events .entry)) c cell n p (now (events .exit)) r ⌝ }
 {
     bare(
         Event::EndDocument,
@@ -168,6 +183,7 @@ pub fn end_document(p: ProductionRead, c: Core, cell: usize, events: &mut [u32])
         c.depth,
         c,
         cell,
+        n,
         events,
     )
 }

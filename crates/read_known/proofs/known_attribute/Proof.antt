@@ -1,15 +1,15 @@
-use Rattle.read_known.proofs.Values.{value-asks, join-asks, attribute-stopped}
-use Rattle.read_known.proofs.Values.{attribute-stepped}
-use Rattle.spec_exi.specs.Sizes.{cellsPerEvent}
 use native.Mathlib.Omega.{arith}
+use Rattle.spec_exi.specs.Sizes.{cellsPerEvent}
+use Rattle.spec_fields.specs.Refusal.{numberOf}
+use Rattle.read_event.proofs.Steps.{numbered}
+use Rattle.read_known.proofs.Values.{attribute-equal, attribute-stepped}
+use Rattle.read_known.proofs.Values.{value-asks, clear-asks, join-asks, attribute-stopped}
 use borrow.Author.Needs.{needs}
 use Rattle.read_known.proofs.known_attribute.Statement.{statement}
 use Rattle.read_known.proofs.known_attribute.Tie as tie
 
 read-value-requires : tie.Need-read-value-requires
-read-value-requires c κs =
-    let pre = c .before .before .before .before .before .before .pre in
-    value-asks (pre .0) (pre .1) (pre .1 .bounds .name)
+read-value-requires c κs = value-asks (c .before .before .before .before .before .before .pre .0) (c .before .before .before .before .before .before .pre .1) (c .before .before .before .before .before .before .pre .1 .bounds .name)
 
 answer-requires : tie.Need-answer-requires
 answer-requires c κs = search needs
@@ -21,96 +21,61 @@ same-length-2 : tie.Need-same-length-2
 same-length-2 c = search needs
 
 returns : tie.Need-returns
-returns c =
-    let pre = c .before .before .before .before .before .before .before .before .before .before
-    .before .before .pre in
-    let read-value = c .before .before .before .before .before .read-value in
-    let if1 = c .before .if1 in
-    rw (c .answer .ensures) (record {
-      steps = λ s a q. attribute-stopped (pre .0) q (pre .1
-          .learned) a (read-value .ensures .1) (pre .1 .kind) (read-value .ensures .0) (omega (
-            arith,
-            if1
-                .taken,
-          ));
-    })
+returns c = rw (c .answer .ensures) (record { numbered = λ n early. record { steps = λ s a q. attribute-stopped (numbered (c .before .before .before .before .before .before .before .before .before .before .before .before .pre .0) early) q (c .before .before .before .before .before .before .before .before .before .before .before .before .pre .1 .learned) a (c .before .before .before .before .before .read-value .ensures .1) (c .before .before .before .before .before .before .before .before .before .before .before .before .pre .1 .kind) (c .before .before .before .before .before .read-value .ensures .0) (omega (arith, c .before .if1 .taken)); }; })
 
-part-of-requires : tie.Need-part-of-requires
-part-of-requires c κs = search needs
+is-marked-requires : tie.Need-is-marked-requires
+is-marked-requires c κs = search needs
 
-attribute-requires : tie.Need-attribute-requires
-attribute-requires c κs =
-    let pre = c .before .before .before .before .before .before .before .before .before .before
-    .before .before .before .pre in (
-      record { room = pre .0 .rows; low = pre .1 .bounds .uri },
-      record {
-        room = pre .0 .rows;
-        low =
-            pre .1 .bounds .local;
-      },
-    )
+sub-clear-cells : tie.Need-sub-clear-cells
+sub-clear-cells c = clear-asks (c .before .before .before .before .before .before .before .before .before .before .before .before .before .before .before .before .before .pre .0) (c .before .before .before .before .before .before .before .before .before .before .before .before .before .before .before .before .before .pre .1) (c .before .before .before .before .before .before .before .before .before .before .read-value .ensures .0) (c .before .before .before .before .before .before .if1 .left) .0
 
-store-requires : tie.Need-store-requires
-unfolding cellsPerEvent
-store-requires c κs =
-    let pre = c .before .before .before .before .before .before .before .before .before .before
-    .before .before .before .before .before .pre in
-    pre .0 .cells
+clear-cells-requires : tie.Need-clear-cells-requires
+clear-cells-requires c κs = clear-asks (c .before .before .before .before .before .before .before .before .before .before .before .before .before .before .before .before .before .pre .0) (c .before .before .before .before .before .before .before .before .before .before .before .before .before .before .before .before .before .pre .1) (c .before .before .before .before .before .before .before .before .before .before .read-value .ensures .0) (c .before .before .before .before .before .before .if1 .left) .1
 
-joining-requires : tie.Need-joining-requires
-joining-requires c κs = search needs
-
-join-value-requires : tie.Need-join-value-requires
-join-value-requires c κs =
-    let pre = c .before .before .before .before .before .before .before .before .before .before
-    .before .before .before .before .before .before .before .before .before .before .pre in
-    let read-value = c .before .before .before .before .before .before .before .before .before
-    .before .before .before .before .read-value in
-    join-asks (pre .0) (pre .1) (read-value .ensures .1) (pre .1 .bounds .name) (c .joining
-    .ensures)
-
-moved-on-requires : tie.Need-moved-on-requires
-moved-on-requires c κs =
-    let pre = c .before .before .before .before .before .before .before .before .before .before
-    .before .before .before .before .before .before .before .before .before .before .before .before
-    .before .pre in
-    pre .0 .bounded
+answer-requires-2 : tie.Need-answer-requires-2
+answer-requires-2 c κs = search needs
 
 same-length-3 : tie.Need-same-length-3
 same-length-3 c = search needs
 
 same-length-4 : tie.Need-same-length-4
-same-length-4 c =
-    let text = c .before .before .before .before .before .before .before .before .before .before
-    .before .before .before .before .before .before .text in
-    text .given
+same-length-4 c = search needs
+
+returns-2 : tie.Need-returns-2
+unfolding numberOf
+returns-2 c = rw (c .answer2 .ensures) (record { numbered = λ n early. record { steps = λ s a q. attribute-equal (numbered (c .before .before .before .before .before .before .before .before .before .before .before .before .before .before .before .before .before .before .before .before .before .pre .0) early) q (c .before .before .before .before .before .before .before .before .before .before .before .before .before .before .before .before .before .before .before .before .before .pre .1 .learned) a (c .before .before .before .before .before .before .before .before .before .before .before .before .before .before .read-value .ensures .1) (c .before .before .before .before .before .before .before .before .before .before .before .before .before .before .before .before .before .before .before .before .before .pre .1 .kind) (c .before .before .before .before .before .before .before .before .before .before .before .before .before .before .read-value .ensures .0) (c .before .before .before .before .before .before .before .before .before .before .if1 .left) (c .before .before .before .before .before .before .before .before .is-marked .ensures) (c .before .before .before .before .before .before .before .if2 .taken) (c .before .before .before .clear-cells .ensures); }; })
+
+part-of-requires : tie.Need-part-of-requires
+part-of-requires c κs = search needs
+
+attribute-requires : tie.Need-attribute-requires
+attribute-requires c κs = (record { room = c .before .before .before .before .before .before .before .before .before .before .before .before .before .before .before .before .pre .0 .rows; low = c .before .before .before .before .before .before .before .before .before .before .before .before .before .before .before .before .pre .1 .bounds .uri }, record { room = c .before .before .before .before .before .before .before .before .before .before .before .before .before .before .before .before .pre .0 .rows; low = c .before .before .before .before .before .before .before .before .before .before .before .before .before .before .before .before .pre .1 .bounds .local })
+
+store-requires : tie.Need-store-requires
+unfolding cellsPerEvent
+store-requires c κs = c .before .before .before .before .before .before .before .before .before .before .before .before .before .before .before .before .before .before .pre .0 .cells
+
+joining-requires : tie.Need-joining-requires
+joining-requires c κs = search needs
+
+keep-requires : tie.Need-keep-requires
+keep-requires c κs = join-asks (c .before .before .before .before .before .before .before .before .before .before .before .before .before .before .before .before .before .before .before .before .before .before .before .pre .0) (c .before .before .before .before .before .before .before .before .before .before .before .before .before .before .before .before .before .before .before .before .before .before .before .pre .1) (c .before .before .before .before .before .before .before .before .before .before .before .before .before .before .before .before .read-value .ensures .1) (c .before .before .before .before .before .before .before .before .before .before .before .before .before .before .before .before .before .before .before .before .before .before .before .pre .1 .bounds .name) (c .joining .ensures)
+
+moved-on-requires : tie.Need-moved-on-requires
+moved-on-requires c κs = c .before .before .before .before .before .before .before .before .before .before .before .before .before .before .before .before .before .before .before .before .before .before .before .before .before .before .pre .0 .bounded
 
 same-length-5 : tie.Need-same-length-5
 same-length-5 c = search needs
 
-returns-2 : tie.Need-returns-2
+same-length-6 : tie.Need-same-length-6
+same-length-6 c = c .before .before .before .before .before .before .before .before .before .before .before .before .before .before .before .before .before .before .before .text .given
+
+same-length-7 : tie.Need-same-length-7
+same-length-7 c = search needs
+
+returns-3 : tie.Need-returns-3
 unfolding cellsPerEvent
-returns-2 c =
-    let pre = c .before .before .before .before .before .before .before .before .before .before
-    .before .before .before .before .before .before .before .before .before .before .before .before
-    .before .before .pre in
-    let read-value = c .before .before .before .before .before .before .before .before .before
-    .before .before .before .before .before .before .before .before .read-value in
-    let if1 = c .before .before .before .before .before .before .before .before .before .before
-    .before .before .before .if1 in
-    let part-of = c .before .before .before .before .before .before .before .before .before .before
-    .before .part-of in
-    let attribute = c .before .before .before .before .before .before .before .before .before
-    .before .attribute in
-    let store = c .before .before .before .before .before .before .before .before .store in
-    let joining = c .before .before .before .before .joining in
-    let join-value = c .before .before .before .join-value in
-    rw (c .moved-on .ensures) (record {
-      steps = λ s a q. attribute-stepped (pre .0) q (pre .1
-          .learned) a (read-value .ensures .1) (pre .1 .kind) (read-value .ensures .0) (if1 .left)
-          (part-of .ensures) (attribute .ensures) (store .ensures) (joining .ensures) (join-value
-          .ensures);
-    })
+returns-3 c = rw (c .moved-on .ensures) (record { numbered = λ n early. record { steps = λ s a q. attribute-stepped (numbered (c .before .before .before .before .before .before .before .before .before .before .before .before .before .before .before .before .before .before .before .before .before .before .before .before .before .before .before .pre .0) early) q (c .before .before .before .before .before .before .before .before .before .before .before .before .before .before .before .before .before .before .before .before .before .before .before .before .before .before .before .pre .1 .learned) a (c .before .before .before .before .before .before .before .before .before .before .before .before .before .before .before .before .before .before .before .before .read-value .ensures .1) (c .before .before .before .before .before .before .before .before .before .before .before .before .before .before .before .before .before .before .before .before .before .before .before .before .before .before .before .pre .1 .kind) (c .before .before .before .before .before .before .before .before .before .before .before .before .before .before .before .before .before .before .before .before .read-value .ensures .0) (c .before .before .before .before .before .before .before .before .before .before .before .before .before .before .before .before .if1 .left) (c .before .before .before .before .before .before .before .before .before .before .before .before .before .before .is-marked .ensures) (c .before .before .before .before .before .before .before .before .before .before .before .before .before .if2 .left) (c .before .before .before .before .before .before .before .before .before .before .before .part-of .ensures) (c .before .before .before .before .before .before .before .before .before .before .attribute .ensures) (c .before .before .before .before .before .before .before .before .store .ensures) (c .before .before .before .before .joining .ensures) (c .before .before .before .keep .ensures); }; })
 
 pub known-attribute-spec : {M : Type 1} → statement M
 known-attribute-spec =
@@ -121,13 +86,20 @@ known-attribute-spec =
     same-length
     same-length-2
     returns
+    is-marked-requires
+    sub-clear-cells
+    clear-cells-requires
+    answer-requires-2
+    same-length-3
+    same-length-4
+    returns-2
     part-of-requires
     attribute-requires
     store-requires
     joining-requires
-    join-value-requires
+    keep-requires
     moved-on-requires
-    same-length-3
-    same-length-4
     same-length-5
-    returns-2)
+    same-length-6
+    same-length-7
+    returns-3)

@@ -7,16 +7,16 @@ use Rattle.read_known.proofs.moved_on.Tie as tie
 one-requires : tie.Need-one-requires
 one-requires c κs = search needs
 
-add-t10 : tie.Need-add-t10
+add-t11 : tie.Need-add-t11
 unfolding maxValues
-add-t10 c = omega (arith, c .before .before .pre .values, c .before .one .ensures .most)
+add-t11 c = omega (arith, c .before .before .pre .values, c .before .one .ensures .most)
 
 one-requires-2 : tie.Need-one-requires-2
 one-requires-2 c κs = search needs
 
-add-t12 : tie.Need-add-t12
+add-t13 : tie.Need-add-t13
 unfolding maxGrammars
-add-t12 c =
+add-t13 c =
     let pre = c .before .before .before .before .pre in
     let one2 = c .before .one2 in
     omega (arith, pre .grammars, one2 .ensures .most)
@@ -25,4 +25,4 @@ returns : tie.Need-returns
 returns c = rw (c .before .before .before .one .ensures .is, c .before .one2 .ensures .is)
 
 pub moved-on-spec : {M : Type 1} → statement M
-moved-on-spec = tie.close (tie.spec one-requires add-t10 one-requires-2 add-t12 returns)
+moved-on-spec = tie.close (tie.spec one-requires add-t11 one-requires-2 add-t13 returns)

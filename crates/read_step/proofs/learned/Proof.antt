@@ -3,7 +3,9 @@ use Rattle.read_tags.proofs.Plain.{plain-learned}
 use Rattle.settings.specs.Meant.{settingsFrom}
 use Rattle.spec_exi.specs.Grammar.{kindNumber}
 use Rattle.spec_exi.specs.Event.{SE, AT, EE, CH}
+use Rattle.read_event.proofs.Steps.{numbered}
 use mathlib.Core.Path.{refl}
+use native.Mathlib.Omega.{arith}
 use borrow.Author.Needs.{needs}
 use Rattle.read_step.proofs.learned.Statement.{statement}
 use Rattle.read_step.proofs.learned.Tie as tie
@@ -20,7 +22,7 @@ unfolding kindNumber
 known-attribute-requires c κs =
     let pre = c .before .before .before .before .before .before .before .before .pre in
     let match = c .before .before .before .match in
-    (pre .0, learned-asks (pre .1) AT (match .keys2))
+    (numbered (pre .0) (omega (arith, pre .0 .early)), learned-asks (pre .1) AT (match .keys2))
 
 known-characters-requires : tie.Need-known-characters-requires
 unfolding kindNumber
@@ -64,7 +66,7 @@ returns-2 c =
     let pre = c .before .before .before .before .before .before .before .before .before .before
     .before .before .before .before .before .pre in
     let known-attribute = c .before .before .before .before .before .before .known-attribute in
-    known-attribute .ensures .steps _ refl ((pre .1) .code)
+    known-attribute .ensures .numbered _ (pre .0 .early) .steps _ refl ((pre .1) .code)
 
 same-length-6 : tie.Need-same-length-6
 same-length-6 c = c .before .before .before .before .before .events3 .given

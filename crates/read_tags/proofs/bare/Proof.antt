@@ -1,3 +1,4 @@
+use Rattle.read_tags.proofs.Plain.{stored-as}
 use Rattle.spec_exi.specs.Sizes.{cellsPerEvent}
 use borrow.Author.Needs.{needs}
 use Rattle.read_tags.proofs.bare.Statement.{statement}
@@ -5,17 +6,22 @@ use Rattle.read_tags.proofs.bare.Tie as tie
 
 store-requires : tie.Need-store-requires
 unfolding cellsPerEvent
-store-requires c κs = c .before .before .pre .1
+store-requires c κs = c .before .before .pre .1 .0
+
+next-tag-requires : tie.Need-next-tag-requires
+next-tag-requires c κs = c .before .before .before .before .before .pre .1 .1
 
 moved-on-requires : tie.Need-moved-on-requires
-moved-on-requires c κs = c .before .before .before .before .before .pre .0
+moved-on-requires c κs = c .before .before .before .before .before .before .pre .0
 
 same-length : tie.Need-same-length
-same-length c = c .before .before .events .given
+same-length c = c .before .before .before .events .given
 
 returns : tie.Need-returns
 unfolding cellsPerEvent
-returns c = record { cells = c .before .before .before .store .ensures; is = c .moved-on .ensures }
+returns c =
+    let store = c .before .before .before .before .store in
+    stored-as (store .ensures) (c .before .next-tag .ensures) (c .moved-on .ensures)
 
 pub bare-spec : {M : Type 1} → statement M
-bare-spec = tie.close (tie.spec store-requires moved-on-requires same-length returns)
+bare-spec = tie.close (tie.spec store-requires next-tag-requires moved-on-requires same-length returns)

@@ -54,42 +54,49 @@ enter-requires c κs =
     .before .before .before .pre in
     record { room = pre .1 .0; low = pre .0 .bounds .name }
 
+next-tag-requires : tie.Need-next-tag-requires
+next-tag-requires c κs =
+    let pre = c .before .before .before .before .before .before .before .before .before .before
+    .before .before .before .before .before .before .pre in
+    pre .0 .early
+
 add-moved-on : tie.Need-add-moved-on
 unfolding maxOpen
 add-moved-on c =
     let pre = c .before .before .before .before .before .before .before .before .before .before
-    .before .before .before .before .before .before .before .pre in
+    .before .before .before .before .before .before .before .before .pre in
     omega (arith, pre .0 .bounded .depth)
 
 moved-on-requires : tie.Need-moved-on-requires
 moved-on-requires c κs =
     let pre = c .before .before .before .before .before .before .before .before .before .before
-    .before .before .before .before .before .before .before .pre in
+    .before .before .before .before .before .before .before .before .pre in
     pre .0 .bounded
 
 same-length-2 : tie.Need-same-length-2
-same-length-2 c = c .before .before .before .before .before .before .before .events .given
+same-length-2 c = c .before .before .before .before .before .before .before .before .events .given
 
 same-length-3 : tie.Need-same-length-3
-same-length-3 c = c .before .before .before .work .given
+same-length-3 c = c .before .before .before .before .work .given
 
 returns-2 : tie.Need-returns-2
 unfolding cellsPerEvent
 returns-2 c =
     let pre = c .before .before .before .before .before .before .before .before .before .before
-    .before .before .before .before .before .before .before .before .pre in
+    .before .before .before .before .before .before .before .before .before .pre in
     let has-grammar = c .before .before .before .before .before .before .before .before .before
-    .before .before .before .before .before .has-grammar in
+    .before .before .before .before .before .before .has-grammar in
     let has-room = c .before .before .before .before .before .before .before .before .before
-    .before .before .before .before .has-room in
+    .before .before .before .before .before .has-room in
     let if1 = c .before .before .before .before .before .before .before .before .before .before
-    .before .before .if1 in
+    .before .before .before .if1 in
     let element = c .before .before .before .before .before .before .before .before .before .before
-    .element in
-    let store = c .before .before .before .before .before .before .before .before .store in
-    let enter = c .before .before .before .before .enter in
+    .before .element in
+    let store = c .before .before .before .before .before .before .before .before .before .store in
+    let enter = c .before .before .before .before .before .enter in
     rw (c .moved-on .ensures) (element-stepped _ (pre .0) (pre .1 .1) (has-grammar .ensures) refl
-    (has-room .ensures) (if1 .left) (element .ensures) (store .ensures) (enter .ensures))
+    (has-room .ensures) (if1 .left) (element .ensures) (store .ensures) (enter .ensures)
+    (c .before .before .next-tag .ensures))
 
 pub known-element-spec : {M : Type 1} → statement M
 known-element-spec =
@@ -103,6 +110,7 @@ known-element-spec =
     element-requires
     store-requires
     enter-requires
+    next-tag-requires
     add-moved-on
     moved-on-requires
     same-length-2

@@ -13,7 +13,7 @@ sub-bare c = some-open (c .before .before .before .pre)
 bare-requires : tie.Need-bare-requires
 bare-requires c κs =
     let pre = c .before .before .before .before .pre in
-    (pre .bounded, pre .cells)
+    (pre .bounded, (pre .cells, pre .early))
 
 same-length : tie.Need-same-length
 same-length c = c .before .events .given

@@ -4,7 +4,9 @@ use Rattle.read_tags.proofs.start_document.Statement.{statement}
 use Rattle.read_tags.proofs.start_document.Tie as tie
 
 bare-requires : tie.Need-bare-requires
-bare-requires c κs = (c .before .before .pre .bounded, c .before .before .pre .cells)
+bare-requires c κs =
+    let pre = c .before .before .pre in
+    (pre .bounded, (pre .cells, pre .early))
 
 same-length : tie.Need-same-length
 same-length c = c .before .events .given
