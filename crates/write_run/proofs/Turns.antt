@@ -234,8 +234,11 @@ module _ {s : Settings} {opening cells : List ℕ} {text : Text} {stream₀ work
     some-left : (x : Stored) × (xs : List Stored) × (drop n (eventsOf cells) ≡ x ∷ xs)
     some-left =
         split (ltb (length cells) (cell + 9))
-        (λ l. (none, [],
-        i .left ∙ events-cut cells cell inside (ltb-true (length cells) (cell + 9) l)))
+        (λ l. (
+          none,
+          [],
+          i .left ∙ events-cut cells cell inside (ltb-true (length cells) (cell + 9) l),
+        ))
         (λ l. (_, _, i .left ∙ events-at cells cell (ltb-false (length cells) (cell + 9) l)))
 
     pub too-many : n ≡ 4096
