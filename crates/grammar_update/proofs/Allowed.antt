@@ -2,15 +2,14 @@
 use Prim.Native.Nat.{ℕ, _<_}
 use native.Mathlib.Omega.{arith}
 use mathlib.Core.Path.{_≡_, sym, ap, _∙_}
-use mathlib.Core.Bool.{false, not}
+use mathlib.Core.Bool.{not}
 use mathlib.Core.List.{List}
-use mathlib.Core.Option.{none, some}
 use lib.Dec.{eqb}
-use borrow.Author.Tests.{eqb-true}
+use borrow.Author.Tests.{eqb-true, eqb-false}
 use Rattle.spec_fields.proofs.Tests.{split}
 use Rattle.text.specs.Text.{Text}
 use Rattle.spec_exi.specs.Event.{Event}
-use Rattle.spec_exi.specs.Grammar.{kindNumber, hasName, Tag, isAttribute, attributeName, tagAllows}
+use Rattle.spec_exi.specs.Grammar.{kindNumber, hasName, Tag, tagAllows}
 use Rattle.spec_exi.proofs.Attributes.{tag-attribute, tag-other}
 use Rattle.mem_layout.specs.Layout.{nameRows}
 use Rattle.mem_rows.specs.Rows.{Rows, nameAt, tagIn, isAmong, contextOf}
@@ -23,16 +22,6 @@ use Rattle.mem_state.specs.Holds.{Stores, Ahead, Represents}
 use Rattle.mem_state.proofs.Taught.{ahead-kept}
 use Rattle.grammar_update.specs.Growth.{allowedIn}
 use Rattle.grammar_update.proofs.Events.{EventNamed, named-low, named-as}
-
-module _ {v : Rows} {mode : ℕ} {s : Strings} {kind : ℕ} {e : Event Text}
-    (known : EventNamed v mode s kind e) where
-  attribute-name : kind ≡ 3 → attributeName e ≡ some (nameAt v (s .«name_row»))
-  unfolding attributeName isAttribute kindNumber
-  attribute-name k = rw (known .kind-is, k) (named-as known (omega arith) (omega arith))
-
-  no-attribute : eqb kind 3 ≡ false → attributeName e ≡ none
-  unfolding attributeName isAttribute kindNumber
-  no-attribute t = rw (known .kind-is, t)
 
 -- The strings of the event are ahead of memory: its name may be a new row, which has no mark.
 pub allows-is : {work : List ℕ} {from : Stores} {c : Core} {w v : Rows} {opened : List ℕ}
@@ -47,10 +36,13 @@ allows-is {w = w} {v} {s = s} {kind} {e} rep ahead valid known low store =
     split (eqb kind 3)
     (λ t.
     let k : kind ≡ 3 = eqb-true kind 3 t in
-    tag-attribute (tagIn w) e (nameAt v row) (attribute-name known k) .1
+    tag-attribute (tagIn w) e (known .kind-is ∙ k) (nameAt v row)
+    (named-as known (omega arith) (omega arith)) .1
     ∙ ap not (ap (λ (z : Tag). hasName (z .attributes) (nameAt v row))
     (sym (tag-kept (ahead-kept ahead r) r (ahead .attributes)))
     ∙ has-attribute valid row (named-low known (omega arith) (omega arith))
     ∙ ap (isAmong row) (ahead .attributes) ∙ sym (rep .marks .are row low))
     ∙ rw t)
-    (λ t. tag-other (tagIn w) e (no-attribute known t) .1 ∙ rw t)
+    (λ t.
+    let k = eqb-false kind 3 t in
+    tag-other (tagIn w) e (λ h. k (sym (known .kind-is) ∙ h)) .1 ∙ rw t)
