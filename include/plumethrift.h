@@ -149,7 +149,7 @@ enum plumethrift_refusal {
   PLUMETHRIFT_NAME = 11,     /* empty name or target; attribute nil or type of XMLSchema-instance */
   PLUMETHRIFT_LIMIT = 12,    /* one of the sizes above would be passed */
   PLUMETHRIFT_TAIL = 13,     /* a pad bit is 1, or octets follow the end */
-  PLUMETHRIFT_SHAPE = 14,    /* writer: kinds or order of events break a well-formed list */
+  PLUMETHRIFT_SHAPE = 14,    /* two equal attributes in a start tag; writer: no well-formed list */
   PLUMETHRIFT_PLACE = 15,    /* writer: a string's place plus length passes the store's length */
 
   /* readings alone */
@@ -180,7 +180,7 @@ typedef struct plumethrift_name {
 /*
  * Reads the stream of `stream_octets` octets. `events`, `text` and `work` are lent for writing, at
  * least PLUMETHRIFT_EVENT_CELLS, PLUMETHRIFT_TEXT_CELLS and PLUMETHRIFT_READER_WORK_CELLS cells.
- * Refusals 1 to 13.
+ * Refusals 1 to 14.
  *
  * On success the list is well-formed, every string in it lies inside the code points counted, and
  * each of those is an XML 1.0 Char. The store begins with the 99 of the initial URIs and local
@@ -200,7 +200,8 @@ plumethrift_read_reply plumethrift_read(plumethrift_settings settings,
  *
  * A well-formed list is: start document; comments and instructions; one element, balanced; comments
  * and instructions; end document; nothing after. Attributes come before any other event in their
- * element. Kinds that the settings drop are not allowed.
+ * element, and no two of one start tag have the same URI and local name. Kinds that the settings
+ * drop are not allowed.
  */
 plumethrift_write_reply plumethrift_write(plumethrift_settings settings,
                                           uint8_t *stream, size_t stream_octets,

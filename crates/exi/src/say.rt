@@ -52,7 +52,7 @@ fn meaning(number: u32) {
         ),
         12 => tell(b"a table, a string or a count would pass its fixed size"),
         13 => tell(b"a pad bit is 1, or octets follow the end"),
-        14 => tell(b"kinds or order of events break the rules of a list"),
+        14 => tell(b"a start tag has two attributes of one name, or events break a list's rules"),
         15 => tell(b"a string lies outside its store"),
         16 => tell(b"not the root readings, its children r, and their attributes t and um alone"),
         17 => tell(b"no stamp YYYY-MM-DDThh:mm:ss.mmmZ of the years 2000 to 2099"),

@@ -57,7 +57,7 @@ module _ {s : Settings} {stream events text work : List ℕ} {st : State}
 
   module _ {w : Rows} (h : BodyReady events text work st w) where
     abbrev run : Running s stream events text st 0 w events′ text′ work′ (r .state) (r .index)
-    run = p .progress .meant w (h .represents) (h .topped)
+    run = p .progress .meant w (h .represents) (h .topped) (h .late)
 
     count : length (run .es) ≡ r .index
     count = omega (arith, run .count)
@@ -67,7 +67,7 @@ module _ {s : Settings} {stream events text work : List ℕ} {st : State}
         (contextAt text′ (r .state .core) (run .rows) (openedIn (r .state)))
         (drop (r .state .core .at) (unpack stream)) (r .number)
     answers =
-        running-answers p (h .represents) (h .topped) none-read refl
+        running-answers p (h .represents) (h .topped) (h .late) none-read refl
         (context-going (pre .bounded) (h .represents) _ (h .going))
 
   pub run-refused : (r .number ≡ 0 → ⊥) → {reply : declared.BodyReply}

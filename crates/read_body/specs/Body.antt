@@ -26,6 +26,7 @@ pub record PlaceIn (stream : List ℕ) (at : ℕ) : Type 0 where
 pub record BodyReady (events text work : List ℕ) (st : State) (w : Rows) : Type 0 where
   pub represents : Represents work (inStore text (st .core .stored)) (st .core) w (openedIn st)
   pub topped : Topped (st .core) (openedIn st)
+  pub late : st .core .tag ≤ 1
   pub going : st .core .mode ≡ isOver → ⊥
   pub none : events ≡ replicate (length events) 0
   pub zeros : ZeroFrom text (st .core .stored)

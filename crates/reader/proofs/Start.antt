@@ -95,6 +95,7 @@ module _ {stream events text work : List ℕ} (h : StreamReady stream events tex
           represents = start-represents work₁ (omega (arith, h .rows, same₁)) zeros
               (store-sourced text text-asks) at;
           topped = start-topped at;
+          late = omega arith;
           going = λ e. omega arith;
           none = h .cleared .noEvents;
           zeros = text-zeros text (h .cleared .noText) text-asks (ap length (sym laid) ∙ same);
