@@ -11,6 +11,7 @@ use Rattle.spec_exi.proofs.WriterReplies as writer
 use Rattle.spec_exi.proofs.Packets as packets
 use Rattle.spec_exi.proofs.Demands as demands
 use Rattle.spec_exi.proofs.Sizes.{accepted-still}
+use Rattle.spec_exi.proofs.Attributes.{formed-exactly}
 use Rattle.spec_exi.proofs.Examples.{worked-examples}
 use Rattle.theorems.specs.Claims.{Theorems}
 
@@ -75,5 +76,6 @@ theorems =
       };
       larger-sizes = λ y z h. record { accepted-still = accepted-still y z h };
       scope-sizes = record { accepted-still = accepted-still baseSizes sizes scope-smaller };
+      equal-attributes = λ s l. record { well-formed = formed-exactly s l };
       worked-examples = worked-examples;
     }
