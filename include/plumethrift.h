@@ -269,7 +269,7 @@ plumethrift_list_reply plumethrift_list_of_readings(const uint64_t *stamps, size
  * Reads a stream, and takes the readings out of its list, which is left in `events` and `text`.
  * Lent for writing are `events`, `text` and `work` as to plumethrift_read, and `stamps` and
  * `movements` as to plumethrift_readings_of_list. ROOM of any part comes first, then refusals 2 to
- * 13 of the reader, with the index of an event, then 16 to 19, with that of a reading.
+ * 14 of the reader, with the index of an event, then 16 to 19, with that of a reading.
  */
 plumethrift_readings_reply plumethrift_read_readings(plumethrift_settings settings,
                                                      const uint8_t *stream, size_t stream_octets,
