@@ -149,7 +149,17 @@ pub fn known_attribute(
     let event = attribute(work, p.uri, p.local, read_qname::part_of(x));
     event::store(event, events, cell);
     keep(work, c.values, p.name, c.tag, read_qname::joining(x));
-    moved_on(c, x.next, x.stored, x.joins, false, c.mode, c.top, c.depth, c.tag)
+    moved_on(
+        c,
+        x.next,
+        x.stored,
+        x.joins,
+        false,
+        c.mode,
+        c.top,
+        c.depth,
+        c.tag,
+    )
 }
 
 // Reads characters, which are a value of the innermost element.
@@ -189,5 +199,15 @@ pub fn known_characters(
     mem_state::join_value(work, c.values, c.top, read_qname::joining(x));
     let mode = mem_state::mode_after(CH, c.mode, c.depth);
     let tag = next_tag(n);
-    moved_on(c, x.next, x.stored, x.joins, false, mode, c.top, c.depth, tag)
+    moved_on(
+        c,
+        x.next,
+        x.stored,
+        x.joins,
+        false,
+        mode,
+        c.top,
+        c.depth,
+        tag,
+    )
 }

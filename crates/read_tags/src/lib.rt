@@ -155,7 +155,13 @@ pub fn end_tag(
 }
 
 // The document's start.
-pub fn start_document(p: ProductionRead, c: Core, cell: usize, n: usize, events: &mut [u32]) -> Stepped
+pub fn start_document(
+    p: ProductionRead,
+    c: Core,
+    cell: usize,
+    n: usize,
+    events: &mut [u32],
+) -> Stepped
     requires { ⌜ TagPre SD (now events) c cell n p ⌝ }
     ensures { λ r. ⌜ PlainPost (now (events .entry)) c cell n p (now (events .exit)) r ⌝ }
 {
@@ -172,7 +178,13 @@ pub fn start_document(p: ProductionRead, c: Core, cell: usize, n: usize, events:
 }
 
 // The document's end.
-pub fn end_document(p: ProductionRead, c: Core, cell: usize, n: usize, events: &mut [u32]) -> Stepped
+pub fn end_document(
+    p: ProductionRead,
+    c: Core,
+    cell: usize,
+    n: usize,
+    events: &mut [u32],
+) -> Stepped
     requires { ⌜ TagPre ED (now events) c cell n p ⌝ }
     ensures { λ r. ⌜ PlainPost (now (events .entry)) c cell n p (now (events .exit)) r ⌝ }
 {

@@ -20,7 +20,7 @@ same-length-2 : tie.Need-same-length-2
 same-length-2 c = search needs
 
 returns : tie.Need-returns
-returns c = rw (c .answer .ensures) (record { steps = λ s a q. characters-stopped (c .before .before .before .before .before .before .before .before .before .before .before .before .pre .0) q (c .before .before .before .before .before .before .before .before .before .before .before .before .pre .1 .learned) a (c .before .before .before .before .before .read-value .ensures .1) (c .before .before .before .before .before .before .before .before .before .before .before .before .pre .1 .kind) (c .before .before .before .before .before .read-value .ensures .0) (omega (arith, c .before .if1 .taken)); })
+returns c = rw (c .answer .ensures) (record { steps = λ s a q. characters-stopped (c .before .before .before .before .before .before .before .before .before .before .before .before .pre .0) q (c .before .before .before .before .before .before .before .before .before .before .before .before .pre .1 .learned) a (c .before .before .before .before .before .read-value .ensures .1) (c .before .before .before .before .before .before .before .before .before .before .before .before .pre .1 .kind) (c .before .before .before .before .before .read-value .ensures .0) (omega (arith, c .before .if1 .taken)) })
 
 part-of-requires : tie.Need-part-of-requires
 part-of-requires c κs = search needs
@@ -55,7 +55,7 @@ same-length-5 c = search needs
 
 returns-2 : tie.Need-returns-2
 unfolding cellsPerEvent kindNumber
-returns-2 c = rw (c .moved-on .ensures) (record { steps = λ s a q. characters-stepped (c .before .before .before .before .before .before .before .before .before .before .before .before .before .before .before .before .before .before .before .before .before .before .before .before .pre .0) q (c .before .before .before .before .before .before .before .before .before .before .before .before .before .before .before .before .before .before .before .before .before .before .before .before .pre .1 .learned) a (c .before .before .before .before .before .before .before .before .before .before .before .before .before .before .before .before .before .read-value .ensures .1) (c .before .before .before .before .before .before .before .before .before .before .before .before .before .before .before .before .before .before .before .before .before .before .before .before .pre .1 .kind) (c .before .before .before .before .before .before .before .before .before .before .before .before .before .before .before .before .before .read-value .ensures .0) (c .before .before .before .before .before .before .before .before .before .before .before .before .before .if1 .left) (c .before .before .before .before .before .before .before .before .before .before .before .before .part-of .ensures) (c .before .before .before .before .before .before .before .before .before .before .store .ensures) (c .before .before .before .before .before .before .joining .ensures) (c .before .before .before .before .before .join-value .ensures) (c .before .before .mode-after .ensures) (c .before .next-tag .ensures); })
+returns-2 c = rw (c .moved-on .ensures) (record { steps = λ s a q. characters-stepped (c .before .before .before .before .before .before .before .before .before .before .before .before .before .before .before .before .before .before .before .before .before .before .before .before .pre .0) q (c .before .before .before .before .before .before .before .before .before .before .before .before .before .before .before .before .before .before .before .before .before .before .before .before .pre .1 .learned) a (c .before .before .before .before .before .before .before .before .before .before .before .before .before .before .before .before .before .read-value .ensures .1) (c .before .before .before .before .before .before .before .before .before .before .before .before .before .before .before .before .before .before .before .before .before .before .before .before .pre .1 .kind) (c .before .before .before .before .before .before .before .before .before .before .before .before .before .before .before .before .before .read-value .ensures .0) (c .before .before .before .before .before .before .before .before .before .before .before .before .before .if1 .left) (c .before .before .before .before .before .before .before .before .before .before .before .before .part-of .ensures) (c .before .before .before .before .before .before .before .before .before .before .store .ensures) (c .before .before .before .before .before .before .joining .ensures) (c .before .before .before .before .before .join-value .ensures) (c .before .before .mode-after .ensures) (c .before .next-tag .ensures) })
 
 pub known-characters-spec : {M : Type 1} → statement M
 known-characters-spec =
