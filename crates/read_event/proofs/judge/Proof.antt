@@ -10,7 +10,7 @@ growth-requires c κs = search needs
 allows-requires : tie.Need-allows-requires
 allows-requires c κs =
     let pre = c .before .before .pre in
-    record { room = pre .room; low = pre .name }
+    record { room = pre .0 .room; low = pre .0 .name }
 
 returns : tie.Need-returns
 unfolding numberOf
