@@ -21,6 +21,7 @@ use Rattle.mem_rows.specs.Valid.{Refers, Valid}
 use Rattle.mem_state.specs.declared.Core.{Core}
 use Rattle.mem_state.specs.declared.Strings.{Strings}
 use Rattle.mem_state.specs.Joining.{Joining, uriJoining, nameJoining, valueJoining}
+use Rattle.mem_state.specs.Joining.{noStrings, valuedStrings}
 use Rattle.mem_state.specs.Holds.{Stores, Holds, Ahead, Counts}
 use Rattle.mem_state.specs.Commit.{joinedUri, joinedName, joinedValue, joinedStrings}
 use Rattle.mem_state.specs.Commit.{StringsPre}
@@ -110,11 +111,10 @@ module _ (w : Rows) (y : Placed) where
     value-count true = length-append (w .values) (record { key = u; string = y } ∷ [])
     value-count false = omega arith
 
-value-same : (w : Rows) (y : Placed) (k : ℕ) (b : Bool) → b ≡ false
-    → valueAdded b k w y .values ≡ w .values
+without-value : (b : Bool) (k : ℕ) (w : Rows) (y : Placed) → b ≡ false → valueAdded b k w y ≡ w
 unfolding valueAdded
-value-same w y k true e = absurd (true≢false e)
-value-same w y k false e = refl
+without-value true k w y e = absurd (true≢false e)
+without-value false k w y e = refl
 
 -- ---- ahead
 
@@ -251,7 +251,44 @@ module _ {from : Stores} {s : Strings} {w v : Rows} (j : StringsJoin from s w v)
   -- Where no value joins, the values are as they were.
   pub strings-values : s .«new_value» ≡ false → v .values ≡ w .values
   strings-values f =
-      ap (λ (z : Rows). z .values) (j .is)
-      ∙ value-same with-name (j .value) (s .owner) (s .«new_value») f
+      ap (λ (z : Rows). z .values)
+      (j .is ∙ without-value (s .«new_value») (s .owner) with-name (j .value) f)
       ∙ name-values with-uri (j .name) (s .«uri_row») (s .«new_name»)
       ∙ uri-values w (j .uri) (s .«new_uri»)
+
+  -- A value more.
+  pub value-more : s .«new_value» ≡ false → (k : ℕ) (x : Joining) (y : Placed)
+      → (x .joins ≡ true → Joins (from .values) x y) → Valid (valueAdded (x .joins) k v y)
+      → StringsJoin from (valuedStrings s k x) w (valueAdded (x .joins) k v y)
+  value-more f k x y joins valid =
+      record {
+        uri = j .uri;
+        name = j .name;
+        value = y;
+        uri-joins = j .uri-joins;
+        name-joins = j .name-joins;
+        value-joins = joins;
+        uri-valid = j .uri-valid;
+        name-valid = j .name-valid;
+        valid = valid;
+        is = ap (λ (z : Rows). valueAdded (x .joins) k z y)
+            (j .is ∙ without-value (s .«new_value») (s .owner) with-name (j .value) f);
+      }
+
+-- None have joined.
+pub none-join : (from : Stores) {w : Rows} → Valid w → StringsJoin from noStrings w w
+unfolding uriAdded nameAdded valueAdded
+none-join from v =
+    let x : Placed = record { place = 0; text = [] } in
+    record {
+      uri = x;
+      name = x;
+      value = x;
+      uri-joins = λ j. absurd (true≢false (sym j));
+      name-joins = λ j. absurd (true≢false (sym j));
+      value-joins = λ j. absurd (true≢false (sym j));
+      uri-valid = v;
+      name-valid = v;
+      valid = v;
+      is = refl;
+    }
