@@ -2,8 +2,8 @@
 use Prim.Native.Nat.{ℕ, zero, suc, _+_, _*_, _≤_, _<_}
 use native.Mathlib.Omega.{arith}
 use mathlib.Core.Path.{_≡_, refl, sym, ap, subst, _∙_}
-use mathlib.Core.Bool.{Bool, true, false, cond, true≢false}
-use mathlib.Core.List.{List, []}
+use mathlib.Core.Bool.{Bool, false, cond}
+use mathlib.Core.List.{List}
 use mathlib.Core.Option.{Option, none, some}
 use lib.ListN.{length, take}
 use Rattle.spec_fields.specs.Parser.{Parser, return, _>>=_}
@@ -32,7 +32,7 @@ use Rattle.mem_state.specs.declared.Core.{Core}
 use Rattle.mem_state.specs.declared.Strings.{Strings}
 use Rattle.mem_state.specs.Joining.{Joining, valuedStrings}
 use Rattle.mem_state.specs.Holds.{inStore, Bounded}
-use Rattle.mem_state.specs.Strung.{uriAdded, nameAdded, valueAdded, Lain, Joins, StringsJoin}
+use Rattle.mem_state.specs.Strung.{valueAdded, Lain, Joins, StringsJoin}
 use Rattle.mem_state.proofs.Joins.{holds-grown}
 use Rattle.mem_state.proofs.Strung.{value-uris, value-names, value-more}
 use Rattle.read_contract.specs.Outcome.{Declined, Gotten, Outcome}

@@ -13,7 +13,6 @@ use Rattle.event.specs.declared.Part.{Part}
 use Rattle.event.specs.Cells.{asSpan}
 use Rattle.mem_values.specs.Forms.{ValuesStand}
 use Rattle.mem_rows.specs.Rows.{Rows, placedAt, nameAt, withValue}
-use Rattle.mem_rows.specs.Valid.{Valid}
 use Rattle.mem_state.specs.declared.Core.{Core}
 use Rattle.mem_state.specs.declared.Strings.{Strings}
 use Rattle.mem_state.specs.Holds.{Stores, Bounded, Counts}
