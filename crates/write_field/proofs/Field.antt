@@ -9,7 +9,7 @@ use mathlib.Core.List.{List, [], _++_, append-nil}
 use lib.ListN.{length, getD, replicate, length-replicate}
 use mir.Syntax.{w8}
 use mir.Val.{Fits}
-use lib.Pow.{pow-mono, pow-pos, pow-add, shl-lt, shl-exact, shl-shr, shr-lt, shr-shr}
+use lib.Pow.{pow-mono, pow-pos, pow-add, shl-lt, shl-exact, shr-lt}
 use lib.Bits.{bitAnd, and-mask, mask-lt}
 use lib.Dec.{T}
 use Rattle.spec_fields.specs.Bits.{bitsOf, each, unpack, octetsFor}
@@ -182,7 +182,7 @@ module _ (buf : List ℕ) {at n v : ℕ} (h : BitsFit buf at n v) where
 
 -- ---- at most eight bits: their window has no third part
 
-abbrev short : ℕ → ℕ → ℕ → ℕ
+abbrev pub short : ℕ → ℕ → ℕ → ℕ
 short at n v = (v * 2 ^ (16 - at % 8 - n)) % 2 ^ 32
 
 module _ (at n v : ℕ) (small : n ≤ 8) (fits : v < 2 ^ n) where

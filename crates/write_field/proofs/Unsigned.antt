@@ -19,6 +19,11 @@ last-group : (k v : ℕ) → v < 128 → unpack (groups (suc k) v) ≡ bitsOf 8 
 unfolding groups unpack each
 last-group k v h = rw (lt-ltb v 128 h) (append-nil (bitsOf 8 v))
 
+-- An Unsigned Integer of one octet.
+pub unsigned-one : (v : ℕ) → v < 128 → unsignedBits v ≡ bitsOf 8 v
+unfolding unsignedBits maxOctets
+unsigned-one v h = last-group 4 v h
+
 more-groups : (k v : ℕ) → 128 ≤ v → unpack (groups (suc k) v) ≡ bitsOf 8 (v % 128 + 128) ++ unpack (groups k (v / 128))
 unfolding groups unpack each
 more-groups k v h = rw (le-ltb v 128 h)
