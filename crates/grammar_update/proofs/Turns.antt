@@ -44,9 +44,9 @@ after-bounded {c = c} {s} {g} {n} at stored a p fits low h =
     let b = a .bounded in
     record {
       stored = h;
-      uris = raise (s .uri .joins) (c .uris) maxUris (b .uris) (λ j. omega (arith, p .uris j));
-      names = raise (s .name .joins) (c .names) maxNames (b .names) (λ j. omega (arith, p .names j));
-      values = raise (s .value .joins) (c .values) maxValues (b .values)
+      uris = raise (s .«new_uri») (c .uris) maxUris (b .uris) (λ j. omega (arith, p .uris j));
+      names = raise (s .«new_name») (c .names) maxNames (b .names) (λ j. omega (arith, p .names j));
+      values = raise (s .«new_value») (c .values) maxValues (b .values)
           (λ j. omega (arith, p .values j));
       learned = raise (g .teaches) (c .learned) maxLearned (b .learned) (fits-learned c g fits);
       grammars = raise (g .enters) (c .grammars) maxGrammars (b .grammars) (fits-grammars c g fits);

@@ -2,6 +2,7 @@
 // cite is in specs/.
 ghost use mathlib.Core.Path.{_≡_};
 ghost use Prim.Native.Nat.{_<_};
+ghost use Rattle.text.specs.Text.{allChars};
 ghost use Rattle.mem_entries.specs.Texts.{mixed, hashOf, TextCells, rowHas, withText};
 
 // The hash of a text, from the hash of all but its last code point.
@@ -23,6 +24,32 @@ pub fn hash(x: &[u32]) -> u32
         i += 1;
     }
     h as u32
+}
+
+// The hash of a text, and whether it has only Chars.
+pub struct Weighed {
+    pub hash: u32,
+    pub chars: bool,
+}
+
+// Both in one pass over the text.
+pub fn weigh(x: &[u32]) -> Weighed
+    ensures { λ r. ⌜
+        (r .hash ≡ hashOf (now (x .entry))) × (r .chars ≡ allChars (now (x .entry))) ⌝ }
+{
+    let mut h: u64 = 0;
+    let mut chars = true;
+    let mut i = 0;
+    while i < x.len() {
+        let c = x[i];
+        h = mix(h, c);
+        chars = chars & text::is_char(c);
+        i += 1;
+    }
+    Weighed {
+        hash: h as u32,
+        chars,
+    }
 }
 
 // Whether the string that two cells name is this text.

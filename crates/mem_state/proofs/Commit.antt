@@ -27,9 +27,9 @@ use Rattle.spec_exi.specs.Event.{AT}
 use Rattle.spec_exi.specs.Grammar.{kindNumber}
 use Rattle.mem_rows.specs.Rows.{modeAfter}
 use Rattle.mem_state.specs.declared.Core.{Core}
-use Rattle.mem_state.specs.declared.Joining.{Joining}
 use Rattle.mem_state.specs.declared.Strings.{Strings}
 use Rattle.mem_state.specs.declared.Growth.{Growth}
+use Rattle.mem_state.specs.Joining.{Joining, uriJoining, nameJoining, valueJoining}
 use Rattle.mem_state.specs.Commit.{joinedUri, joinedName, joinedValue, joinedStrings, entered}
 use Rattle.mem_state.specs.Commit.{learnt, marked, grown, ValuePre, NamePre, StringsPre}
 use Rattle.mem_state.specs.Commit.{EnterPre, LearnPre, GrowPre}
@@ -152,36 +152,36 @@ mark-size tag kind name work =
 -- ---- `join_strings`
 
 module _ {work a : List ℕ} {c : Core} {s : Strings} (p : StringsPre work c s)
-    (ua : a ≡ joinedUri (c .uris) (s .uri) work) where
-  pub names-asks : NamePre a (c .names) (s .«uri_row») (s .name)
+    (ua : a ≡ joinedUri (c .uris) (uriJoining s) work) where
+  pub names-asks : NamePre a (c .names) (s .«uri_row») (nameJoining s)
   names-asks =
       record {
-        room = omega (arith, ap length ua, uri-size (c .uris) (s .uri) work, p .room);
+        room = omega (arith, ap length ua, uri-size (c .uris) (uriJoining s) work, p .room);
         few = p .names;
         low = p .uri;
       }
 
-  module _ {b : List ℕ} (ub : b ≡ joinedName (c .names) (s .«uri_row») (s .name) a) where
-    pub values-asks : ValuePre b (c .values) (s .owner) (s .value)
+  module _ {b : List ℕ} (ub : b ≡ joinedName (c .names) (s .«uri_row») (nameJoining s) a) where
+    pub values-asks : ValuePre b (c .values) (s .owner) (valueJoining s)
     values-asks =
         record {
           room = omega (
             arith,
             ap length ub,
-            name-size (c .names) (s .«uri_row») (s .name) a,
+            name-size (c .names) (s .«uri_row») (nameJoining s) a,
             names-asks .room,
           );
           few = p .values;
           low = p .owner;
         }
 
-    pub join-steps : {d : List ℕ} → d ≡ joinedValue (c .values) (s .owner) (s .value) b
+    pub join-steps : {d : List ℕ} → d ≡ joinedValue (c .values) (s .owner) (valueJoining s) b
         → d ≡ joinedStrings c s work
     unfolding joinedStrings
     join-steps ud =
         ud
-        ∙ ap (joinedValue (c .values) (s .owner) (s .value))
-        (ub ∙ ap (joinedName (c .names) (s .«uri_row») (s .name)) ua)
+        ∙ ap (joinedValue (c .values) (s .owner) (valueJoining s))
+        (ub ∙ ap (joinedName (c .names) (s .«uri_row») (nameJoining s)) ua)
 
 -- ---- `grow`
 
@@ -224,8 +224,8 @@ pub strings-size : (c : Core) (s : Strings) (work : List ℕ)
     → length (joinedStrings c s work) ≡ length work
 unfolding joinedStrings
 strings-size c s work =
-    value-size (c .values) (s .owner) (s .value) _
-    ∙ name-size (c .names) (s .«uri_row») (s .name) _ ∙ uri-size (c .uris) (s .uri) work
+    value-size (c .values) (s .owner) (valueJoining s) _
+    ∙ name-size (c .names) (s .«uri_row») (nameJoining s) _ ∙ uri-size (c .uris) (uriJoining s) work
 
 pub grown-size : (c : Core) (g : Growth) (work : List ℕ) → length (grown c g work) ≡ length work
 unfolding grown

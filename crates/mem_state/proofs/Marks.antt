@@ -14,9 +14,9 @@ use Rattle.mem_marks.proofs.Marks.{marks-kept, marks-later, marks-more}
 use Rattle.mem_learned.specs.Learned.{withLearned}
 use Rattle.mem_rows.specs.Rows.{Rows, kindAt, isAmong, attributesAfter, withAttributes, leaves}
 use Rattle.mem_state.specs.declared.Core.{Core}
-use Rattle.mem_state.specs.declared.Joining.{Joining}
 use Rattle.mem_state.specs.declared.Strings.{Strings}
 use Rattle.mem_state.specs.declared.Growth.{Growth}
+use Rattle.mem_state.specs.Joining.{Joining, uriJoining, nameJoining, valueJoining}
 use Rattle.mem_state.specs.Holds.{inTagOf}
 use Rattle.mem_state.specs.Commit.{joinedUri, joinedName, joinedValue, joinedStrings}
 use Rattle.mem_state.specs.Commit.{entered, learnt, marked, grown, tagNumber, StringsPre}
@@ -82,9 +82,9 @@ pub strings-marked : {work : List ℕ} {tag : ℕ} {has : ℕ → Bool} {c : Cor
 unfolding joinedStrings
 strings-marked {c = c} {s = s} p h =
     value-marked
-    (name-marked (uri-marked h (c .uris) (s .uri) (p .uris)) (c .names) (s .«uri_row») (s .name)
-    (p .names) (p .uri))
-    (c .values) (s .owner) (s .value) (p .owner)
+    (name-marked (uri-marked h (c .uris) (uriJoining s) (p .uris)) (c .names) (s .«uri_row»)
+    (nameJoining s) (p .names) (p .uri))
+    (c .values) (s .owner) (valueJoining s) (p .owner)
 
 -- The event has the number n, and so many have come before it.
 pub grown-marked : {work : List ℕ} {v : Rows} {c : Core} {g : Growth} → Grows v c g → (n : ℕ)

@@ -19,8 +19,9 @@ use Rattle.mem_values.specs.Values as values
 use Rattle.mem_rows.specs.Rows.{Rows, withUri, withName, withValue}
 use Rattle.mem_rows.specs.Valid.{Refers, Valid}
 use Rattle.mem_state.specs.declared.Core.{Core}
-use Rattle.mem_state.specs.declared.Joining.{Joining}
 use Rattle.mem_state.specs.declared.Strings.{Strings}
+use Rattle.mem_state.specs.Joining.{Joining, uriJoining, nameJoining, valueJoining}
+use Rattle.mem_state.specs.Joining.{noStrings, valuedStrings}
 use Rattle.mem_state.specs.Holds.{Stores, Holds, Ahead, Counts}
 use Rattle.mem_state.specs.Commit.{joinedUri, joinedName, joinedValue, joinedStrings}
 use Rattle.mem_state.specs.Commit.{StringsPre}
@@ -110,11 +111,10 @@ module _ (w : Rows) (y : Placed) where
     value-count true = length-append (w .values) (record { key = u; string = y } ∷ [])
     value-count false = omega arith
 
-value-same : (w : Rows) (y : Placed) (k : ℕ) (b : Bool) → b ≡ false
-    → valueAdded b k w y .values ≡ w .values
+without-value : (b : Bool) (k : ℕ) (w : Rows) (y : Placed) → b ≡ false → valueAdded b k w y ≡ w
 unfolding valueAdded
-value-same w y k true e = absurd (true≢false e)
-value-same w y k false e = refl
+without-value true k w y e = absurd (true≢false e)
+without-value false k w y e = refl
 
 -- ---- ahead
 
@@ -189,69 +189,106 @@ ahead-value false k w y = ahead-none w
 
 module _ {from : Stores} {s : Strings} {w v : Rows} (j : StringsJoin from s w v) where
   abbrev with-uri : Rows
-  with-uri = uriAdded (s .uri .joins) w (j .uri)
+  with-uri = uriAdded (s .«new_uri») w (j .uri)
 
   abbrev with-name : Rows
-  with-name = nameAdded (s .name .joins) (s .«uri_row») with-uri (j .name)
+  with-name = nameAdded (s .«new_name») (s .«uri_row») with-uri (j .name)
 
   pub strings-ahead : Ahead w v
   strings-ahead =
       subst (Ahead w) (sym (j .is))
-      (ahead-on (ahead-uri (s .uri .joins) w (j .uri))
-      (ahead-on (ahead-name (s .name .joins) (s .«uri_row») with-uri (j .name))
-      (ahead-value (s .value .joins) (s .owner) with-name (j .value))))
+      (ahead-on (ahead-uri (s .«new_uri») w (j .uri))
+      (ahead-on (ahead-name (s .«new_name») (s .«uri_row») with-uri (j .name))
+      (ahead-value (s .«new_value») (s .owner) with-name (j .value))))
 
   module _ {c : Core} (n : Counts c w) where
-    pub uris-counted : c .uris + cond (s .uri .joins) 1 0 ≡ length (v .uris)
+    pub uris-counted : c .uris + cond (s .«new_uri») 1 0 ≡ length (v .uris)
     uris-counted =
         sym (ap (λ (z : Rows). length (z .uris)) (j .is)
-        ∙ ap length (value-uris with-name (j .value) (s .owner) (s .value .joins)
-        ∙ name-uris with-uri (j .name) (s .«uri_row») (s .name .joins))
-        ∙ uri-count w (j .uri) (s .uri .joins) ∙ ap (λ m. m + cond (s .uri .joins) 1 0)
+        ∙ ap length (value-uris with-name (j .value) (s .owner) (s .«new_value»)
+        ∙ name-uris with-uri (j .name) (s .«uri_row») (s .«new_name»))
+        ∙ uri-count w (j .uri) (s .«new_uri») ∙ ap (λ m. m + cond (s .«new_uri») 1 0)
         (sym (n .uris)))
 
-    pub names-counted : c .names + cond (s .name .joins) 1 0 ≡ length (v .names)
+    pub names-counted : c .names + cond (s .«new_name») 1 0 ≡ length (v .names)
     names-counted =
         sym (ap (λ (z : Rows). length (z .names)) (j .is)
-        ∙ ap length (value-names with-name (j .value) (s .owner) (s .value .joins))
-        ∙ name-count with-uri (j .name) (s .«uri_row») (s .name .joins)
-        ∙ ap (λ m. m + cond (s .name .joins) 1 0)
-        (ap length (uri-names w (j .uri) (s .uri .joins)) ∙ sym (n .names)))
+        ∙ ap length (value-names with-name (j .value) (s .owner) (s .«new_value»))
+        ∙ name-count with-uri (j .name) (s .«uri_row») (s .«new_name»)
+        ∙ ap (λ m. m + cond (s .«new_name») 1 0)
+        (ap length (uri-names w (j .uri) (s .«new_uri»)) ∙ sym (n .names)))
 
-    pub values-counted : c .values + cond (s .value .joins) 1 0 ≡ length (v .values)
+    pub values-counted : c .values + cond (s .«new_value») 1 0 ≡ length (v .values)
     values-counted =
         sym (ap (λ (z : Rows). length (z .values)) (j .is)
-        ∙ value-count with-name (j .value) (s .owner) (s .value .joins)
-        ∙ ap (λ m. m + cond (s .value .joins) 1 0)
-        (ap length (name-values with-uri (j .name) (s .«uri_row») (s .name .joins)
-        ∙ uri-values w (j .uri) (s .uri .joins)) ∙ sym (n .values)))
+        ∙ value-count with-name (j .value) (s .owner) (s .«new_value»)
+        ∙ ap (λ m. m + cond (s .«new_value») 1 0)
+        (ap length (name-values with-uri (j .name) (s .«uri_row») (s .«new_name»)
+        ∙ uri-values w (j .uri) (s .«new_uri»)) ∙ sym (n .values)))
 
     pub strings-hold : {work : List ℕ} → StringsPre work c s → Holds work from w
         → Holds (joinedStrings c s work) from v
     unfolding joinedStrings
     strings-hold p h =
         let names-are : c .names ≡ length (with-uri .names) =
-        n .names ∙ sym (ap length (uri-names w (j .uri) (s .uri .joins))) in
+        n .names ∙ sym (ap length (uri-names w (j .uri) (s .«new_uri»))) in
         let values-are : c .values ≡ length (with-name .values) =
         n .values
-        ∙ sym (ap length (name-values with-uri (j .name) (s .«uri_row») (s .name .joins)
-        ∙ uri-values w (j .uri) (s .uri .joins))) in
-        let a = uri-holds w (c .uris) (s .uri .joins) (s .uri) (j .uri) refl (n .uris)
+        ∙ sym (ap length (name-values with-uri (j .name) (s .«uri_row») (s .«new_name»)
+        ∙ uri-values w (j .uri) (s .«new_uri»))) in
+        let a = uri-holds w (c .uris) (s .«new_uri») (uriJoining s) (j .uri) refl (n .uris)
         (j .uri-joins) (p .uris) (j .uri-valid) h in
         let b = name-holds with-uri (j .uri-valid .refers) (c .names) (s .«uri_row»)
-        (s .name .joins) (s .name) (j .name) refl names-are
-        (λ e. subst (λ m. Joins (from .names m) (s .name) (j .name))
-        (sym (ap length (uri-names w (j .uri) (s .uri .joins)))) (j .name-joins e))
+        (s .«new_name») (nameJoining s) (j .name) refl names-are
+        (λ e. subst (λ m. Joins (from .names m) (nameJoining s) (j .name))
+        (sym (ap length (uri-names w (j .uri) (s .«new_uri»)))) (j .name-joins e))
         (p .names) (p .uri) (j .name-valid) a in
         subst (Holds _ from) (sym (j .is))
-        (value-holds with-name (c .values) (s .owner) (s .value .joins) (s .value) (j .value)
+        (value-holds with-name (c .values) (s .owner) (s .«new_value») (valueJoining s) (j .value)
         refl values-are (j .value-joins) (p .values) (p .owner)
         (subst Valid (j .is) (j .valid)) b)
 
   -- Where no value joins, the values are as they were.
-  pub strings-values : s .value .joins ≡ false → v .values ≡ w .values
+  pub strings-values : s .«new_value» ≡ false → v .values ≡ w .values
   strings-values f =
-      ap (λ (z : Rows). z .values) (j .is)
-      ∙ value-same with-name (j .value) (s .owner) (s .value .joins) f
-      ∙ name-values with-uri (j .name) (s .«uri_row») (s .name .joins)
-      ∙ uri-values w (j .uri) (s .uri .joins)
+      ap (λ (z : Rows). z .values)
+      (j .is ∙ without-value (s .«new_value») (s .owner) with-name (j .value) f)
+      ∙ name-values with-uri (j .name) (s .«uri_row») (s .«new_name»)
+      ∙ uri-values w (j .uri) (s .«new_uri»)
+
+  -- A value more.
+  pub value-more : s .«new_value» ≡ false → (k : ℕ) (x : Joining) (y : Placed)
+      → (x .joins ≡ true → Joins (from .values) x y) → Valid (valueAdded (x .joins) k v y)
+      → StringsJoin from (valuedStrings s k x) w (valueAdded (x .joins) k v y)
+  value-more f k x y joins valid =
+      record {
+        uri = j .uri;
+        name = j .name;
+        value = y;
+        uri-joins = j .uri-joins;
+        name-joins = j .name-joins;
+        value-joins = joins;
+        uri-valid = j .uri-valid;
+        name-valid = j .name-valid;
+        valid = valid;
+        is = ap (λ (z : Rows). valueAdded (x .joins) k z y)
+            (j .is ∙ without-value (s .«new_value») (s .owner) with-name (j .value) f);
+      }
+
+-- None have joined.
+pub none-join : (from : Stores) {w : Rows} → Valid w → StringsJoin from noStrings w w
+unfolding uriAdded nameAdded valueAdded
+none-join from v =
+    let x : Placed = record { place = 0; text = [] } in
+    record {
+      uri = x;
+      name = x;
+      value = x;
+      uri-joins = λ j. absurd (true≢false (sym j));
+      name-joins = λ j. absurd (true≢false (sym j));
+      value-joins = λ j. absurd (true≢false (sym j));
+      uri-valid = v;
+      name-valid = v;
+      valid = v;
+      is = refl;
+    }

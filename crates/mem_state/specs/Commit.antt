@@ -17,9 +17,9 @@ use Rattle.mem_learned.specs.Learned.{withLearned}
 use Rattle.mem_learned.specs.Grammars.{withGrammarOf}
 use Rattle.mem_rows.specs.Rows.{modeAfter}
 use Rattle.mem_state.specs.declared.Core.{Core}
-use Rattle.mem_state.specs.declared.Joining.{Joining}
 use Rattle.mem_state.specs.declared.Strings.{Strings}
 use Rattle.mem_state.specs.declared.Growth.{Growth}
+use Rattle.mem_state.specs.Joining.{Joining, uriJoining, nameJoining, valueJoining}
 
 -- ---- rows
 
@@ -36,8 +36,8 @@ joinedValue n owner x work =
 
 unfoldable pub joinedStrings : Core → Strings → List ℕ → List ℕ
 joinedStrings c s work =
-    joinedValue (c .values) (s .owner) (s .value)
-    (joinedName (c .names) (s .«uri_row») (s .name) (joinedUri (c .uris) (s .uri) work))
+    joinedValue (c .values) (s .owner) (valueJoining s)
+    (joinedName (c .names) (s .«uri_row») (nameJoining s) (joinedUri (c .uris) (uriJoining s) work))
 
 unfoldable pub entered : Bool → ℕ → List ℕ → List ℕ
 entered enters name work = cond enters (withGrammarOf work name) work
@@ -61,9 +61,9 @@ counted c s g =
     record {
       at = c .at;
       stored = c .stored;
-      uris = c .uris + cond (s .uri .joins) 1 0;
-      names = c .names + cond (s .name .joins) 1 0;
-      values = c .values + cond (s .value .joins) 1 0;
+      uris = c .uris + cond (s .«new_uri») 1 0;
+      names = c .names + cond (s .«new_name») 1 0;
+      values = c .values + cond (s .«new_value») 1 0;
       learned = c .learned + cond (g .teaches) 1 0;
       grammars = c .grammars + cond (g .enters) 1 0;
       mode = c .mode;
@@ -117,9 +117,9 @@ pub record ValuePre (work : List ℕ) (n owner : ℕ) (x : Joining) : Type 0 whe
 
 pub record StringsPre (work : List ℕ) (c : Core) (s : Strings) : Type 0 where
   pub room : workCells ≤ length work
-  pub uris : s .uri .joins ≡ true → c .uris < uriRows
-  pub names : s .name .joins ≡ true → c .names < nameRows
-  pub values : s .value .joins ≡ true → c .values < valueRing
+  pub uris : s .«new_uri» ≡ true → c .uris < uriRows
+  pub names : s .«new_name» ≡ true → c .names < nameRows
+  pub values : s .«new_value» ≡ true → c .values < valueRing
   pub uri : s .«uri_row» < uriRows
   pub owner : s .owner < nameRows
 

@@ -1,4 +1,5 @@
 pub mod Holds
+pub mod Joining
 pub mod Commit
 pub mod Strung
 pub mod Grows

@@ -7,8 +7,8 @@ use Rattle.spec_exi.specs.Tables.{Placed}
 use Rattle.mem_entries.specs.Texts.{hashOf, Lies, Source}
 use Rattle.mem_rows.specs.Rows.{Rows, withUri, withName, withValue}
 use Rattle.mem_rows.specs.Valid.{Valid}
-use Rattle.mem_state.specs.declared.Joining.{Joining}
 use Rattle.mem_state.specs.declared.Strings.{Strings}
+use Rattle.mem_state.specs.Joining.{Joining, uriJoining, nameJoining, valueJoining}
 use Rattle.mem_state.specs.Holds.{Stores}
 
 unfoldable pub uriAdded : Bool → Rows → Placed → Rows
@@ -39,12 +39,13 @@ pub record StringsJoin (from : Stores) (s : Strings) (w v : Rows) : Type 0 where
   pub uri : Placed
   pub name : Placed
   pub value : Placed
-  pub uri-joins : s .uri .joins ≡ true → Lain (from .uris (length (w .uris))) (s .uri) uri
-  pub name-joins : s .name .joins ≡ true → Joins (from .names (length (w .names))) (s .name) name
-  pub value-joins : s .value .joins ≡ true → Joins (from .values) (s .value) value
-  pub uri-valid : Valid (uriAdded (s .uri .joins) w uri)
+  pub uri-joins : s .«new_uri» ≡ true → Lain (from .uris (length (w .uris))) (uriJoining s) uri
+  pub name-joins : s .«new_name» ≡ true
+      → Joins (from .names (length (w .names))) (nameJoining s) name
+  pub value-joins : s .«new_value» ≡ true → Joins (from .values) (valueJoining s) value
+  pub uri-valid : Valid (uriAdded (s .«new_uri») w uri)
   pub name-valid : Valid
-      (nameAdded (s .name .joins) (s .«uri_row») (uriAdded (s .uri .joins) w uri) name)
+      (nameAdded (s .«new_name») (s .«uri_row») (uriAdded (s .«new_uri») w uri) name)
   pub valid : Valid v
-  pub is : v ≡ valueAdded (s .value .joins) (s .owner)
-      (nameAdded (s .name .joins) (s .«uri_row») (uriAdded (s .uri .joins) w uri) name) value
+  pub is : v ≡ valueAdded (s .«new_value») (s .owner)
+      (nameAdded (s .«new_name») (s .«uri_row») (uriAdded (s .«new_uri») w uri) name) value

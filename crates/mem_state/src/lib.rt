@@ -4,6 +4,7 @@
 ghost use mathlib.Core.Path.{_≡_};
 ghost use Prim.Native.Nat.{_<_};
 ghost use Rattle.mem_rows.specs.Rows.{modeAfter};
+ghost use Rattle.mem_state.specs.Joining.{joining, noStrings, valuedStrings};
 ghost use Rattle.mem_state.specs.Commit.{joinedUri, joinedName, joinedValue, joinedStrings};
 ghost use Rattle.mem_state.specs.Commit.{entered, learnt, marked, grown, counted, turned};
 ghost use Rattle.mem_state.specs.Commit.{UriPre, NamePre, ValuePre, StringsPre, EnterPre};
@@ -43,22 +44,23 @@ pub struct Core {
     pub tag: u32,
 }
 
-// Whether a string joins its table; where it lies, and the hash of its text.
-pub struct Joining {
-    pub joins: bool,
-    pub place: u32,
-    pub size: u32,
-    pub hash: u32,
-}
-
-// The strings of an event; the rows of its URI and its name, and that of the name whose value it has.
+// The strings of an event: where each lies, and the hash of a name's or a value's text; the rows of
+// its URI and its name, and that of the name whose value it has; and which join their tables.
 pub struct Strings {
-    pub uri: Joining,
-    pub name: Joining,
-    pub value: Joining,
+    pub uri_place: u32,
+    pub uri_size: u32,
+    pub name_place: u32,
+    pub name_size: u32,
+    pub name_hash: u32,
+    pub value_place: u32,
+    pub value_size: u32,
+    pub value_hash: u32,
     pub uri_row: u32,
     pub name_row: u32,
     pub owner: u32,
+    pub new_uri: bool,
+    pub new_name: bool,
+    pub new_value: bool,
 }
 
 // What an event leaves in the grammars: whether its name gets an element grammar, and whether a
@@ -72,37 +74,86 @@ pub struct Growth {
     pub uri: u32,
 }
 
-// ---- rows
+// ---- strings
 
-fn join_uri(work: &mut [u32], n: u32, x: Joining)
-    requires { ⌜ UriPre (now work) n x ⌝ }
-    ensures { λ _. ⌜ now (work .exit) ≡ joinedUri n x (now (work .entry)) ⌝ }
+// An event without strings.
+pub fn no_strings() -> Strings
+    ensures { λ r. ⌜ r ≡ noStrings ⌝ }
 {
-    if !x.joins {
-        return;
+    Strings {
+        uri_place: 0,
+        uri_size: 0,
+        name_place: 0,
+        name_size: 0,
+        name_hash: 0,
+        value_place: 0,
+        value_size: 0,
+        value_hash: 0,
+        uri_row: 0,
+        name_row: 0,
+        owner: 0,
+        new_uri: false,
+        new_name: false,
+        new_value: false,
     }
-    mem_names::add_uri(work, n, x.place, x.size, n);
 }
 
-fn join_name(work: &mut [u32], n: u32, uri: u32, x: Joining)
-    requires { ⌜ NamePre (now work) n uri x ⌝ }
-    ensures { λ _. ⌜ now (work .exit) ≡ joinedName n uri x (now (work .entry)) ⌝ }
+// With a value of the name in a row.
+pub fn with_value(s: Strings, owner: u32, joins: bool, place: u32, size: u32, hash: u32) -> Strings
+    ensures { λ r. ⌜ r ≡ valuedStrings s owner (joining joins place size hash) ⌝ }
 {
-    if !x.joins {
+    let mut strings = s;
+    strings.value_place = place;
+    strings.value_size = size;
+    strings.value_hash = hash;
+    strings.owner = owner;
+    strings.new_value = joins;
+    strings
+}
+
+// ---- rows
+
+fn join_uri(work: &mut [u32], n: u32, joins: bool, place: u32, size: u32)
+    requires { ⌜ UriPre (now work) n (joining joins place size 0) ⌝ }
+    ensures { λ _. ⌜
+        now (work .exit) ≡ joinedUri n (joining joins place size 0) (now (work .entry)) ⌝ }
+{
+    if !joins {
         return;
     }
-    mem_names::add_name(work, n, uri, x.place, x.size, x.hash);
+    mem_names::add_uri(work, n, place, size, n);
+}
+
+fn join_name(work: &mut [u32], n: u32, uri: u32, joins: bool, place: u32, size: u32, hash: u32)
+    requires { ⌜ NamePre (now work) n uri (joining joins place size hash) ⌝ }
+    ensures { λ _. ⌜
+        now (work .exit) ≡ joinedName n uri (joining joins place size hash) (now (work .entry)) ⌝ }
+{
+    if !joins {
+        return;
+    }
+    mem_names::add_name(work, n, uri, place, size, hash);
 }
 
 // Adds a value that joins.
-pub fn join_value(work: &mut [u32], n: u32, owner: u32, x: Joining)
-    requires { ⌜ ValuePre (now work) n owner x ⌝ }
-    ensures { λ _. ⌜ now (work .exit) ≡ joinedValue n owner x (now (work .entry)) ⌝ }
+pub fn join_value(
+    work: &mut [u32],
+    n: u32,
+    owner: u32,
+    joins: bool,
+    place: u32,
+    size: u32,
+    hash: u32,
+)
+    requires { ⌜ ValuePre (now work) n owner (joining joins place size hash) ⌝ }
+    ensures { λ _. ⌜
+        now (work .exit)
+        ≡ joinedValue n owner (joining joins place size hash) (now (work .entry)) ⌝ }
 {
-    if !x.joins {
+    if !joins {
         return;
     }
-    mem_values::add(work, n, owner, x.place, x.size, x.hash);
+    mem_values::add(work, n, owner, place, size, hash);
 }
 
 // Adds the strings of an event to their tables.
@@ -110,9 +161,25 @@ pub fn join_strings(work: &mut [u32], c: Core, s: Strings)
     requires { ⌜ StringsPre (now work) c s ⌝ }
     ensures { λ _. ⌜ now (work .exit) ≡ joinedStrings c s (now (work .entry)) ⌝ }
 {
-    join_uri(work, c.uris, s.uri);
-    join_name(work, c.names, s.uri_row, s.name);
-    join_value(work, c.values, s.owner, s.value);
+    join_uri(work, c.uris, s.new_uri, s.uri_place, s.uri_size);
+    join_name(
+        work,
+        c.names,
+        s.uri_row,
+        s.new_name,
+        s.name_place,
+        s.name_size,
+        s.name_hash,
+    );
+    join_value(
+        work,
+        c.values,
+        s.owner,
+        s.new_value,
+        s.value_place,
+        s.value_size,
+        s.value_hash,
+    );
 }
 
 // Gives a name an element grammar.
@@ -175,12 +242,9 @@ pub fn count(c: Core, s: Strings, g: Growth) -> Core
     ensures { λ r. ⌜ r ≡ counted c s g ⌝ }
 {
     let mut d = c;
-    let u = s.uri;
-    let n = s.name;
-    let v = s.value;
-    d.uris = c.uris + one(u.joins);
-    d.names = c.names + one(n.joins);
-    d.values = c.values + one(v.joins);
+    d.uris = c.uris + one(s.new_uri);
+    d.names = c.names + one(s.new_name);
+    d.values = c.values + one(s.new_value);
     d.learned = c.learned + one(g.teaches);
     d.grammars = c.grammars + one(g.enters);
     d

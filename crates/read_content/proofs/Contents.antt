@@ -2,8 +2,8 @@
 use Prim.Native.Nat.{ℕ, zero, suc, _+_, _*_, _≤_, _<_}
 use native.Mathlib.Omega.{arith}
 use mathlib.Core.Path.{_≡_, refl, sym, ap, subst, _∙_}
-use mathlib.Core.Bool.{Bool, true, false, cond, true≢false}
-use mathlib.Core.List.{List, []}
+use mathlib.Core.Bool.{Bool, false, cond}
+use mathlib.Core.List.{List}
 use mathlib.Core.Option.{Option, none, some}
 use lib.ListN.{length, take}
 use Rattle.spec_fields.specs.Parser.{Parser, return, _>>=_}
@@ -29,12 +29,12 @@ use Rattle.mem_values.specs.Forms.{ValuesStand}
 use Rattle.mem_rows.specs.Rows.{Rows, placedAt, nameAt, kindAt, carries, carriedAt, withValue}
 use Rattle.mem_rows.specs.Valid.{Valid}
 use Rattle.mem_state.specs.declared.Core.{Core}
-use Rattle.mem_state.specs.declared.Joining.{Joining}
 use Rattle.mem_state.specs.declared.Strings.{Strings}
+use Rattle.mem_state.specs.Joining.{Joining, valuedStrings}
 use Rattle.mem_state.specs.Holds.{inStore, Bounded}
-use Rattle.mem_state.specs.Strung.{uriAdded, nameAdded, valueAdded, Lain, Joins, StringsJoin}
+use Rattle.mem_state.specs.Strung.{valueAdded, Lain, Joins, StringsJoin}
 use Rattle.mem_state.proofs.Joins.{holds-grown}
-use Rattle.mem_state.proofs.Strung.{value-uris, value-names}
+use Rattle.mem_state.proofs.Strung.{value-uris, value-names, value-more}
 use Rattle.read_contract.specs.Outcome.{Declined, Gotten, Outcome}
 use Rattle.read_contract.proofs.Outcome.{refused-outcome, return-outcome, declined-then}
 use Rattle.read_contract.proofs.Outcome.{outcome-weaken, outcome-then, outcome-map}
@@ -45,38 +45,18 @@ use Rattle.read_values.specs.Texts.{TextPost}
 use Rattle.read_production.specs.declared.ProductionRead.{ProductionRead}
 use Rattle.read_qname.specs.declared.Named.{Named}
 use Rattle.read_qname.specs.Texts.{TextRead}
-use Rattle.read_qname.specs.Qnames.{joiningOf, noJoining, noStrings, partOf, Prepared, tablesAt}
+use Rattle.read_qname.specs.Qnames.{joiningOf, partOf, Prepared, tablesAt}
 use Rattle.read_qname.specs.Qnames.{Carried, NameMeans, NamePost, PairPre}
 use Rattle.read_qname.proofs.Texts.{text-size, text-grown, text-none, text-then}
 use Rattle.read_qname.proofs.Got.{Adds, StringIs, string-joins, string-text, string-is}
 use Rattle.read_qname.proofs.Pair.{Few, few-rows, tabled, lies-grown}
 use Rattle.read_content.specs.declared.Content.{Content}
-use Rattle.read_content.specs.Contents.{ownedBy, stoppedAs, plainAs, valueStrings}
+use Rattle.read_content.specs.Contents.{stoppedAs, plainAs}
 use Rattle.read_content.specs.Contents.{ContentPre, ContentRows, ContentBounds, ContentMeans}
 use Rattle.read_content.specs.Contents.{ContentPost}
 use Rattle.read_content.specs.Contents.{NamedAt, UnnamedAt, carriedBy}
-use Rattle.read_content.specs.Contents as contents
 
 -- ---- which strings have joined
-
--- None.
-pub none-join : (text : List ℕ) (stored owner : ℕ) {w : Rows} → Valid w
-    → StringsJoin (inStore text stored) (ownedBy owner) w w
-unfolding uriAdded nameAdded valueAdded
-none-join text stored owner {w} v =
-    let x : Placed = record { place = 0; text = [] } in
-    record {
-      uri = x;
-      name = x;
-      value = x;
-      uri-joins = λ j. absurd (true≢false (sym j));
-      name-joins = λ j. absurd (true≢false (sym j));
-      value-joins = λ j. absurd (true≢false (sym j));
-      uri-valid = v;
-      name-valid = v;
-      valid = v;
-      is = refl;
-    }
 
 module _ {text text′ : List ℕ} {stored stored′ : ℕ} (g : Grown text text′ stored stored′) where
   lain-grown : {x : Joining} {y : Placed} → Lain (upTo text stored) x y → Lain (upTo text′ stored′) x y
@@ -108,30 +88,14 @@ join-grown g j =
 abbrev addValue : ℕ → Bool → Rows → Placed → Rows
 addValue k b w y = valueAdded b k w y
 
-without-value : (b : Bool) (k : ℕ) (w : Rows) (y : Placed) → b ≡ false → valueAdded b k w y ≡ w
-unfolding valueAdded
-without-value true k w y e = absurd (true≢false e)
-without-value false k w y e = refl
-
 pub join-value : {text text′ : List ℕ} {stored : ℕ} {s : Strings} {w v : Rows} {x : StringRead}
-    {y : Placed × Tables} → s .value .joins ≡ false → StringsJoin (inStore text stored) s w v
-    → Grown text text′ stored (x .stored) → StringIs (addValue (s .owner)) v text′ x y → Hashed text′ x
-    → StringsJoin (inStore text′ (x .stored)) (contents.withValue s x) w
-    (valueAdded (x .joins) (s .owner) v (y .0))
-join-value {s = s} {x = x} {y = y} f j g i h =
-    let base = j .is ∙ without-value (s .value .joins) (s .owner) _ (j .value) f in
-    record {
-      uri = j .uri;
-      name = j .name;
-      value = y .0;
-      uri-joins = λ b. lain-grown g (j .uri-joins b);
-      name-joins = λ b. joins-grown g (j .name-joins b);
-      value-joins = string-joins i h;
-      uri-valid = j .uri-valid;
-      name-valid = j .name-valid;
-      valid = i .valid;
-      is = ap (λ (z : Rows). valueAdded (x .joins) (s .owner) z (y .0)) base;
-    }
+    {y : Placed × Tables} → s .«new_value» ≡ false → StringsJoin (inStore text stored) s w v
+    → Grown text text′ stored (x .stored) → (k : ℕ) → StringIs (addValue k) v text′ x y
+    → Hashed text′ x
+    → StringsJoin (inStore text′ (x .stored)) (valuedStrings s k (joiningOf x)) w
+    (valueAdded (x .joins) k v (y .0))
+join-value {x = x} {y = y} f j g k i h =
+    value-more (join-grown g j) f k (joiningOf x) (y .0) (string-joins i h) (i .valid)
 
 module _ (b : Bool) (k : ℕ) (w : Rows) (y : Placed) where
   pub placed-same : (n : ℕ) → placedAt (valueAdded b k w y) n ≡ placedAt w n

@@ -30,11 +30,12 @@ use Rattle.mem_rows.specs.Rows.{Rows, placedAt, nameAt, kindAt, carries, carrie
 use Rattle.mem_rows.specs.Valid.{Valid}
 use Rattle.mem_state.specs.declared.Core.{Core}
 use Rattle.mem_state.specs.declared.Strings.{Strings}
+use Rattle.mem_state.specs.Joining.{Joining, noStrings, valuedStrings}
 use Rattle.mem_state.specs.Holds.{inStore, Holds, Bounded, Counts}
 use Rattle.mem_state.specs.Strung.{valueAdded, StringsJoin}
 use Rattle.mem_state.proofs.Joins.{holds-grown}
 use Rattle.mem_state.proofs.Strung.{uris-counted, names-counted, values-counted, value-names}
-use Rattle.mem_state.proofs.Strung.{strings-values}
+use Rattle.mem_state.proofs.Strung.{strings-values, none-join}
 use Rattle.read_contract.specs.Outcome.{Declined, Gotten, Outcome}
 use Rattle.read_contract.proofs.Outcome.{return-outcome, declined-then, gotten-declined}
 use Rattle.read_contract.proofs.Outcome.{outcome-then, outcome-map}
@@ -46,16 +47,16 @@ use Rattle.read_values.specs.Texts.{TextPost}
 use Rattle.read_production.specs.declared.ProductionRead.{ProductionRead}
 use Rattle.read_qname.specs.declared.Named.{Named}
 use Rattle.read_qname.specs.Texts.{TextRead}
-use Rattle.read_qname.specs.Qnames.{joiningOf, noJoining, noStrings, partOf, Prepared, tablesAt}
+use Rattle.read_qname.specs.Qnames.{joiningOf, partOf, Prepared, tablesAt}
 use Rattle.read_qname.specs.Qnames.{Carried, NameBounds, NameMeans, NamePost, NamePre}
 use Rattle.read_qname.proofs.Texts.{text-size, text-grown, text-none, text-then}
 use Rattle.read_qname.proofs.Got.{StringIs}
 use Rattle.read_qname.proofs.Pair.{Few, few-rows}
 use Rattle.read_content.specs.declared.Content.{Content}
-use Rattle.read_content.specs.Contents.{ownedBy, stoppedAs, plainAs, valueStrings, withValue}
+use Rattle.read_content.specs.Contents.{stoppedAs, plainAs}
 use Rattle.read_content.specs.Contents.{ContentPre, ContentRows, ContentBounds, ContentMeans}
 use Rattle.read_content.specs.Contents.{NamedAt, UnnamedAt, ContentPost}
-use Rattle.read_content.proofs.Contents.{none-join, join-grown, join-value, placed-same}
+use Rattle.read_content.proofs.Contents.{join-grown, join-value, placed-same}
 use Rattle.read_content.proofs.Contents.{value-text, value-outcome, plain-text}
 use Rattle.read_content.proofs.Contents.{plain-outcome, span-is, content-refused}
 use Rattle.read_content.proofs.Contents.{content-read}
@@ -98,7 +99,7 @@ module _ {stream : List ℕ} {at : ℕ} {text work : List ℕ} {c : Core} {p : P
       (return-outcome (f, tablesAt text (c .stored) w)
       (record {
         rows = w;
-        joins = none-join text (c .stored) 0 (q .valid);
+        joins = none-join (inStore text (c .stored)) (q .valid);
         tables = refl;
         event = m;
         kind-is = o ∙ sym i;
@@ -205,7 +206,7 @@ module _ {stream : List ℕ} {at : ℕ} {text work : List ℕ} {c : Core} {p : P
             left = 0;
             stored = x .stored;
             event = Characters (partOf x);
-            strings = valueStrings (c .top) x;
+            strings = valuedStrings noStrings (c .top) (joiningOf x);
           }
 
       own-rows : {w : Rows} → Prepared work text c w → c .top < length (w .names)
@@ -245,8 +246,8 @@ module _ {stream : List ℕ} {at : ℕ} {text work : List ℕ} {c : Core} {p : P
       characters-means {w} v {y} k =
           record {
             rows = valueAdded (x .joins) (c .top) w (y .0);
-            joins = join-value refl (none-join text (c .stored) (c .top) v)
-                (text-grown room (value-text room stored-few post)) k (joins .hashed);
+            joins = join-value refl (none-join (inStore text (c .stored)) v)
+                (text-grown room (value-text room stored-few post)) (c .top) k (joins .hashed);
             tables = k .tables;
             event = ap characters (span-is k);
             kind-is = sym i;
@@ -316,8 +317,8 @@ module _ {stream : List ℕ} {at : ℕ} {text work : List ℕ} {c : Core} {p : P
           })
           (omega (arith, bounds .owner, bounds .name))
 
-      no-value : n .strings .value .joins ≡ false
-      no-value = ap (λ x. x .joins) (bounds .value)
+      no-value : n .strings .«new_value» ≡ false
+      no-value = ap (λ (x : Joining). x .joins) (bounds .value)
 
       few-one : (b : Bool) (m most : ℕ) → m ≤ most → (b ≡ true → m < most)
           → m + cond b 1 0 ≤ most
@@ -333,12 +334,12 @@ module _ {stream : List ℕ} {at : ℕ} {text work : List ℕ} {c : Core} {p : P
             record {
               uris = omega (
                 arith,
-                few-one (n .strings .uri .joins) (c .uris) maxUris (b .uris) (bounds .uris),
+                few-one (n .strings .«new_uri») (c .uris) maxUris (b .uris) (bounds .uris),
                 uris-counted (m .joins) (q .counts),
               );
               names = omega (
                 arith,
-                few-one (n .strings .name .joins) (c .names) maxNames (b .names) (bounds .names),
+                few-one (n .strings .«new_name») (c .names) maxNames (b .names) (bounds .names),
                 names-counted (m .joins) (q .counts),
               );
               values = omega (
@@ -382,7 +383,7 @@ module _ {stream : List ℕ} {at : ℕ} {text work : List ℕ} {c : Core} {p : P
               left = 0;
               stored = x .stored;
               event = Attribute (n .uri) (n .local) (partOf x);
-              strings = withValue (n .strings) x;
+              strings = valuedStrings (n .strings) (n .strings .owner) (joiningOf x);
             }
 
         attribute-text : TextRead text (c .stored) text₂ (x .number) (x .stored)
@@ -401,7 +402,7 @@ module _ {stream : List ℕ} {at : ℕ} {text work : List ℕ} {c : Core} {p : P
             let g = text-grown room-still (value-text room-still few-still post₂) in
             record {
               rows = valueAdded b o (m .rows) (y .0);
-              joins = join-value no-value (m .joins) g k (joins .hashed);
+              joins = join-value no-value (m .joins) g o k (joins .hashed);
               tables = k .tables;
               event = λ t. attribute (record { uri = m .uri-is t; local = m .local-is t })
                   (span-is k t);
@@ -511,7 +512,7 @@ module _ {stream : List ℕ} {at : ℕ} {text work : List ℕ} {c : Core} {p : P
         (plain-outcome plain room stored-few post s (q .valid) (few-of q))
         (λ _ v k. record {
           rows = w;
-          joins = none-join text₁ (x .stored) 0 (q .valid);
+          joins = none-join (inStore text₁ (x .stored)) (q .valid);
           tables = k .tables;
           event = ap comment (span-is k);
           kind-is = sym i;
@@ -584,7 +585,7 @@ module _ {stream : List ℕ} {at : ℕ} {text work : List ℕ} {c : Core} {p : P
             (instruction (g .value .0) (v .0), v .1)) (sym (is y))
             (record {
               rows = w;
-              joins = none-join text₂ (x .stored) 0 (q .valid);
+              joins = none-join (inStore text₂ (x .stored)) (q .valid);
               tables = k .tables;
               event = λ u. instruction (span-is m u) (span-is k u);
               kind-is = sym i;

@@ -21,15 +21,15 @@ use Rattle.mem_entries.specs.Entries.{keyAt}
 use Rattle.mem_rows.specs.Rows.{Rows, placedAt, nameAt, kindAt, carries, carriedAt}
 use Rattle.mem_state.specs.declared.Core.{Core}
 use Rattle.mem_state.specs.declared.Strings.{Strings}
+use Rattle.mem_state.specs.Joining.{noStrings}
 use Rattle.mem_state.specs.Holds.{inStore, Bounded}
 use Rattle.mem_state.specs.Strung.{StringsJoin}
 use Rattle.read_contract.specs.Outcome.{Outcome}
 use Rattle.read_literal.specs.Literal.{LiteralFit}
-use Rattle.read_partition.specs.declared.StringRead.{StringRead}
 use Rattle.read_production.specs.declared.ProductionRead.{ProductionRead}
 use Rattle.read_qname.specs.declared.Named.{Named}
 use Rattle.read_qname.specs.Texts.{TextRead}
-use Rattle.read_qname.specs.Qnames.{joiningOf, noJoining, noStrings, partOf, Prepared, tablesAt}
+use Rattle.read_qname.specs.Qnames.{Prepared, tablesAt}
 use Rattle.read_qname.specs.Qnames.{Carried, PairPre, CarriedPre}
 use Rattle.read_content.specs.declared.Content.{Content}
 
@@ -58,32 +58,6 @@ plainAs event next stored =
       strings = noStrings;
     }
 
--- No string, in an event with a value of the name in this row.
-abbrev pub ownedBy : ℕ → Strings
-ownedBy owner =
-    record {
-      uri = noJoining;
-      name = noJoining;
-      value = noJoining;
-      «uri_row» = 0;
-      «name_row» = 0;
-      owner = owner;
-    }
-
-abbrev pub withValue : Strings → StringRead → Strings
-withValue s x =
-    record {
-      uri = s .uri;
-      name = s .name;
-      value = joiningOf x;
-      «uri_row» = s .«uri_row»;
-      «name_row» = s .«name_row»;
-      owner = s .owner;
-    }
-
-abbrev pub valueStrings : ℕ → StringRead → Strings
-valueStrings owner x = withValue (ownedBy owner) x
-
 -- ---- what is asked: bounds alone
 
 pub record ContentPre (stream : List ℕ) (at : ℕ) (text work : List ℕ) (c : Core)
@@ -107,9 +81,9 @@ pub record ContentRows (c : Core) (p : ProductionRead) (st : State) (w : Rows) :
 
 -- On every memory: which rows the strings have, and that their tables have room.
 pub record ContentBounds (c : Core) (s : Strings) : Type 0 where
-  pub uris : s .uri .joins ≡ true → c .uris < maxUris
-  pub names : s .name .joins ≡ true → c .names < maxNames
-  pub values : s .value .joins ≡ true → c .values < maxValues
+  pub uris : s .«new_uri» ≡ true → c .uris < maxUris
+  pub names : s .«new_name» ≡ true → c .names < maxNames
+  pub values : s .«new_value» ≡ true → c .values < maxValues
   pub uri : s .«uri_row» < uriRows
   pub name : s .«name_row» < nameRows
   pub owner : s .owner < nameRows

@@ -8,7 +8,7 @@ ghost use Rattle.spec_exi.specs.Grammar.{kindNumber};
 ghost use Rattle.spec_fields.specs.Field.{Alignment};
 ghost use Rattle.mem_rows.specs.Rows.{kindAt};
 ghost use Rattle.read_field.specs.View.{alignmentOf};
-ghost use Rattle.read_content.specs.Contents.{stoppedAs, plainAs, valueStrings, withValue};
+ghost use Rattle.read_content.specs.Contents.{stoppedAs, plainAs};
 ghost use Rattle.read_content.specs.Contents.{ContentPre, ContentPost};
 use event::Event;
 use event_code::AT;
@@ -20,7 +20,6 @@ use event_code::SD;
 use event_code::SE;
 use mem_state::Core;
 use mem_state::Strings;
-use read_partition::StringRead;
 use read_production::ProductionRead;
 
 // The number of a refusal or 0; the position after the content or where it stopped, and how many code
@@ -37,7 +36,7 @@ pub struct Content {
 fn stopped(number: u32, next: usize, left: usize, stored: usize) -> Content
     ensures { λ r. ⌜ r ≡ stoppedAs number next left stored ⌝ }
 {
-    let strings = read_qname::no_strings();
+    let strings = mem_state::no_strings();
     Content {
         number,
         next,
@@ -52,7 +51,7 @@ fn stopped(number: u32, next: usize, left: usize, stored: usize) -> Content
 fn plain(event: Event, next: usize, stored: usize) -> Content
     ensures { λ r. ⌜ r ≡ plainAs event next stored ⌝ }
 {
-    let strings = read_qname::no_strings();
+    let strings = mem_state::no_strings();
     Content {
         number: 0,
         next,
@@ -61,24 +60,6 @@ fn plain(event: Event, next: usize, stored: usize) -> Content
         event,
         strings,
     }
-}
-
-// A value of the name in a row joins.
-fn value_strings(owner: u32, x: StringRead) -> Strings
-    ensures { λ r. ⌜ r ≡ valueStrings owner x ⌝ }
-{
-    let mut strings = read_qname::no_strings();
-    strings.value = read_qname::joining(x);
-    strings.owner = owner;
-    strings
-}
-
-fn with_value(s: Strings, x: StringRead) -> Strings
-    ensures { λ r. ⌜ r ≡ withValue s x ⌝ }
-{
-    let mut strings = s;
-    strings.value = read_qname::joining(x);
-    strings
 }
 
 // A start element.
@@ -153,7 +134,7 @@ fn read_attribute(
     let uri = n.uri;
     let local = n.local;
     let value = read_qname::part_of(x);
-    let strings = with_value(s, x);
+    let strings = mem_state::with_value(s, s.owner, x.joins, x.place, x.size, x.hash);
     Content {
         number: 0,
         next: x.next,
@@ -185,7 +166,8 @@ fn read_characters(
         return stopped(x.number, x.next, x.left, x.stored);
     }
     let value = read_qname::part_of(x);
-    let strings = value_strings(c.top, x);
+    let s = mem_state::no_strings();
+    let strings = mem_state::with_value(s, c.top, x.joins, x.place, x.size, x.hash);
     Content {
         number: 0,
         next: x.next,

@@ -22,6 +22,7 @@ use Rattle.mem_state.specs.declared.Core.{Core}
 use Rattle.mem_state.specs.declared.Strings.{Strings}
 use Rattle.mem_state.specs.declared.Growth.{Growth}
 use Rattle.mem_state.specs.Holds.{inStore, Bounded, Topped, Represents, contextAt}
+use Rattle.mem_state.specs.Joining.{noStrings}
 use Rattle.mem_state.specs.Strung.{StringsJoin}
 use Rattle.mem_state.specs.Grows.{learntOf, Grows}
 use Rattle.grammar_codes.specs.Table.{Stands}
@@ -32,7 +33,6 @@ use Rattle.read_literal.specs.Literal.{Cleared}
 use Rattle.read_production.specs.declared.ProductionRead.{ProductionRead}
 use Rattle.read_production.specs.Production.{ProductionPost}
 use Rattle.read_qname.specs.Texts.{TextRead}
-use Rattle.read_qname.specs.Qnames.{noStrings}
 use Rattle.read_content.specs.Contents.{ContentBounds}
 use Rattle.read_event.specs.declared.Judged.{Judged}
 use Rattle.read_event.specs.declared.EventRead.{EventRead}

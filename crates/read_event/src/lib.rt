@@ -115,7 +115,7 @@ fn judge(c: Core, p: ProductionRead, s: Strings, work: &[u32]) -> Judged
 fn refused(number: u32, c: Core) -> EventRead
     ensures { λ r. ⌜ r ≡ refusedAs number c ⌝ }
 {
-    let strings = read_qname::no_strings();
+    let strings = mem_state::no_strings();
     let growth = Growth {
         enters: false,
         teaches: false,

@@ -11,10 +11,10 @@ use Rattle.read_field.specs.View.{fieldAt, alignmentOf, InStream}
 use Rattle.read_field.specs.Parts.{FewIn, few}
 use Rattle.read_field.proofs.Numbers.{bits-none, octets-no, octets-one}
 
-width-none : (m : ℕ) → m ≤ 1 → width m ≡ 0
+pub width-none : (m : ℕ) → m ≤ 1 → width m ≡ 0
 width-none m h = omega (arith, width-least m 0 h)
 
-width-some : (m : ℕ) → 1 < m → 0 < width m
+pub width-some : (m : ℕ) → 1 < m → 0 < width m
 width-some m h = go (width m) (width-enough m)
   where
     go : (n : ℕ) → m ≤ 2 ^ n → 0 < n

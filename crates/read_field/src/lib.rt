@@ -148,7 +148,7 @@ pub fn width(m: u32) -> u32
 }
 
 // How many bits the field of a choice among two to 256 has.
-fn few(aligned: bool, m: u32) -> u32
+pub fn few(aligned: bool, m: u32) -> u32
     requires { ⌜ m ≤ 256 ⌝ }
     ensures { λ r. ⌜ r ≡ few aligned m ⌝ }
 {

@@ -16,9 +16,9 @@ use Rattle.event.specs.Cells.{cellsOf, meaning}
 use Rattle.mem_marks.specs.Marks.{markedIn}
 use Rattle.mem_rows.specs.Rows.{modeAfter}
 use Rattle.mem_state.specs.declared.Core.{Core}
-use Rattle.mem_state.specs.declared.Joining.{Joining}
 use Rattle.mem_state.specs.declared.Strings.{Strings}
 use Rattle.mem_state.specs.declared.Growth.{Growth}
+use Rattle.mem_state.specs.Joining.{Joining, noJoining, asStrings}
 use Rattle.mem_state.specs.Commit.{joinedStrings, grown, counted, turned, topAfter, depthAfter}
 use Rattle.mem_state.specs.Commit.{tagNumber}
 use Rattle.grammar_update.specs.Growth.{growthOf, allowedIn, fitsIn}
@@ -26,7 +26,6 @@ use Rattle.grammar_update.specs.After.{coreAfter}
 use Rattle.read_literal.specs.Literal.{laidAt}
 use Rattle.read_literal.proofs.Store.{laid-none}
 use Rattle.read_production.specs.declared.ProductionRead.{ProductionRead}
-use Rattle.read_qname.specs.Qnames.{noJoining}
 use Rattle.read_content.specs.declared.Content.{Content}
 use Rattle.read_content.specs.Contents.{ContentPre, ContentPost}
 use Rattle.read_event.specs.Judge.{CodeRead, LooseHere, judgeNumber, allowedHere, JudgePost}
@@ -43,15 +42,7 @@ plus-none n = omega arith
 
 -- Strings of which the value alone may join, with the rows of URI, name and owner.
 abbrev pub knownStrings : Joining → ℕ → ℕ → ℕ → Strings
-knownStrings x uri name owner =
-    record {
-      uri = noJoining;
-      name = noJoining;
-      value = x;
-      «uri_row» = uri;
-      «name_row» = name;
-      owner = owner;
-    }
+knownStrings x uri name owner = asStrings noJoining noJoining x uri name owner
 
 -- An event with such strings, that teaches nothing.
 pub moved-core : (c : Core) (at stored : ℕ) (x : Joining) (uri name owner : ℕ) (enters : Bool)

@@ -20,7 +20,6 @@ use Rattle.mem_layout.specs.Layout.{nameRows}
 use Rattle.mem_marks.specs.Marks.{markedIn, withMark}
 use Rattle.mem_rows.specs.Rows.{placedAt, modeAfter}
 use Rattle.mem_state.specs.declared.Core.{Core}
-use Rattle.mem_state.specs.declared.Joining.{Joining}
 use Rattle.mem_state.specs.Commit as commit
 use Rattle.mem_state.specs.Commit.{joinedUri, joinedName, joinedValue, joinedStrings, entered}
 use Rattle.mem_state.specs.Commit.{learnt, marked, grown, topAfter, depthAfter, tagNumber}
@@ -83,13 +82,12 @@ module _ {stream events text work : List ℕ} {c : Core} {cell n : ℕ}
       (omega (arith, l .stored-is), omega (arith, l .stored-is, l .room, same, pre .room))
 
   -- Where it joins there is room.
-  pub join-asks : {text₁ : List ℕ} {x : StringRead} {owner : ℕ} {j : Joining}
-      → JoinsWithin (c .values) text₁ x → owner < nameRows → j ≡ joiningOf x
-      → commit.ValuePre work (c .values) owner j
+  pub join-asks : {text₁ : List ℕ} {x : StringRead} {owner : ℕ}
+      → JoinsWithin (c .values) text₁ x → owner < nameRows
+      → commit.ValuePre work (c .values) owner (joiningOf x)
   unfolding maxValues
-  join-asks {owner = owner} joins low e =
-      subst (λ (l : Joining). commit.ValuePre work (c .values) owner l) (sym e)
-      (record { room = pre .rows; few = λ h. omega (arith, joins .left h); low = low })
+  join-asks joins low =
+      record { room = pre .rows; few = λ h. omega (arith, joins .left h); low = low }
 
 module _ {s : Settings} {stream events text work : List ℕ} {c : Core} {cell n : ℕ}
     (pre : StepPre stream events text work c cell n) {p : ProductionRead}
@@ -113,11 +111,6 @@ module _ {s : Settings} {stream events text work : List ℕ} {c : Core} {cell n 
   -- A value that is refused leaves the store as it was.
   same-store : {owner : ℕ} → ValueRead owner → 0 < x .number → x .stored ≡ c .stored
   same-store post h = ap (λ (r : StringRead). r .stored) (post .refused h .is)
-
-  joined : (owner : ℕ) {j : Joining} {work′ : List ℕ} → j ≡ joiningOf x
-      → work′ ≡ joinedValue (c .values) owner j work
-      → work′ ≡ joinedValue (c .values) owner (joiningOf x) work
-  joined owner h e = e ∙ ap (λ (l : Joining). joinedValue (c .values) owner l work) h
 
   stored : {f g : declared.Event} {events′ : List ℕ} → events′ ≡ withEvent events cell f → f ≡ g
       → events′ ≡ withEvent events cell g
@@ -155,25 +148,23 @@ module _ {s : Settings} {stream events text work : List ℕ} {c : Core} {cell n 
         z) refl (attribute-allowed work (c .tag) (p .name) kind i ∙ ap not e) cl
 
     pub attribute-stepped : x .number ≡ 0 → {m : Bool} → m ≡ markedIn work (c .tag) (p .name)
-        → m ≡ false → {v : Part} {f : declared.Event} {j : Joining}
+        → m ≡ false → {v : Part} {f : declared.Event}
         {work′ events′ : List ℕ} → v ≡ partOf x
         → f ≡ Attribute (uriPart work (p .uri)) (localPart work (p .local)) v
-        → events′ ≡ withEvent events cell f → j ≡ joiningOf x
-        → work′ ≡ withMark (joinedValue (c .values) (p .name) j work) (c .tag) (p .name)
+        → events′ ≡ withEvent events cell f
+        → work′
+        ≡ withMark (joinedValue (c .values) (p .name) (joiningOf x) work) (c .tag) (p .name)
         → StepPost s stream events text work c cell n events′ text₁ work′
         (steppedAs 0
         (movedOn c (x .next) (x .stored) (x .joins) false (c .mode) (c .top) (c .depth) (c .tag)))
     unfolding carriedAs uriPart localPart growthOf fitsIn judgeNumber grown learnt entered marked
         joinedStrings joinedUri joinedName modeAfter topAfter depthAfter tagNumber kindNumber
-    attribute-stepped z a o u i e h w =
+    attribute-stepped z a o u i e w =
         quick-read pre code
         (attribute-read (content-pre pre code) name-post (kind-is AT kind) refl (as-set post) joins
         z) refl (attribute-allowed work (c .tag) (p .name) kind a ∙ ap not o) (known-strict learned)
         (growth-by work c (knownStrings (joiningOf x) (p .uri) (p .name) (p .name)) kind learned)
-        refl
-        (w
-        ∙ ap (λ (l : Joining). withMark (joinedValue (c .values) (p .name) l work) (c .tag)
-        (p .name)) h)
+        refl w
         (stored e
         (i ∙ ap (Attribute (uriPart work (p .uri)) (localPart work (p .local))) u))
         (moved-core c (x .next) (x .stored) (joiningOf x) (p .uri) (p .name) (p .name) false
@@ -191,21 +182,21 @@ module _ {s : Settings} {stream events text work : List ℕ} {c : Core} {cell n 
         (characters-refused (content-pre pre code) (as-set post) joins (kind-is CH kind) kind h) h
         (same-store (as-set post) h)
 
-    pub characters-stepped : x .number ≡ 0 → {v : Part} {j : Joining} {work′ events′ : List ℕ}
+    pub characters-stepped : x .number ≡ 0 → {v : Part} {work′ events′ : List ℕ}
         {mode tag : ℕ} → v ≡ partOf x → events′ ≡ withEvent events cell (Characters v)
-        → j ≡ joiningOf x → work′ ≡ joinedValue (c .values) (c .top) j work
+        → work′ ≡ joinedValue (c .values) (c .top) (joiningOf x) work
         → mode ≡ modeAfter (kindNumber CH) (c .mode) (c .depth) → tag ≡ n + 2
         → StepPost s stream events text work c cell n events′ text₁ work′
         (steppedAs 0
         (movedOn c (x .next) (x .stored) (x .joins) false mode (c .top) (c .depth) tag))
     unfolding growthOf fitsIn judgeNumber grown learnt entered marked
         joinedStrings joinedUri joinedName topAfter depthAfter tagNumber kindNumber
-    characters-stepped z u e h w m t =
+    characters-stepped z u e w m t =
         quick-read pre code
         (characters-read (content-pre pre code) (as-set post) joins (kind-is CH kind) kind z) refl
         (other-allowed work (c .tag) 0 kind refl) (known-strict learned)
         (growth-by work c (knownStrings (joiningOf x) 0 0 (c .top)) kind learned) refl
-        (joined (c .top) h w) (stored e (ap Characters u))
+        w (stored e (ap Characters u))
         ((λ i. movedOn c (x .next) (x .stored) (x .joins) false (m i) (c .top) (c .depth) (t i))
         ∙ moved-core c (x .next) (x .stored) (joiningOf x) 0 0 (c .top) false
         (siteIn (c .mode) (c .top)) 5 0 0 n)

@@ -9,6 +9,7 @@ ghost use Rattle.event.specs.declared.Event.the-variants.{Attribute};
 ghost use Rattle.mem_names.specs.Uris.{UriRow};
 ghost use Rattle.mem_names.specs.Names.{NameRow};
 ghost use Rattle.mem_marks.specs.Marks.{withMark};
+ghost use Rattle.mem_state.specs.Joining.{joining};
 ghost use Rattle.mem_state.specs.Commit.{ValuePre, joinedValue};
 ghost use Rattle.mem_state.specs.Holds.{Bounded};
 ghost use Rattle.read_field.specs.View.{alignmentOf};
@@ -19,7 +20,6 @@ use event::Event;
 use event::Part;
 use event_code::CH;
 use mem_state::Core;
-use mem_state::Joining;
 use read_event::Stepped;
 use read_production::ProductionRead;
 use refusal::SHAPE;
@@ -102,12 +102,23 @@ fn attribute(work: &[u32], uri: u32, local: u32, value: Part) -> Event
 }
 
 // Adds an attribute's value, which may join, and the mark of its name.
-fn keep(work: &mut [u32], values: u32, name: u32, tag: u32, x: Joining)
-    requires { ⌜ ValuePre (now work) values name x ⌝ }
+fn keep(
+    work: &mut [u32],
+    values: u32,
+    name: u32,
+    tag: u32,
+    joins: bool,
+    place: u32,
+    size: u32,
+    hash: u32,
+)
+    requires { ⌜ ValuePre (now work) values name (joining joins place size hash) ⌝ }
     ensures { λ _. ⌜
-        now (work .exit) ≡ withMark (joinedValue values name x (now (work .entry))) tag name ⌝ }
+        now (work .exit)
+        ≡ withMark (joinedValue values name (joining joins place size hash) (now (work .entry)))
+        tag name ⌝ }
 {
-    mem_state::join_value(work, values, name, x);
+    mem_state::join_value(work, values, name, joins, place, size, hash);
     mem_marks::mark(work, name, tag);
 }
 
@@ -148,7 +159,16 @@ pub fn known_attribute(
     }
     let event = attribute(work, p.uri, p.local, read_qname::part_of(x));
     event::store(event, events, cell);
-    keep(work, c.values, p.name, c.tag, read_qname::joining(x));
+    keep(
+        work,
+        c.values,
+        p.name,
+        c.tag,
+        x.joins,
+        x.place,
+        x.size,
+        x.hash,
+    );
     moved_on(
         c,
         x.next,
@@ -196,7 +216,7 @@ pub fn known_characters(
     }
     let value = read_qname::part_of(x);
     event::store(Event::Characters(value), events, cell);
-    mem_state::join_value(work, c.values, c.top, read_qname::joining(x));
+    mem_state::join_value(work, c.values, c.top, x.joins, x.place, x.size, x.hash);
     let mode = mem_state::mode_after(CH, c.mode, c.depth);
     let tag = next_tag(n);
     moved_on(

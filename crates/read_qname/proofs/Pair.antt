@@ -28,6 +28,7 @@ use Rattle.mem_rows.specs.Rows.{Rows, placedAt, tablesOf, withUri, withName}
 use Rattle.mem_rows.specs.Valid.{Refers, Valid}
 use Rattle.mem_rows.proofs.Joins.{uri-new, name-new}
 use Rattle.mem_state.specs.declared.Core.{Core}
+use Rattle.mem_state.specs.Joining.{uriJoining}
 use Rattle.mem_state.specs.Holds.{Holds, Counts, Bounded}
 use Rattle.mem_state.specs.Strung.{uriAdded, nameAdded, valueAdded, Lain, StringsJoin}
 use Rattle.mem_state.proofs.Joins.{holds-grown}
@@ -38,7 +39,7 @@ use Rattle.read_names.specs.Uris.{asUri, UriPost, Spans, InUris, UriRowed}
 use Rattle.read_names.specs.Names.{NameRows, nameRole, asName, InNames, NameRowed}
 use Rattle.read_names.specs.Names as names
 use Rattle.read_qname.specs.Texts.{TextRead}
-use Rattle.read_qname.specs.Qnames.{joiningOf, noJoining, pairAs, Prepared, tablesAt}
+use Rattle.read_qname.specs.Qnames.{pairAs, Prepared, tablesAt}
 use Rattle.read_qname.specs.Qnames.{NameMeans}
 use Rattle.read_qname.proofs.Texts.{text-size, text-grown}
 use Rattle.read_qname.specs.declared.Named.{Named}
@@ -279,7 +280,8 @@ module _ {a : Alignment} {stream : List ℕ} {at : ℕ} {text work : List ℕ} {
           name-at-row false j = name-old j
 
           -- The URI's text is still there.
-          uri-still : u .joins ≡ true → Lain (upTo text₂ (l .stored)) (joiningOf u) (v .0)
+          uri-still : u .joins ≡ true
+              → Lain (upTo text₂ (l .stored)) (uriJoining (pairAs u l .strings)) (v .0)
           uri-still j =
               let q = i .lain j in
               record {

@@ -32,7 +32,7 @@ use Rattle.read_names.specs.Names.{nameRole, asName, NameRowed}
 use Rattle.read_names.specs.Names as names
 use Rattle.read_qname.specs.declared.Named.{Named}
 use Rattle.read_qname.specs.Texts.{TextRead}
-use Rattle.read_qname.specs.Qnames.{noStrings, noJoining, stoppedAs, carriedAs, pairAs}
+use Rattle.read_qname.specs.Qnames.{stoppedAs, carriedAs, pairAs}
 use Rattle.read_qname.specs.Qnames.{CarriedPre, PairPre, NamePre, Prepared, tablesAt}
 use Rattle.read_qname.specs.Qnames.{Carried, NameBounds, NameMeans, NamePost}
 use Rattle.read_qname.proofs.Texts.{text-size, text-none, text-then}

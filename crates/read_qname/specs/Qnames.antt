@@ -1,7 +1,7 @@
 -- What reading a qualified name asks and leaves (EXI 7.1.7).
 use Prim.Native.Nat.{ℕ, _*_, _≤_, _<_}
 use mathlib.Core.Path.{_≡_}
-use mathlib.Core.Bool.{Bool, true, false, cond}
+use mathlib.Core.Bool.{Bool, true, cond}
 use mathlib.Core.List.{List}
 use mathlib.Core.Option.{Option, none, some}
 use lib.ListN.{length, take}
@@ -23,8 +23,9 @@ use Rattle.mem_names.specs.Names.{nameIn}
 use Rattle.mem_rows.specs.Rows.{Rows, placedAt, tablesOf}
 use Rattle.mem_rows.specs.Valid.{Valid}
 use Rattle.mem_state.specs.declared.Core.{Core}
-use Rattle.mem_state.specs.declared.Joining.{Joining}
 use Rattle.mem_state.specs.declared.Strings.{Strings}
+use Rattle.mem_state.specs.Joining.{Joining, joining, noJoining, valueJoining, asStrings}
+use Rattle.mem_state.specs.Joining.{noStrings}
 use Rattle.mem_state.specs.Holds.{inStore, Holds, Counts, Bounded}
 use Rattle.mem_state.specs.Strung.{StringsJoin}
 use Rattle.read_contract.specs.Outcome.{Outcome}
@@ -36,21 +37,7 @@ use Rattle.read_qname.specs.Texts.{TextRead}
 -- ---- small answers
 
 abbrev pub joiningOf : StringRead → Joining
-joiningOf x = record { joins = x .joins; place = x .place; size = x .size; hash = x .hash }
-
-abbrev pub noJoining : Joining
-noJoining = record { joins = false; place = 0; size = 0; hash = 0 }
-
-abbrev pub noStrings : Strings
-noStrings =
-    record {
-      uri = noJoining;
-      name = noJoining;
-      value = noJoining;
-      «uri_row» = 0;
-      «name_row» = 0;
-      owner = 0;
-    }
+joiningOf x = joining (x .joins) (x .place) (x .size) (x .hash)
 
 abbrev pub partOf : StringRead → Part
 partOf x = record { place = x .place; size = x .size }
@@ -80,14 +67,7 @@ carriedAs work at stored name uri local =
       stored = stored;
       uri = record { place = uriIn work uri .place; size = uriIn work uri .size };
       local = record { place = nameIn work local .place; size = nameIn work local .size };
-      strings = record {
-        uri = noJoining;
-        name = noJoining;
-        value = noJoining;
-        «uri_row» = uri;
-        «name_row» = name;
-        owner = name;
-      };
+      strings = asStrings noJoining noJoining noJoining uri name name;
     }
 
 -- Both strings, read one after the other.
@@ -100,14 +80,7 @@ pairAs u l =
       stored = l .stored;
       uri = partOf u;
       local = partOf l;
-      strings = record {
-        uri = joiningOf u;
-        name = joiningOf l;
-        value = noJoining;
-        «uri_row» = u .row;
-        «name_row» = l .row;
-        owner = l .row;
-      };
+      strings = asStrings (joiningOf u) (joiningOf l) noJoining (u .row) (l .row) (l .row);
     }
 
 -- ---- what is asked: bounds alone
@@ -148,9 +121,9 @@ pub record Carried (w : Rows) (name uri local : ℕ) : Type 0 where
 
 -- The strings of a name on every memory: which rows they have, and that their tables have room.
 pub record NameBounds (c : Core) (s : Strings) : Type 0 where
-  pub uris : s .uri .joins ≡ true → c .uris < maxUris
-  pub names : s .name .joins ≡ true → c .names < maxNames
-  pub value : s .value ≡ noJoining
+  pub uris : s .«new_uri» ≡ true → c .uris < maxUris
+  pub names : s .«new_name» ≡ true → c .names < maxNames
+  pub value : valueJoining s ≡ noJoining
   pub uri : s .«uri_row» < uriRows
   pub name : s .«name_row» < nameRows
   pub owner : s .owner ≡ s .«name_row»

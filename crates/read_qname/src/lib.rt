@@ -4,11 +4,9 @@
 ghost use mathlib.Core.Path.{_≡_};
 ghost use mathlib.Core.Option.{none};
 ghost use Rattle.read_field.specs.View.{alignmentOf};
-ghost use Rattle.read_qname.specs.Qnames.{joiningOf, noJoining, noStrings, partOf};
-ghost use Rattle.read_qname.specs.Qnames.{stoppedAs, PairPre, pairAs, NamePost};
+ghost use Rattle.read_qname.specs.Qnames.{partOf, stoppedAs, PairPre, pairAs, NamePost};
 use event::Part;
 use mem_state::Core;
-use mem_state::Joining;
 use mem_state::Strings;
 use read_partition::StringRead;
 
@@ -25,30 +23,6 @@ pub struct Named {
     pub strings: Strings,
 }
 
-// What a string that was read adds to its table.
-pub fn joining(x: StringRead) -> Joining
-    ensures { λ r. ⌜ r ≡ joiningOf x ⌝ }
-{
-    Joining {
-        joins: x.joins,
-        place: x.place,
-        size: x.size,
-        hash: x.hash,
-    }
-}
-
-// Nothing.
-pub fn no_joining() -> Joining
-    ensures { λ r. ⌜ r ≡ noJoining ⌝ }
-{
-    Joining {
-        joins: false,
-        place: 0,
-        size: 0,
-        hash: 0,
-    }
-}
-
 // Where a string lies.
 pub fn part_of(s: StringRead) -> Part
     ensures { λ r. ⌜ r ≡ partOf s ⌝ }
@@ -59,29 +33,12 @@ pub fn part_of(s: StringRead) -> Part
     }
 }
 
-// An event without strings.
-pub fn no_strings() -> Strings
-    ensures { λ r. ⌜ r ≡ noStrings ⌝ }
-{
-    let uri = no_joining();
-    let name = no_joining();
-    let value = no_joining();
-    Strings {
-        uri,
-        name,
-        value,
-        uri_row: 0,
-        name_row: 0,
-        owner: 0,
-    }
-}
-
 fn stopped(number: u32, next: usize, left: usize, stored: usize) -> Named
     ensures { λ r. ⌜ r ≡ stoppedAs number next left stored ⌝ }
 {
     let uri = Part { place: 0, size: 0 };
     let local = Part { place: 0, size: 0 };
-    let strings = no_strings();
+    let strings = mem_state::no_strings();
     Named {
         number,
         next,
@@ -97,9 +54,14 @@ fn stopped(number: u32, next: usize, left: usize, stored: usize) -> Named
 fn paired(u: StringRead, l: StringRead) -> Named
     ensures { λ r. ⌜ r ≡ pairAs u l ⌝ }
 {
-    let mut strings = no_strings();
-    strings.uri = joining(u);
-    strings.name = joining(l);
+    let mut strings = mem_state::no_strings();
+    strings.uri_place = u.place;
+    strings.uri_size = u.size;
+    strings.new_uri = u.joins;
+    strings.name_place = l.place;
+    strings.name_size = l.size;
+    strings.name_hash = l.hash;
+    strings.new_name = l.joins;
     strings.uri_row = u.row;
     strings.name_row = l.row;
     strings.owner = l.row;

@@ -23,6 +23,7 @@ use Rattle.mem_learned.specs.Grammars.{flagIn}
 use Rattle.mem_rows.specs.Rows.{carries, modeAfter}
 use Rattle.mem_state.specs.declared.Core.{Core}
 use Rattle.mem_state.specs.declared.Growth.{Growth}
+use Rattle.mem_state.specs.Joining.{noJoining, noStrings}
 use Rattle.mem_state.specs.Commit.{joinedUri, joinedName, joinedValue, joinedStrings, entered}
 use Rattle.mem_state.specs.Commit.{learnt, marked, grown, topAfter, depthAfter, tagNumber}
 use Rattle.grammar_match.specs.Here.{siteIn}
@@ -30,7 +31,6 @@ use Rattle.grammar_match.specs.Found.{FoundHere}
 use Rattle.grammar_match.proofs.Found.{found-outside}
 use Rattle.grammar_update.specs.Growth.{growthOf, fitsIn}
 use Rattle.read_production.specs.declared.ProductionRead.{ProductionRead}
-use Rattle.read_qname.specs.Qnames.{noJoining, noStrings}
 use Rattle.read_content.specs.Contents.{plainAs, ContentPost}
 use Rattle.read_content.proofs.Contents.{kind-is}
 use Rattle.read_content.proofs.Returns.{bare-read}

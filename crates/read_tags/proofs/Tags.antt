@@ -20,12 +20,13 @@ use Rattle.mem_learned.specs.Grammars.{flagIn}
 use Rattle.mem_rows.specs.Rows.{placedAt, modeAfter}
 use Rattle.mem_state.specs.declared.Core.{Core}
 use Rattle.mem_state.specs.declared.Strings.{Strings}
+use Rattle.mem_state.specs.Joining.{noJoining}
 use Rattle.mem_state.specs.Commit.{joinedUri, joinedName, joinedValue, joinedStrings, entered}
 use Rattle.mem_state.specs.Commit.{learnt, marked, grown, topAfter, depthAfter, tagNumber}
 use Rattle.grammar_match.specs.Here.{siteIn}
 use Rattle.grammar_update.specs.Growth.{growthOf, fitsIn}
 use Rattle.read_production.specs.declared.ProductionRead.{ProductionRead}
-use Rattle.read_qname.specs.Qnames.{noJoining, carriedAs, Carried, NamePost}
+use Rattle.read_qname.specs.Qnames.{carriedAs, Carried, NamePost}
 use Rattle.read_qname.proofs.Returns.{carried-read, as-carried}
 use Rattle.read_content.specs.declared.Content.{Content}
 use Rattle.read_content.specs.Contents.{ContentPost}

@@ -15,9 +15,9 @@ use Rattle.event.specs.Cells.{cellsOf, meaning}
 use Rattle.event_code.specs.Numbers.{teachesIn}
 use Rattle.mem_state.specs.declared.Core.{Core}
 use Rattle.mem_state.specs.Holds.{Bounded}
+use Rattle.mem_state.specs.Joining.{noStrings}
 use Rattle.read_production.specs.declared.ProductionRead.{ProductionRead}
 use Rattle.read_production.specs.Production.{ProductionBounds}
-use Rattle.read_qname.specs.Qnames.{noStrings}
 use Rattle.read_event.specs.declared.Stepped.{Stepped}
 use Rattle.read_event.specs.Judge.{LooseHere, CodeRead}
 use Rattle.read_event.specs.Step.{steppedAs, StepPre, StepPost}

@@ -18,7 +18,7 @@ use Rattle.event.specs.Cells.{asSpan, asName, meaning}
 use Rattle.mem_entries.specs.Entries.{keyAt}
 use Rattle.mem_rows.specs.Rows.{Rows, nameAt, carries}
 use Rattle.mem_state.specs.declared.Core.{Core}
-use Rattle.mem_state.specs.declared.Joining.{Joining}
+use Rattle.mem_state.specs.Joining.{Joining}
 use Rattle.mem_state.specs.Strung.{valueAdded}
 use Rattle.mem_state.proofs.Strung.{value-names}
 use Rattle.write_partition.specs.Writable.{Few, tablesIn}
@@ -101,7 +101,7 @@ module _ {opening text work : List ℕ} {c : Core} (pre : ContentPre work c) whe
           store = post .bounds z .store;
         }
 
-    no-value : n .number ≡ 0 → n .strings .value .joins ≡ false
+    no-value : n .number ≡ 0 → n .strings .«new_value» ≡ false
     no-value z = ap (λ (v : Joining). v .joins) (post .bounds z .value)
 
     module _ (x : Part) where

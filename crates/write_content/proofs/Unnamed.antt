@@ -22,7 +22,9 @@ use Rattle.event.specs.declared.Event.the-variants.{Characters, Comment, Instru
 use Rattle.event.specs.Cells.{asSpan, meaning}
 use Rattle.mem_rows.specs.Rows.{Rows, nameAt, carries}
 use Rattle.mem_state.specs.declared.Core.{Core}
+use Rattle.mem_state.specs.Joining.{noStrings}
 use Rattle.mem_state.specs.Strung.{valueAdded, StringsJoin}
+use Rattle.mem_state.proofs.Strung.{none-join}
 use Rattle.write_partition.specs.declared.StringJudged.{StringJudged}
 use Rattle.write_partition.specs.Writable.{tablesIn}
 use Rattle.write_partition.specs.Judged.{faultNumber, StringMeans}
@@ -30,15 +32,13 @@ use Rattle.write_values.specs.declared.ValueJudged.{ValueJudged}
 use Rattle.write_values.specs.Values.{valueBits, ValuePost}
 use Rattle.write_values.specs.Texts.{TextPost}
 use Rattle.write_qname.specs.Premise.{listStores, Prepared, Inside, partAt}
-use Rattle.write_qname.specs.Qnames.{noStrings}
 use Rattle.write_qname.proofs.Items.{ItemsMean, no-items, one-item, items-first, items-then, items-passed}
 use Rattle.write_qname.proofs.Lain.{placedIn}
 use Rattle.write_qname.proofs.Pair.{few-rows}
 use Rattle.write_content.specs.Writing.{valuedBits, contentBits, Puttable}
 use Rattle.write_content.specs.Contents.{plainAs, stoppedAs, withValue, itemsAs}
 use Rattle.write_content.specs.Contents.{ContentPre, ContentPost}
-use Rattle.write_content.proofs.Values.{none-join, value-means}
-use Rattle.write_content.proofs.Values.{value-at, value-joins, value-puttable}
+use Rattle.write_content.proofs.Values.{value-means, value-at, value-joins, value-puttable}
 use Rattle.write_content.proofs.Contents.{first-inside, post-refused, unnamed-means}
 
 -- ---- characters

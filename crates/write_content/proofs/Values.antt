@@ -2,8 +2,8 @@
 use Prim.Native.Nat.{ℕ, _+_, _≤_, _<_}
 use native.Mathlib.Omega.{arith}
 use mathlib.Core.Path.{_≡_, refl, sym, ap, subst, _∙_}
-use mathlib.Core.Bool.{Bool, true, false, cond, true≢false}
-use mathlib.Core.List.{List, []}
+use mathlib.Core.Bool.{Bool, true, false, cond}
+use mathlib.Core.List.{List}
 use mathlib.Core.Option.{none}
 use lib.ListN.{length}
 use Rattle.spec_exi.specs.Sizes.{maxUris, maxNames}
@@ -13,18 +13,17 @@ use Rattle.event.specs.declared.Part.{Part}
 use Rattle.event.specs.Cells.{asSpan}
 use Rattle.mem_values.specs.Forms.{ValuesStand}
 use Rattle.mem_rows.specs.Rows.{Rows, placedAt, nameAt, withValue}
-use Rattle.mem_rows.specs.Valid.{Valid}
 use Rattle.mem_state.specs.declared.Core.{Core}
 use Rattle.mem_state.specs.declared.Strings.{Strings}
 use Rattle.mem_state.specs.Holds.{Stores, Bounded, Counts}
-use Rattle.mem_state.specs.Strung.{uriAdded, nameAdded, valueAdded, StringsJoin}
-use Rattle.mem_state.proofs.Strung.{uris-counted, names-counted, strings-values}
+use Rattle.mem_state.specs.Strung.{valueAdded, StringsJoin}
+use Rattle.mem_state.proofs.Strung.{uris-counted, names-counted, strings-values, value-more}
 use Rattle.write_partition.specs.Writable.{Writable, Few}
 use Rattle.write_partition.specs.Judged.{StringMeans}
 use Rattle.write_values.specs.declared.ValueJudged.{ValueJudged}
 use Rattle.write_values.specs.Values.{valueBits, ValueBounds, ValuePost}
 use Rattle.write_qname.specs.Premise.{listStores, Prepared, Inside, partAt}
-use Rattle.write_qname.specs.Qnames.{noStrings}
+use Rattle.write_qname.specs.Qnames.{joiningOf}
 use Rattle.write_qname.proofs.Lain.{placedIn, lain-in}
 use Rattle.write_content.specs.declared.Content.{Content}
 use Rattle.write_content.specs.Writing.{ValuePuttable}
@@ -39,31 +38,13 @@ within false few left e = omega (arith, few, e)
 
 pub few-strings : {from : Stores} {c : Core} {s : Strings} {w v : Rows} → Bounded c
     → Counts c w → StringsJoin from s w v
-    → (s .uri .joins ≡ true → c .uris < maxUris) → (s .name .joins ≡ true → c .names < maxNames)
-    → s .value .joins ≡ false → Few v
+    → (s .«new_uri» ≡ true → c .uris < maxUris) → (s .«new_name» ≡ true → c .names < maxNames)
+    → s .«new_value» ≡ false → Few v
 few-strings {s = s} b n j uris names f =
     record {
-      uris = within (s .uri .joins) (b .uris) uris (uris-counted j n);
-      names = within (s .name .joins) (b .names) names (names-counted j n);
+      uris = within (s .«new_uri») (b .uris) uris (uris-counted j n);
+      names = within (s .«new_name») (b .names) names (names-counted j n);
       values = omega (arith, ap length (strings-values j f), b .values, n .values);
-    }
-
--- None have joined.
-pub none-join : (from : Stores) {w : Rows} → Valid w → StringsJoin from noStrings w w
-unfolding uriAdded nameAdded valueAdded
-none-join from v =
-    let x : Placed = record { place = 0; text = [] } in
-    record {
-      uri = x;
-      name = x;
-      value = x;
-      uri-joins = λ j. absurd (true≢false (sym j));
-      name-joins = λ j. absurd (true≢false (sym j));
-      value-joins = λ j. absurd (true≢false (sym j));
-      uri-valid = v;
-      name-valid = v;
-      valid = v;
-      is = refl;
     }
 
 -- ---- a value more
@@ -78,11 +59,6 @@ unfolding asSpan
 value-at {text} x e {owner} {values} {stored} {work} {v} p =
     subst (λ t. ValuePost text t owner values stored work v) e p
 
-without-value : (b : Bool) (k : ℕ) (w : Rows) (y : Placed) → b ≡ false → valueAdded b k w y ≡ w
-unfolding valueAdded
-without-value true k w y e = absurd (true≢false e)
-without-value false k w y e = refl
-
 -- Names stay.
 pub value-name : (b : Bool) (k : ℕ) (w : Rows) (y : Placed) (n : ℕ)
     → nameAt (valueAdded b k w y) n ≡ nameAt w n
@@ -92,7 +68,7 @@ value-name false k w y n = refl
 
 module _ {opening text work : List ℕ} {c : Core} {w : Rows} (p : Prepared opening text work c w)
     {s : Strings} {w₂ : Rows} (j : StringsJoin (listStores opening text) s w w₂)
-    (f : s .value .joins ≡ false) where
+    (f : s .«new_value» ≡ false) where
   values-stand : ValuesStand work text (length text) (c .values) 0 (c .values) (w₂ .values) none
   values-stand =
       subst (λ es. ValuesStand work text (length text) (c .values) 0 (c .values) es none)
@@ -112,22 +88,9 @@ module _ {opening text work : List ℕ} {c : Core} {w : Rows} (p : Prepared open
         → StringsJoin (listStores opening text) (contents.withValue s owner x v .strings) w
         (valueAdded (v .joins) owner w₂ (placedIn text x))
     value-joins z i =
-        record {
-          uri = j .uri;
-          name = j .name;
-          value = placedIn text x;
-          uri-joins = j .uri-joins;
-          name-joins = j .name-joins;
-          value-joins = λ b. record {
-            lain = lain-in i (v .joins) (v .hash);
-            hash = post .bounds z .new b .2;
-          };
-          uri-valid = j .uri-valid;
-          name-valid = j .name-valid;
-          valid = value-means .valid z;
-          is = ap (λ (y : Rows). valueAdded (v .joins) owner y (placedIn text x))
-              (j .is ∙ without-value (s .value .joins) (s .owner) _ (j .value) f);
-        }
+        value-more j f owner (joiningOf x (v .joins) (v .hash)) (placedIn text x)
+        (λ b. record { lain = lain-in i (v .joins) (v .hash); hash = post .bounds z .new b .2 })
+        (value-means .valid z)
 
 -- ---- what the writing asks
 

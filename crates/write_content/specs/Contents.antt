@@ -26,6 +26,7 @@ use Rattle.mem_entries.specs.Entries.{keyAt}
 use Rattle.mem_rows.specs.Rows.{Rows, nameAt, carries}
 use Rattle.mem_state.specs.declared.Core.{Core}
 use Rattle.mem_state.specs.declared.Strings.{Strings}
+use Rattle.mem_state.specs.Joining.{noStrings, valuedStrings}
 use Rattle.mem_state.specs.Holds.{Bounded}
 use Rattle.mem_state.specs.Strung.{StringsJoin}
 use Rattle.write_partition.specs.Writable.{Writable, tablesIn}
@@ -33,7 +34,7 @@ use Rattle.write_partition.specs.Judged.{faultNumber}
 use Rattle.write_values.specs.declared.ValueJudged.{ValueJudged}
 use Rattle.write_values.specs.Values.{neither}
 use Rattle.write_qname.specs.Premise.{listStores, Prepared}
-use Rattle.write_qname.specs.Qnames.{joiningOf, noStrings, NoName, nameAs, NameHits}
+use Rattle.write_qname.specs.Qnames.{joiningOf, NoName, nameAs, NameHits}
 use Rattle.write_content.specs.declared.Content.{Content}
 use Rattle.write_content.specs.Writing.{contentBits, Puttable}
 
@@ -52,14 +53,7 @@ withValue s owner p v =
     record {
       number = 0;
       stored = v .stored;
-      strings = record {
-        uri = s .uri;
-        name = s .name;
-        value = joiningOf p (v .joins) (v .hash);
-        «uri_row» = s .«uri_row»;
-        «name_row» = s .«name_row»;
-        owner = owner;
-      };
+      strings = valuedStrings s owner (joiningOf p (v .joins) (v .hash));
       partition = v .partition;
       id = v .id;
     }
@@ -97,9 +91,9 @@ pub record ContentPre (work : List ℕ) (c : Core) : Type 0 where
 
 -- On every memory: which rows the strings have, and that their tables have room.
 pub record ContentBounds (c : Core) (s : Strings) : Type 0 where
-  pub uris : s .uri .joins ≡ true → c .uris < maxUris
-  pub names : s .name .joins ≡ true → c .names < maxNames
-  pub values : s .value .joins ≡ true → c .values < maxValues
+  pub uris : s .«new_uri» ≡ true → c .uris < maxUris
+  pub names : s .«new_name» ≡ true → c .names < maxNames
+  pub values : s .«new_value» ≡ true → c .values < maxValues
   pub uri : s .«uri_row» < uriRows
   pub name : s .«name_row» < nameRows
   pub owner : s .owner < nameRows

@@ -57,9 +57,9 @@ contentBits text work (Instruction x y) carried c r a =
 
 -- What is written of a name may be written.
 pub record NamePuttable (c : Core) (s : Strings) (u x : Text) : Type 0 where
-  pub old : s .uri .joins ≡ false → s .«uri_row» < c .uris
-  pub new-uri : s .uri .joins ≡ true → Written u
-  pub new-name : s .name .joins ≡ true → Written x
+  pub old : s .«new_uri» ≡ false → s .«uri_row» < c .uris
+  pub new-uri : s .«new_uri» ≡ true → Written u
+  pub new-name : s .«new_name» ≡ true → Written x
 
 pub record ValuePuttable (x : Content) (v : Text) : Type 0 where
   pub literal : (x .partition ≡ own → ⊥) → (x .partition ≡ all → ⊥) → Written v

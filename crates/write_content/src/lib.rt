@@ -34,7 +34,7 @@ pub struct Content {
 fn stopped(number: u32, stored: usize) -> Content
     ensures { λ r. ⌜ r ≡ stoppedAs number stored ⌝ }
 {
-    let strings = write_qname::no_strings();
+    let strings = mem_state::no_strings();
     Content {
         number,
         stored,
@@ -61,9 +61,7 @@ fn plain(stored: usize, strings: Strings) -> Content
 fn with_value(s: Strings, owner: u32, p: Part, v: ValueJudged) -> Content
     ensures { λ r. ⌜ r ≡ withValue s owner p v ⌝ }
 {
-    let mut strings = s;
-    strings.value = write_qname::joining(p, v.joins, v.hash);
-    strings.owner = owner;
+    let strings = mem_state::with_value(s, owner, v.joins, p.place, p.size, v.hash);
     Content {
         number: 0,
         stored: v.stored,
@@ -134,7 +132,7 @@ fn judge_characters(opening: &[u32], text: &[u32], value: Part, c: Core, work: &
     if v.number != 0 {
         return stopped(v.number, c.stored);
     }
-    let strings = write_qname::no_strings();
+    let strings = mem_state::no_strings();
     with_value(strings, c.top, value, v)
 }
 
@@ -149,7 +147,7 @@ fn judge_comment(opening: &[u32], text: &[u32], value: Part, c: Core, work: &[u3
     if v.number != 0 {
         return stopped(v.number, c.stored);
     }
-    let strings = write_qname::no_strings();
+    let strings = mem_state::no_strings();
     plain(v.stored, strings)
 }
 
@@ -177,7 +175,7 @@ fn judge_instruction(
     if v.number != 0 {
         return stopped(v.number, c.stored);
     }
-    let strings = write_qname::no_strings();
+    let strings = mem_state::no_strings();
     plain(v.stored, strings)
 }
 
@@ -188,13 +186,13 @@ pub fn judge_content(opening: &[u32], text: &[u32], e: Event, c: Core, work: &[u
         ContentPost (now (opening .entry)) (now (text .entry)) e c (now (work .entry)) r ⌝ }
 {
     match e {
-        Event::StartDocument => plain(c.stored, write_qname::no_strings()),
-        Event::EndDocument => plain(c.stored, write_qname::no_strings()),
+        Event::StartDocument => plain(c.stored, mem_state::no_strings()),
+        Event::EndDocument => plain(c.stored, mem_state::no_strings()),
         Event::StartElement(uri, local) => judge_element(opening, text, uri, local, c, work),
         Event::Attribute(uri, local, value) => {
             judge_attribute(opening, text, uri, local, value, c, work)
         }
-        Event::EndElement => plain(c.stored, write_qname::no_strings()),
+        Event::EndElement => plain(c.stored, mem_state::no_strings()),
         Event::Characters(value) => judge_characters(opening, text, value, c, work),
         Event::Comment(value) => judge_comment(opening, text, value, c, work),
         Event::Instruction(target, value) => {

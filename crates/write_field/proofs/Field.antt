@@ -4,19 +4,22 @@ use mathlib.Core.Path.{_≡_, refl, sym, ap, ap₂, subst, _∙_}
 use Prim.Native.Nat.{ℕ, zero, suc, _+_, _*_, _-_, _/_, _%_, _^_, _≤_, _<_}
 use native.Mathlib.Nat.{lt-of-lt-of-le, mul-assoc, mul-mod-left}
 use native.Mathlib.Omega.{arith}
-use mathlib.Core.Bool.{false}
+use mathlib.Core.Bool.{Bool, true, false}
 use mathlib.Core.List.{List, [], _++_, append-nil}
 use lib.ListN.{length, getD, replicate, length-replicate}
 use mir.Syntax.{w8}
 use mir.Val.{Fits}
-use lib.Pow.{pow-mono, pow-pos, pow-add, shl-lt, shl-exact, shl-shr, shr-lt, shr-shr}
+use lib.Pow.{pow-mono, pow-pos, pow-add, shl-lt, shl-exact, shr-lt}
 use lib.Bits.{bitAnd, and-mask, mask-lt}
 use lib.Dec.{T}
 use Rattle.spec_fields.specs.Bits.{bitsOf, each, unpack, octetsFor}
-use Rattle.spec_fields.specs.Field.{Alignment, byteAligned, littleEndian, numberBits}
+use Rattle.spec_fields.specs.Field.{Alignment, bitPacked, byteAligned}
+use Rattle.spec_fields.specs.Field.{littleEndian, numberBits}
 use Rattle.spec_fields.specs.Field.{width, choiceBits}
 use Rattle.spec_fields.proofs.Number.{length-bits, bits-of-value, width-enough, width-least}
-use Rattle.write_field.specs.Written.{written, blankFrom, Put, farthest}
+use Rattle.read_field.specs.Parts.{few}
+use Rattle.read_field.proofs.FewBits.{width-none, width-some}
+use Rattle.write_field.specs.Written.{alignmentOf, written, blankFrom, Put, farthest}
 use Rattle.write_field.specs.Written.{NumberFits, ChoiceFits, ShortFits}
 use Rattle.write_field.proofs.Written.{written-zeros, put-then, put-blank, put-nothing}
 use Rattle.write_field.proofs.Octet.{value-zeros, bits-join}
@@ -177,58 +180,62 @@ module _ (buf : List ℕ) {at n v : ℕ} (h : BitsFit buf at n v) where
       let z = first-none at n v (h .2) (h .3) (omega arith) in
       put-one (put-zeros (8 - at % 8) known (h .0) z) known (omega arith)
 
--- ---- an octet: its window has no third part
+-- ---- at most eight bits: their window has no third part
 
-module _ (at o : ℕ) (h : o < 256) where
-  octet-exact : window at 8 o ≡ o * 2 ^ (16 - at % 8)
-  octet-exact =
-      let e : behind at 8 ≡ 16 - at % 8 = omega arith in
-      exact at 8 o (omega arith) h ∙ ap (λ k. o * 2 ^ k) e
+abbrev pub short : ℕ → ℕ → ℕ → ℕ
+short at n v = (v * 2 ^ (16 - at % 8 - n)) % 2 ^ 32
 
-  octet-first : first at 8 o ≡ o / 2 ^ (at % 8)
-  octet-first =
-      let e : 16 - at % 8 + at % 8 ≡ 16 = omega arith in
-      let s = shr-shr (o * 2 ^ (16 - at % 8)) (16 - at % 8) (at % 8) in
-      rw octet-exact (sym (rw e at s) ∙ ap (λ x. x / 2 ^ (at % 8)) (shl-shr o (16 - at % 8)))
+module _ (at n v : ℕ) (small : n ≤ 8) (fits : v < 2 ^ n) where
+  short-window : window at n v ≡ short at n v * 256
+  short-window =
+      let k = 16 - at % 8 - n in
+      let e : behind at n ≡ k + 8 = omega arith in
+      let p : 2 ^ behind at n ≡ 2 ^ k * 256 = ap (λ j. 2 ^ j) e ∙ pow-add 2 k 8 in
+      let x : short at n v ≡ v * 2 ^ k = shl-exact n k 32 fits (omega arith) in
+      exact at n v (omega arith) fits ∙ rw (p, x) (sym (mul-assoc v (2 ^ k) 256))
 
-  octet-second : second at 8 o ≡ bitAnd ((o * 2 ^ (8 - at % 8)) % 2 ^ 32) 255
-  octet-second =
-      let e : 16 - at % 8 ≡ (8 - at % 8) + 8 = omega arith in
-      let p : 2 ^ (16 - at % 8) ≡ 2 ^ (8 - at % 8) * 2 ^ 8 =
-      ap (λ k. 2 ^ k) e ∙ pow-add 2 (8 - at % 8) 8 in
-      let x = shl-exact 8 (8 - at % 8) 32 h (omega arith) in
-      let d : o * 2 ^ (16 - at % 8) / 256 ≡ o * 2 ^ (8 - at % 8) =
-      rw (p, ← mul-assoc o (2 ^ (8 - at % 8)) (2 ^ 8)) (shl-shr (o * 2 ^ (8 - at % 8)) 8) in
-      rw (octet-exact, d, x)
+  short-first : first at n v ≡ short at n v / 256
+  short-first = omega (arith, short-window)
 
-module _ (buf : List ℕ) {at o : ℕ}
-    (h : T (blankFrom buf at) × (at ≤ farthest + 40) × (o < 256)) where
-  eight : BitsFit buf at 8 o
-  eight = (h .0, h .1, omega arith, h .2)
+  short-second : second at n v ≡ bitAnd (short at n v) 255
+  short-second =
+      let e : window at n v / 256 ≡ short at n v = omega (arith, short-window) in
+      ap (λ x. bitAnd x 255) e
 
-  pub octet-asks : ShortFits buf at (8 - at % 8) (o / 2 ^ (at % 8))
-  octet-asks =
-      subst (ShortFits buf at (8 - at % 8)) (octet-first at o (h .2)) (first-asks buf eight)
+-- What such bits ask.
+abbrev pub FewFit : List ℕ → ℕ → ℕ → ℕ → Type 0
+FewFit buf at n v = T (blankFrom buf at) × (at ≤ farthest + 40) × (n ≤ 8) × (v < 2 ^ n)
+
+module _ (buf : List ℕ) {at n v : ℕ} (h : FewFit buf at n v) where
+  any : BitsFit buf at n v
+  any = (h .0, h .1, omega (arith, h .2), h .3)
+
+  pub few-asks : ShortFits buf at (8 - at % 8) (short at n v / 256)
+  few-asks =
+      subst (ShortFits buf at (8 - at % 8)) (short-first at n v (h .2) (h .3)) (first-asks buf any)
 
   module _ {mid : List ℕ} {p : ℕ}
-      (a : Put buf at (bitsOf (8 - at % 8) (o / 2 ^ (at % 8))) mid p) where
-    begun : Put buf at (bitsOf (8 - at % 8) (first at 8 o)) mid p
-    begun = subst (λ x. Put buf at (bitsOf (8 - at % 8) x) mid p) (sym (octet-first at o (h .2))) a
+      (a : Put buf at (bitsOf (8 - at % 8) (short at n v / 256)) mid p) where
+    begun : Put buf at (bitsOf (8 - at % 8) (first at n v)) mid p
+    begun =
+        let e = sym (short-first at n v (h .2) (h .3)) in
+        subst (λ x. Put buf at (bitsOf (8 - at % 8) x) mid p) e a
 
-    pub octet-whole : Known mid → at % 8 ≡ 0 → Put buf at (bitsOf 8 o) mid (at + 8)
-    octet-whole known e = put-one buf eight begun known (omega (arith, second-at buf eight begun))
+    pub few-one : Known mid → at + n ≤ p → Put buf at (bitsOf n v) mid (at + n)
+    few-one known l = put-one buf any begun known l
 
-    pub rest-asks : ShortFits mid p (8 - p % 8) (bitAnd ((o * 2 ^ (8 - at % 8)) % 2 ^ 32) 255)
+    pub rest-asks : ShortFits mid p (8 - p % 8) (bitAnd (short at n v) 255)
     rest-asks =
-        subst (ShortFits mid p (8 - p % 8)) (octet-second at o (h .2)) (second-asks buf eight begun)
+        let e = short-second at n v (h .2) (h .3) in
+        subst (ShortFits mid p (8 - p % 8)) e (second-asks buf any begun)
 
-    pub octet-split : {far : List ℕ} {q : ℕ}
-        → Put mid p (bitsOf (8 - p % 8) (bitAnd ((o * 2 ^ (8 - at % 8)) % 2 ^ 32) 255)) far q
-        → Known far → Put buf at (bitsOf 8 o) far (at + 8)
-    octet-split {far} {q} b known =
-        let e = sym (octet-second at o (h .2)) in
+    pub few-two : {far : List ℕ} {q : ℕ}
+        → Put mid p (bitsOf (8 - p % 8) (bitAnd (short at n v) 255)) far q
+        → Known far → Put buf at (bitsOf n v) far (at + n)
+    few-two {far} {q} b known =
+        let e = sym (short-second at n v (h .2) (h .3)) in
         let c = subst (λ x. Put mid p (bitsOf (8 - p % 8) x) far q) e b in
-        put-two buf eight begun c known (omega (arith, third-at buf eight begun c))
+        put-two buf any begun c known (omega (arith, h .2, third-at buf any begun c))
 
 -- ---- the fewest octets that hold n bits
 
@@ -277,6 +284,9 @@ module _ {buf : List ℕ} {at n v : ℕ} (h : NumberFits buf at n v) where
 
 -- ---- a choice among m
 
+chosen-fits : {buf : List ℕ} {at m v : ℕ} → ChoiceFits buf at m v → v < 2 ^ width m
+chosen-fits {m = m} h = omega (arith, h .one, width-enough m, pow-pos (width m))
+
 module _ {buf : List ℕ} {at m v n : ℕ} (h : ChoiceFits buf at m v) (e : n ≡ width m) where
   pub choice-asks : NumberFits buf at n v
   choice-asks =
@@ -284,9 +294,34 @@ module _ {buf : List ℕ} {at m v n : ℕ} (h : ChoiceFits buf at m v) (e : n �
         blank = h .blank;
         near = h .near;
         narrow = rw e (width-least m 16 (h .few));
-        fits = rw e (lt-of-lt-of-le (h .one) (width-enough m));
+        fits = rw e (chosen-fits h);
       }
 
   pub put-chosen : (a : Alignment) {after : List ℕ} {r : ℕ} → Put buf at (numberBits a n v) after r → Put buf at (choiceBits a m v) after r
   unfolding choiceBits
   put-chosen a p = rw (← e) p
+
+-- None of one, and at most an octet of 256.
+module _ {buf : List ℕ} {at m v : ℕ} (h : ChoiceFits buf at m v) where
+  pub put-sole : m ≤ 1 → Known buf → (a : Alignment) → Put buf at (choiceBits a m v) buf at
+  unfolding choiceBits numberBits octetsFor littleEndian unpack each bitsOf
+  put-sole l known bitPacked = rw (width-none m l) (put-nothing known (h .blank))
+  put-sole l known byteAligned = rw (width-none m l) (put-nothing known (h .blank))
+
+  module _ (l : m ≤ 256) where
+    pub few-of : (aligned : Bool) → FewFit buf at (few aligned m) v
+    unfolding few
+    few-of true = (h .blank, omega (arith, h .near), omega arith, omega (arith, h .one))
+    few-of false = (h .blank, omega (arith, h .near), width-least m 8 l, chosen-fits h)
+
+    pub put-one-of : 1 < m → (aligned : Bool) {after : List ℕ} {r : ℕ}
+        → Put buf at (bitsOf (few aligned m) v) after r
+        → Put buf at (choiceBits (alignmentOf aligned) m v) after r
+    unfolding few alignmentOf choiceBits numberBits octetsFor
+    put-one-of some true {after} {r} p =
+        let i : (width m + 7) / 8 ≡ 1 = omega (arith, width-some m some, width-least m 8 l) in
+        let e : (v % 256 * 256 + v / 256) / 256 ≡ v = omega (arith, h .one) in
+        let w : bitsOf 8 v ≡ unpack (littleEndian 1 v) =
+        ap (bitsOf 8) (sym e) ∙ little 1 v (omega arith) (omega (arith, h .one)) in
+        rw i (subst (λ u. Put buf at u after r) w p)
+    put-one-of some false p = p

@@ -1,5 +1,6 @@
 -- No field is longer than 16 bits, or 40 for an Unsigned Integer. Callers bound their positions by it.
-use Prim.Native.Nat.{ℕ, zero, suc, _/_, _≤_}
+use mathlib.Core.Path.{_≡_}
+use Prim.Native.Nat.{ℕ, zero, suc, _/_, _%_, _≤_}
 use native.Mathlib.Omega.{arith}
 use lib.ListN.{length}
 use lib.Dec.{ltb}
@@ -17,6 +18,11 @@ number-length byteAligned n v h = rw (length-unpack (littleEndian (octetsFor n) 
 pub choice-length : (a : Alignment) (m v : ℕ) → m ≤ 65536 → length (choiceBits a m v) ≤ 16
 unfolding choiceBits
 choice-length a m v h = number-length a (width m) v (width-least m 16 h)
+
+-- Whole octets.
+pub unsigned-octets : (v : ℕ) → length (unsignedBits v) % 8 ≡ 0
+unfolding unsignedBits
+unsigned-octets v = omega (arith, length-unpack (groups maxOctets v))
 
 groups-length : (k v : ℕ) → length (groups k v) ≤ k
 unfolding groups

@@ -5,19 +5,24 @@ use native.Mathlib.Nat.{pow-suc}
 use native.Mathlib.Omega.{arith}
 use mathlib.Core.List.{List, [], _++_, append-assoc, append-nil}
 use lib.ListN.{length, getD, length-append}
-use lib.Dec.{T}
 use borrow.Author.Tests.{lt-ltb, le-ltb}
 use mir.Syntax.{w8}
 use mir.Val.{Fits}
 use Rattle.spec_fields.specs.Bits.{Bits, bitsOf, each, unpack}
 use Rattle.spec_fields.specs.Field.{maxOctets, maxUnsigned, groups, unsignedBits}
 use Rattle.spec_fields.proofs.Number.{length-bits}
-use Rattle.write_field.specs.Written.{blankFrom, Put, farthest, UnsignedFits}
+use Rattle.write_field.specs.Written.{Put, farthest, UnsignedFits}
 use Rattle.write_field.proofs.Written.{put-then, put-blank, put-nothing}
+use Rattle.write_field.proofs.Field.{FewFit}
 
 last-group : (k v : ℕ) → v < 128 → unpack (groups (suc k) v) ≡ bitsOf 8 v
 unfolding groups unpack each
 last-group k v h = rw (lt-ltb v 128 h) (append-nil (bitsOf 8 v))
+
+-- An Unsigned Integer of one octet.
+pub unsigned-one : (v : ℕ) → v < 128 → unsignedBits v ≡ bitsOf 8 v
+unfolding unsignedBits maxOctets
+unsigned-one v h = last-group 4 v h
 
 more-groups : (k v : ℕ) → 128 ≤ v → unpack (groups (suc k) v) ≡ bitsOf 8 (v % 128 + 128) ++ unpack (groups k (v / 128))
 unfolding groups unpack each
@@ -38,8 +43,8 @@ started {buf} {at} {v} known h =
     record { done = []; left = 4; put = put-nothing known (h .blank); all = refl; room = omega arith; small = omega arith }
 
 pub group-asks : {buf₀ buf : List ℕ} {at v next rest : ℕ} (o : ℕ) → at ≤ farthest → Going buf₀ at v buf next rest → o < 256
-    → T (blankFrom buf next) × (next ≤ farthest + 40) × (o < 256)
-group-asks o l g h = (put-blank (g .put), omega (arith, g .room, g .put .next), h)
+    → FewFit buf next 8 o
+group-asks o l g h = (put-blank (g .put), omega (arith, g .room, g .put .next), omega arith, h)
 
 pub finished : {buf₀ buf after : List ℕ} {at v next rest r : ℕ} → Going buf₀ at v buf next rest → rest < 128
     → Put buf next (bitsOf 8 rest) after r → Put buf₀ at (unsignedBits v) after r

@@ -125,5 +125,10 @@ put-blank {buf} {after} {at} {r} {w} a = rw (a .octets, a .next) (written-blank 
 pub put-length : {buf after : List ℕ} {at r : ℕ} {w : Bits} → Put buf at w after r → length after ≡ length buf
 put-length {buf} {after} {at} {r} {w} a = ap length (a .octets) ∙ length-written buf at w
 
+pub put-known : {buf after : List ℕ} {at r : ℕ} {w : Bits} → Put buf at w after r
+    → (i : ℕ) → Fits w8 (getD after i 0)
+put-known {buf} {after} {at} {r} {w} a i =
+    record { fits = rw (a .octets) (octet-below (written buf at w) i (written-octets buf at w)) }
+
 pub put-nothing : {buf : List ℕ} {at : ℕ} → ((i : ℕ) → Fits w8 (getD buf i 0)) → T (blankFrom buf at) → Put buf at [] buf at
 put-nothing {buf} {at} known t = record { octets = sym (written-nothing buf at (octets-of buf known) t); next = omega arith }

@@ -1,6 +1,6 @@
 -- A field written into lent octets at a bit position. Where the room ends storing stops, and the position goes on.
 use mathlib.Core.Path.{_≡_}
-use Prim.Native.Nat.{ℕ, _+_, _^_, _≤_, _<_}
+use Prim.Native.Nat.{ℕ, _+_, _-_, _^_, _≤_, _<_}
 use mathlib.Core.Bool.{Bool}
 use mathlib.Core.List.{List, _++_}
 use lib.ListN.{length, take, drop}
@@ -35,7 +35,8 @@ pub record ChoiceFits (buf : List ℕ) (at m v : ℕ) : Type 0 where
   pub blank : T (blankFrom buf at)
   pub near : at ≤ farthest
   pub few : m ≤ 65536
-  pub one : v < m
+  -- among none it is 0, in no bits
+  pub one : v ≤ m - 1
 
 pub record UnsignedFits (buf : List ℕ) (at v : ℕ) : Type 0 where
   pub blank : T (blankFrom buf at)

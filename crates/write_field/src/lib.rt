@@ -1,6 +1,6 @@
 // The fields of a stream, written at a bit position. Each function gives the position after the field.
 ghost use mathlib.Core.Path.{_≡_};
-ghost use Prim.Native.Nat.{_+_, _-_, _%_, _≤_, _<_};
+ghost use Prim.Native.Nat.{_+_, _-_, _%_, _^_, _≤_, _<_};
 ghost use lib.Dec.{T};
 ghost use Rattle.spec_fields.specs.Bits.{bitsOf};
 ghost use Rattle.spec_fields.specs.Field.{byteAligned, numberBits, choiceBits, unsignedBits};
@@ -25,6 +25,21 @@ fn put_part(buf: &mut [u8], place: usize, o: u32) -> usize
     }
     buf[i] = (wide(buf[i]) + o) as u8;
     after
+}
+
+// At most eight bits, in the one or two octets that they touch.
+fn put_few(buf: &mut [u8], at: usize, n: u32, v: u32) -> usize
+    requires { ⌜ T (blankFrom (now buf) at) × (at ≤ farthest + 40) × (n ≤ 8) × (v < 2 ^ n) ⌝ }
+    ensures { λ r. ⌜ Put (now (buf .entry)) at (bitsOf n v) (now (buf .exit)) r ⌝ }
+{
+    let next = at + n as usize;
+    let window = v << (16 - (at % 8) as u32 - n);
+    let second = put_part(buf, at, window >> 8);
+    if next <= second {
+        return next;
+    }
+    put_part(buf, second, window & 255);
+    next
 }
 
 // n bits, most significant first, in the octets that they touch: none to three.
@@ -74,21 +89,13 @@ pub fn put_choice(aligned: bool, buf: &mut [u8], at: usize, m: u32, v: u32) -> u
     requires { ⌜ ChoiceFits (now buf) at m v ⌝ }
     ensures { λ r. ⌜ Put (now (buf .entry)) at (choiceBits (alignmentOf aligned) m v) (now (buf .exit)) r ⌝ }
 {
-    put_number(aligned, buf, at, read_field::width(m), v)
-}
-
-// An octet of an Unsigned Integer, in the one or two octets that it touches.
-fn put_octet(buf: &mut [u8], at: usize, o: u32) -> usize
-    requires { ⌜ T (blankFrom (now buf) at) × (at ≤ farthest + 40) × (o < 256) ⌝ }
-    ensures { λ r. ⌜ Put (now (buf .entry)) at (bitsOf 8 o) (now (buf .exit)) r ⌝ }
-{
-    let used = at % 8;
-    let second = put_part(buf, at, o >> used);
-    if used == 0 {
-        return at + 8;
+    if m <= 1 {
+        return at;
     }
-    put_part(buf, second, (o << (8 - used)) & 255);
-    at + 8
+    if m <= 256 {
+        return put_few(buf, at, read_field::few(aligned, m), v);
+    }
+    put_number(aligned, buf, at, read_field::width(m), v)
 }
 
 // Unsigned Integer: 7 bits an octet, least significant first.
@@ -99,8 +106,8 @@ pub fn put_unsigned(buf: &mut [u8], at: usize, v: u32) -> usize
     let mut next = at;
     let mut rest = v;
     while 128 <= rest {
-        next = put_octet(buf, next, rest % 128 + 128);
+        next = put_few(buf, next, 8, rest % 128 + 128);
         rest = rest / 128;
     }
-    put_octet(buf, next, rest)
+    put_few(buf, next, 8, rest)
 }

@@ -95,6 +95,5 @@ pub fn put_hit(
         (now (stream .exit)) r ⌝ }
 {
     let next = write_field::put_unsigned(stream, at, partition);
-    let width = read_field::width(among);
-    write_field::put_number(aligned, stream, next, width, mem_chain::less(id, among))
+    write_field::put_choice(aligned, stream, next, among, mem_chain::less(id, among))
 }

@@ -267,10 +267,13 @@ module _ (s : Settings) {stream : List ℕ} {at mode : ℕ} {p : Place} {code : 
           blank = h .blank;
           near = omega (arith, h .near);
           few = omega (arith, h .few, first-few s fixed-asks e);
-          one = rw f (below-less (code .count + n) (code .part) (omega (
+          one = rw f (omega (
             arith,
-            some-value (s .comments) (s .instructions) mode (p .level) (h .place .value),
-          )));
+            below-less (code .count + n) (code .part) (omega (
+              arith,
+              some-value (s .comments) (s .instructions) mode (p .level) (h .place .value),
+            )),
+          ));
         }
 
     pub learned-put : code .learned ≡ true → {after : List ℕ} {r : ℕ}

@@ -166,9 +166,9 @@ module _ {opening text work : List ℕ} {c : Core} (bounded : Bounded c) (uri : 
               name = placedIn text local;
               value = placedIn text local;
               uri-joins = λ j. subst
-                  (λ from. Lain from (joiningOf uri (u .joins) (u .hash)) (placedIn text uri))
+                  (λ from. Lain from (joiningOf uri (u .joins) 0) (placedIn text uri))
                   (sym (source-after openingUris opening text (length (w .uris)) (p .begun .uris)))
-                  (lain-in in-uri (u .joins) (u .hash));
+                  (lain-in in-uri (u .joins) 0);
               name-joins = λ j. subst
                   (λ from. Joins from (joiningOf local (l .joins) (l .hash)) (placedIn text local))
                   (sym (source-after openingNames opening text (length (w .names))

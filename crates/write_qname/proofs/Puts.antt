@@ -78,18 +78,18 @@ module _ {stream : List ℕ} {at : ℕ} {uri local : Part} {c : Core} {s : Strin
       omega (
         arith,
         length-append
-            (uriBits (c .uris) (s .«uri_row») (s .uri .joins) (partAt text uri) a)
-            (nameBits work (s .«uri_row») (s .«name_row») (s .name .joins) (partAt text local) a),
-        uri-length a (c .uris) (s .«uri_row») (s .uri .joins) (partAt text uri) (h .few)
+            (uriBits (c .uris) (s .«uri_row») (s .«new_uri») (partAt text uri) a)
+            (nameBits work (s .«uri_row») (s .«name_row») (s .«new_name») (partAt text local) a),
+        uri-length a (c .uris) (s .«uri_row») (s .«new_uri») (partAt text uri) (h .few)
             (h .new-uri),
-        name-length a work (s .«uri_row») (s .«name_row») (s .name .joins) (partAt text local)
+        name-length a work (s .«uri_row») (s .«name_row») (s .«new_name») (partAt text local)
             (h .new-name),
       )
 
   -- ---- the URI
 
   module _ {y : Text} (look : y ≡ part text (record { place = uri .place; size = uri .size })) where
-    pub uri-put-asks : PutUriPre stream at (c .uris) (s .«uri_row») (s .uri .joins) y
+    pub uri-put-asks : PutUriPre stream at (c .uris) (s .«uri_row») (s .«new_uri») y
     unfolding asSpan
     uri-put-asks =
         record {
@@ -104,9 +104,9 @@ module _ {stream : List ℕ} {at : ℕ} {uri local : Part} {c : Core} {s : Strin
 
     module _ {x : Text} (look₂ : x ≡ part text (record { place = local .place; size = local .size }))
         (a : Alignment) {mid : List ℕ} {next : ℕ}
-        (p : Put stream at (uriBits (c .uris) (s .«uri_row») (s .uri .joins) y a) mid next) where
+        (p : Put stream at (uriBits (c .uris) (s .«uri_row») (s .«new_uri») y a) mid next) where
       pub local-put-asks :
-          names.PutNamePre mid next (s .«uri_row») (s .«name_row») (s .name .joins) x work
+          names.PutNamePre mid next (s .«uri_row») (s .«name_row») (s .«new_name») x work
       unfolding asSpan
       local-put-asks =
           let b = uri-put-asks in
@@ -116,7 +116,7 @@ module _ {stream : List ℕ} {at : ℕ} {uri local : Part} {c : Core} {s : Strin
               arith,
               h .near,
               p .next,
-              uri-length a (c .uris) (s .«uri_row») (s .uri .joins) y (b .few) (b .new),
+              uri-length a (c .uris) (s .«uri_row») (s .«new_uri») y (b .few) (b .new),
             );
             room = h .room;
             low = h .uri-low;
@@ -126,7 +126,7 @@ module _ {stream : List ℕ} {at : ℕ} {uri local : Part} {c : Core} {s : Strin
 
       pub name-put : {after : List ℕ} {r : ℕ}
           → Put mid next
-          (nameBits work (s .«uri_row») (s .«name_row») (s .name .joins) x a) after r
+          (nameBits work (s .«uri_row») (s .«name_row») (s .«new_name») x a) after r
           → Put stream at (qnameBits work c s (partAt text uri) (partAt text local) a) after r
       unfolding qnameBits asSpan
       name-put {after} {r} q =

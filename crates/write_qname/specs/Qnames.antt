@@ -21,8 +21,9 @@ use Rattle.mem_layout.specs.Layout.{uriRows, nameRows, workCells}
 use Rattle.mem_entries.specs.Entries.{keyAt}
 use Rattle.mem_rows.specs.Rows.{Rows, nameAt}
 use Rattle.mem_state.specs.declared.Core.{Core}
-use Rattle.mem_state.specs.declared.Joining.{Joining}
 use Rattle.mem_state.specs.declared.Strings.{Strings}
+use Rattle.mem_state.specs.Joining.{Joining, joining, noJoining, valueJoining, asStrings}
+use Rattle.mem_state.specs.Joining.{noStrings}
 use Rattle.mem_state.specs.Holds.{Bounded}
 use Rattle.mem_state.specs.Strung.{StringsJoin}
 use Rattle.write_field.specs.Written.{blankFrom, farthest}
@@ -38,21 +39,7 @@ use Rattle.write_qname.specs.Premise.{partAt}
 -- ---- the answers
 
 abbrev pub joiningOf : Part → Bool → ℕ → Joining
-joiningOf p joins hash = record { joins = joins; place = p .place; size = p .size; hash = hash }
-
-abbrev pub noJoining : Joining
-noJoining = record { joins = false; place = 0; size = 0; hash = 0 }
-
-abbrev pub noStrings : Strings
-noStrings =
-    record {
-      uri = noJoining;
-      name = noJoining;
-      value = noJoining;
-      «uri_row» = 0;
-      «name_row» = 0;
-      owner = 0;
-    }
+joiningOf p joins hash = joining joins (p .place) (p .size) hash
 
 abbrev pub stoppedAs : ℕ → ℕ → NameJudged
 stoppedAs number stored = record { number = number; stored = stored; strings = noStrings }
@@ -62,14 +49,8 @@ namedAs uri local u l =
     record {
       number = 0;
       stored = l .stored;
-      strings = record {
-        uri = joiningOf uri (u .joins) (u .hash);
-        name = joiningOf local (l .joins) (l .hash);
-        value = noJoining;
-        «uri_row» = u .row;
-        «name_row» = l .row;
-        owner = l .row;
-      };
+      strings = asStrings (joiningOf uri (u .joins) 0) (joiningOf local (l .joins) (l .hash))
+          noJoining (u .row) (l .row) (l .row);
     }
 
 -- ---- the judgement
@@ -82,10 +63,10 @@ pub record NamePre (work : List ℕ) (c : Core) : Type 0 where
 -- On every memory: which rows the strings have, that their tables have room, and that what is to be
 -- laid may be written.
 pub record NameBounds (c : Core) (u x : Text) (stored : ℕ) (s : Strings) : Type 0 where
-  pub uris : s .uri .joins ≡ true → (c .uris < maxUris) × Written u
-  pub names : s .name .joins ≡ true → (c .names < maxNames) × Written x
-  pub old : s .uri .joins ≡ false → s .«uri_row» < c .uris
-  pub value : s .value ≡ noJoining
+  pub uris : s .«new_uri» ≡ true → (c .uris < maxUris) × Written u
+  pub names : s .«new_name» ≡ true → (c .names < maxNames) × Written x
+  pub old : s .«new_uri» ≡ false → s .«uri_row» < c .uris
+  pub value : valueJoining s ≡ noJoining
   pub uri : s .«uri_row» < uriRows
   pub name : s .«name_row» < nameRows
   pub owner : s .owner ≡ s .«name_row»
@@ -94,8 +75,8 @@ pub record NameBounds (c : Core) (u x : Text) (stored : ℕ) (s : Strings) : Typ
 
 -- Nothing joins.
 pub record NoName (s : Strings) : Type 0 where
-  pub uri : s .uri .joins ≡ false
-  pub name : s .name .joins ≡ false
+  pub uri : s .«new_uri» ≡ false
+  pub name : s .«new_name» ≡ false
 
 -- The two parts of a name, written or carried by a learned production.
 unfoldable pub nameAs : Bool → Bool → QName Text → List Item
@@ -112,8 +93,8 @@ pub record NameHits (t : Tables) (attr : Bool) (q : QName Text) : Type 0 where
 -- The bits of both strings.
 unfoldable pub qnameBits : List ℕ → Core → Strings → Text → Text → Alignment → Bits
 qnameBits work c s u x a =
-    uriBits (c .uris) (s .«uri_row») (s .uri .joins) u a
-    ++ nameBits work (s .«uri_row») (s .«name_row») (s .name .joins) x a
+    uriBits (c .uris) (s .«uri_row») (s .«new_uri») u a
+    ++ nameBits work (s .«uri_row») (s .«name_row») (s .«new_name») x a
 
 -- The rows after a name that passes.
 pub record NameLeaves (opening text : List ℕ) (attr : Bool) (q : QName Text) (c : Core)
@@ -156,8 +137,8 @@ pub record PutNamePre (stream : List ℕ) (at : ℕ) (uri local : Part) (c : Cor
   pub near : at + 2 * (40 * (maxString + 2)) ≤ farthest
   pub room : workCells ≤ length work
   pub few : c .uris ≤ maxUris
-  pub old : s .uri .joins ≡ false → s .«uri_row» < c .uris
+  pub old : s .«new_uri» ≡ false → s .«uri_row» < c .uris
   pub uri-low : s .«uri_row» < uriRows
   pub name-low : s .«name_row» < nameRows
-  pub new-uri : s .uri .joins ≡ true → Written (partAt text uri)
-  pub new-name : s .name .joins ≡ true → Written (partAt text local)
+  pub new-uri : s .«new_uri» ≡ true → Written (partAt text uri)
+  pub new-name : s .«new_name» ≡ true → Written (partAt text local)

@@ -3,12 +3,11 @@
 ghost use mathlib.Core.Path.{_≡_};
 ghost use Rattle.read_field.specs.View.{alignmentOf};
 ghost use Rattle.write_field.specs.Written.{Put};
-ghost use Rattle.write_qname.specs.Qnames.{joiningOf, noJoining, noStrings, stoppedAs};
-ghost use Rattle.write_qname.specs.Qnames.{namedAs, NamePre, NamePost, PutNamePre, qnameBits};
+ghost use Rattle.write_qname.specs.Qnames.{stoppedAs, namedAs, NamePre, NamePost, PutNamePre};
+ghost use Rattle.write_qname.specs.Qnames.{qnameBits};
 ghost use Rattle.write_qname.specs.Premise.{partAt};
 use event::Part;
 use mem_state::Core;
-use mem_state::Joining;
 use mem_state::Strings;
 use write_partition::StringJudged;
 
@@ -19,51 +18,10 @@ pub struct NameJudged {
     pub strings: Strings,
 }
 
-// What a string that lies there adds to its table.
-pub fn joining(p: Part, joins: bool, hash: u32) -> Joining
-    ensures { λ r. ⌜ r ≡ joiningOf p joins hash ⌝ }
-{
-    Joining {
-        joins,
-        place: p.place,
-        size: p.size,
-        hash,
-    }
-}
-
-// Nothing.
-fn no_joining() -> Joining
-    ensures { λ r. ⌜ r ≡ noJoining ⌝ }
-{
-    Joining {
-        joins: false,
-        place: 0,
-        size: 0,
-        hash: 0,
-    }
-}
-
-// An event without strings.
-pub fn no_strings() -> Strings
-    ensures { λ r. ⌜ r ≡ noStrings ⌝ }
-{
-    let uri = no_joining();
-    let name = no_joining();
-    let value = no_joining();
-    Strings {
-        uri,
-        name,
-        value,
-        uri_row: 0,
-        name_row: 0,
-        owner: 0,
-    }
-}
-
 fn stopped(number: u32, stored: usize) -> NameJudged
     ensures { λ r. ⌜ r ≡ stoppedAs number stored ⌝ }
 {
-    let strings = no_strings();
+    let strings = mem_state::no_strings();
     NameJudged {
         number,
         stored,
@@ -75,9 +33,14 @@ fn stopped(number: u32, stored: usize) -> NameJudged
 fn named(uri: Part, local: Part, u: StringJudged, l: StringJudged) -> NameJudged
     ensures { λ r. ⌜ r ≡ namedAs uri local u l ⌝ }
 {
-    let mut strings = no_strings();
-    strings.uri = joining(uri, u.joins, u.hash);
-    strings.name = joining(local, l.joins, l.hash);
+    let mut strings = mem_state::no_strings();
+    strings.uri_place = uri.place;
+    strings.uri_size = uri.size;
+    strings.new_uri = u.joins;
+    strings.name_place = local.place;
+    strings.name_size = local.size;
+    strings.name_hash = l.hash;
+    strings.new_name = l.joins;
     strings.uri_row = u.row;
     strings.name_row = l.row;
     strings.owner = l.row;
@@ -134,10 +97,8 @@ pub fn put_name(
         (qnameBits (now (work .entry)) c s (partAt (now (text .entry)) uri)
         (partAt (now (text .entry)) local) (alignmentOf aligned)) (now (stream .exit)) r ⌝ }
 {
-    let u = s.uri;
-    let l = s.name;
     let y = text::look_up(text, uri.place, uri.size);
-    let next = write_names::put_uri(aligned, stream, at, c.uris, s.uri_row, u.joins, y);
+    let next = write_names::put_uri(aligned, stream, at, c.uris, s.uri_row, s.new_uri, y);
     let x = text::look_up(text, local.place, local.size);
     write_names::put_local(
         aligned,
@@ -145,7 +106,7 @@ pub fn put_name(
         next,
         s.uri_row,
         s.name_row,
-        l.joins,
+        s.new_name,
         x,
         work,
     )

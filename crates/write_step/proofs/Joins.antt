@@ -94,9 +94,9 @@ unfolding tablesOf
 no-name {s = s} {w = w} {v = v} stored stored′ j n same a =
     let b = alike-names a in
     record {
-      uri = joins-not (s .uri .joins) (uris-counted j n)
+      uri = joins-not (s .«new_uri») (uris-counted j n)
           (sym (b .uris) ∙ same .uris ∙ sym (n .uris));
-      name = joins-not (s .name .joins) (names-counted j n)
+      name = joins-not (s .«new_name») (names-counted j n)
           (sym (names-count v (replicate stored′ 0)) ∙ sym (b .names) ∙ same .names
           ∙ names-count w (replicate stored 0) ∙ sym (n .names));
     }

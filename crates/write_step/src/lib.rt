@@ -119,7 +119,7 @@ fn code_here(c: Core, kind: u32, name: u32, work: &[u32]) -> Code
 fn refused(number: u32, c: Core) -> EventJudged
     ensures { λ r. ⌜ r ≡ refusedAs number c ⌝ }
 {
-    let strings = write_qname::no_strings();
+    let strings = mem_state::no_strings();
     let content = Content {
         number,
         stored: c.stored,

@@ -1,13 +1,28 @@
 -- What a caller shows before it writes a string.
-use Prim.Native.Nat.{ℕ, _+_, _*_, _≤_}
+use Prim.Native.Nat.{ℕ, _+_, _*_, _≤_, _<_}
 use mathlib.Core.List.{List}
 use lib.ListN.{length}
 use lib.Dec.{T}
+use Rattle.spec_fields.specs.Field.{maxUnsigned}
 use Rattle.text.specs.Text.{Text, allChars}
 use Rattle.spec_exi.specs.Sizes.{maxString}
 use Rattle.write_field.specs.Written.{blankFrom, farthest}
 
--- A buffer that is blank from bit `at` on, a string of at most maxString Chars, and at most 2 added to its length.
+-- A code point at bit k of octet j, from which on the buffer is blank.
+pub record CharacterFits (buf : List ℕ) (j k c : ℕ) : Type 0 where
+  pub blank : T (blankFrom buf (8 * j + k))
+  pub near : 8 * j + k ≤ farthest
+  pub inside : k < 8
+  pub small : c ≤ maxUnsigned
+
+-- Chars, one after the other.
+pub record CharactersFit (buf : List ℕ) (at : ℕ) (x : Text) : Type 0 where
+  pub blank : T (blankFrom buf at)
+  pub near : at + 40 * length x ≤ farthest
+  pub chars : T (allChars x)
+
+-- A buffer that is blank from bit `at` on, a string of at most maxString Chars, and at most 2 added
+-- to its length.
 pub record StringFits (buf : List ℕ) (at raised : ℕ) (x : Text) : Type 0 where
   pub blank : T (blankFrom buf at)
   pub near : at + 40 * (length x + 1) ≤ farthest

@@ -1,8 +1,8 @@
 -- What the judgement of a value answers: a hit among its name's own values or among all, or a literal.
-use Prim.Native.Nat.{ℕ, _+_, _≤_, _<_}
+use Prim.Native.Nat.{ℕ, _+_, _-_, _≤_, _<_}
 use native.Mathlib.Omega.{arith}
 use mathlib.Core.Path.{_≡_, refl, sym, ap, subst, _∙_}
-use mathlib.Core.Bool.{true, false, true≢false}
+use mathlib.Core.Bool.{Bool, true, false, not, true≢false}
 use mathlib.Core.List.{List, [], _∷_, _++_}
 use lib.ListN.{length, replicate}
 use lib.Dec.{eqb, ltb}
@@ -33,7 +33,7 @@ use Rattle.names.proofs.Laws.{is-empty}
 use Rattle.write_partition.specs.Writable.{Written, tablesIn}
 use Rattle.write_partition.specs.Judged.{faultNumber, literalTests, StringMeans}
 use Rattle.write_partition.proofs.Tests.{number-then, number-first, passed-test, first-passes, Passed}
-use Rattle.write_partition.proofs.Tests.{literal-passes}
+use Rattle.write_partition.proofs.Tests.{literal-passes, too-much, no-char, no-fault}
 use Rattle.write_partition.proofs.Rows.{store-count, few-within, value-writable}
 use Rattle.write_partition.proofs.Means.{refused-means, long-means, hit-means, literal-fault}
 use Rattle.write_partition.proofs.Means.{literal-means}
@@ -44,41 +44,50 @@ use Rattle.write_values.specs.Values.{ValuePost}
 use Rattle.write_values.proofs.Forms.{Standing, literal-bits, form-is, hit-written, own-bits}
 use Rattle.write_values.proofs.Forms.{all-bits, absent-fresh}
 
--- ---- a literal that joins, by its number
+-- ---- a literal that joins: the store's size, its characters, the table's size
 
-module _ (x : Text) (values stored h : ℕ) {fault : ℕ}
-    (e : fault ≡ faultNumber (firstFailed (literalTests x stored))) where
-  pub new-fault : (fault ≡ 0 → ⊥) → NewValuePost x values stored h (refusedAs fault stored)
-  new-fault ne =
+module _ (x : Text) (values stored h : ℕ) (low : stored ≤ maxStore) where
+  new-fault : {fault : ℕ} → fault ≡ faultNumber (firstFailed (literalTests x stored)) → 0 < fault
+      → NewValuePost x values stored h (refusedAs fault stored)
+  new-fault e l =
       record {
-        number-is = number-first (literalTests x stored) _ e (omega arith);
+        number-is = number-first (literalTests x stored) _ e l;
         refused = λ _. refl;
-        judged = λ z. absurd (ne z);
+        judged = λ z. absurd (omega arith);
       }
 
-  module _ (z : fault ≡ 0) where
-    room-left : faultNumber (firstFailed (literalTests x stored ++ ((ltb values maxValues, limit) ∷ [])))
-        ≡ faultNumber (firstFailed ((ltb values maxValues, limit) ∷ []))
-    room-left = number-then (literalTests x stored) _ e z
+  pub new-much : maxStore - stored < length x
+      → NewValuePost x values stored h (refusedAs 12 stored)
+  new-much l = new-fault (too-much x stored low l) (omega arith)
 
-    pub new-full : maxValues ≤ values → NewValuePost x values stored h (refusedAs 12 stored)
-    unfolding firstFailed faultNumber numberOf
-    new-full l =
-        record {
-          number-is = rw (room-left, le-ltb values maxValues l);
-          refused = λ _. refl;
-          judged = λ y. absurd (omega arith);
-        }
+  module _ (room : length x ≤ maxStore - stored) {chars : Bool} (e : chars ≡ allChars x) where
+    pub new-no-char : not chars ≡ true → NewValuePost x values stored h (refusedAs 8 stored)
+    new-no-char t = new-fault (no-char x stored low room e t) (omega arith)
 
-    pub new-laid : values < maxValues
-        → NewValuePost x values stored h (literalAs stored (length x) true h)
-    unfolding firstFailed faultNumber
-    new-laid l =
-        record {
-          number-is = rw (room-left, lt-ltb values maxValues l);
-          refused = λ y. absurd (omega arith);
-          judged = λ _. refl;
-        }
+    module _ (t : not chars ≡ false) where
+      room-left : faultNumber
+          (firstFailed (literalTests x stored ++ ((ltb values maxValues, limit) ∷ [])))
+          ≡ faultNumber (firstFailed ((ltb values maxValues, limit) ∷ []))
+      room-left = number-then (literalTests x stored) _ (no-fault x stored low room e t) refl
+
+      pub new-full : maxValues ≤ values → NewValuePost x values stored h (refusedAs 12 stored)
+      unfolding firstFailed faultNumber numberOf
+      new-full l =
+          record {
+            number-is = rw (room-left, le-ltb values maxValues l);
+            refused = λ _. refl;
+            judged = λ y. absurd (omega arith);
+          }
+
+      pub new-laid : values < maxValues
+          → NewValuePost x values stored h (literalAs stored (length x) true h)
+      unfolding firstFailed faultNumber
+      new-laid l =
+          record {
+            number-is = rw (room-left, lt-ltb values maxValues l);
+            refused = λ y. absurd (omega arith);
+            judged = λ _. refl;
+          }
 
 -- ---- any value
 

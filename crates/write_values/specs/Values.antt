@@ -9,7 +9,7 @@ use lib.Dec.{T, eqb, ltb}
 use Rattle.spec_fields.specs.Bits.{Bits}
 use Rattle.spec_fields.specs.Field.{Alignment}
 use Rattle.spec_fields.specs.Refusal.{limit}
-use Rattle.text.specs.Text.{Text}
+use Rattle.text.specs.Text.{Text, allChars}
 use Rattle.spec_exi.specs.Sizes.{maxString, maxStore, maxValues}
 use Rattle.spec_exi.specs.Tables.{value, stringBits}
 use Rattle.spec_exi.specs.Writer.{firstFailed}
@@ -65,9 +65,9 @@ literalAs stored n joins hash =
 
 -- ---- a literal that joins
 
-pub record NewValuePre (x : Text) (stored : ℕ) : Type 0 where
+pub record NewValuePre (x : Text) (chars : Bool) (stored : ℕ) : Type 0 where
   pub store : stored ≤ maxStore
-  pub short : length x ≤ maxString
+  pub weighed : chars ≡ allChars x
 
 pub record NewValuePost (x : Text) (values stored h : ℕ) (r : ValueJudged) : Type 0 where
   pub number-is : r .number

@@ -12,8 +12,10 @@ ghost use Rattle.write_values.specs.Values.{refusedAs, foundAs, literalA
 ghost use Rattle.write_values.specs.Values.{NewValuePre, NewValuePost, ValuePre, ValuePost};
 ghost use Rattle.write_values.specs.Values.{valueBits, PutValuePre};
 use mem_values::Form;
+use refusal::CHARACTER;
 use refusal::LIMIT;
 use refusal::NAME;
+use sizes::MAX_STORE;
 use sizes::MAX_STRING;
 use sizes::MAX_VALUES;
 use write_partition::StringJudged;
@@ -111,14 +113,16 @@ fn literal(stored: usize, n: usize, joins: bool, hash: u32) -> ValueJudged
     }
 }
 
-// A value that no partition has.
-fn judge_new_value(x: &[u32], values: u32, stored: usize, h: u32) -> ValueJudged
-    requires { ⌜ NewValuePre (now x) stored ⌝ }
+// A value that no partition has; whether it has only Chars is known.
+fn judge_new_value(x: &[u32], chars: bool, values: u32, stored: usize, h: u32) -> ValueJudged
+    requires { ⌜ NewValuePre (now x) chars stored ⌝ }
     ensures { λ r. ⌜ NewValuePost (now (x .entry)) values stored h r ⌝ }
 {
-    let fault = write_partition::literal_fault(x, stored);
-    if fault != 0 {
-        return refused(fault, stored);
+    if MAX_STORE - stored < x.len() {
+        return refused(LIMIT, stored);
+    }
+    if !chars {
+        return refused(CHARACTER, stored);
     }
     if MAX_VALUES <= values as usize {
         return refused(LIMIT, stored);
@@ -143,7 +147,8 @@ pub fn judge_value(
     if MAX_STRING < x.len() {
         return refused(LIMIT, stored);
     }
-    let h = mem_entries::hash(x);
+    let w = mem_entries::weigh(x);
+    let h = w.hash;
     match mem_values::form_of(work, text, x, h, values, 0, values, owner) {
         Form::Local(i) => found(OWN, i, stored),
         Form::Global(i) => found(ALL, i, stored),
@@ -151,7 +156,7 @@ pub fn judge_value(
             if x.len() == 0 {
                 return literal(stored, 0, false, 0);
             }
-            judge_new_value(x, values, stored, h)
+            judge_new_value(x, w.chars, values, stored, h)
         }
     }
 }

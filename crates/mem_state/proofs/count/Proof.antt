@@ -13,7 +13,7 @@ one-requires c κs = search needs
 
 -- src/lib.rt:164:14
 add-d : tie.Need-add-d
-add-d c = omega (arith, c .before .one .ensures .most, c .before .before .before .before .before .pre .uris)
+add-d c = omega (arith, c .before .one .ensures .most, c .before .before .pre .uris)
 
 -- src/lib.rt:165:25
 one-requires-2 : tie.Need-one-requires-2
@@ -21,7 +21,7 @@ one-requires-2 c κs = search needs
 
 -- src/lib.rt:165:15
 add-d-2 : tie.Need-add-d-2
-add-d-2 c = omega (arith, c .before .one2 .ensures .most, c .before .before .before .before .before .before .before .pre .names)
+add-d-2 c = omega (arith, c .before .one2 .ensures .most, c .before .before .before .before .pre .names)
 
 -- src/lib.rt:166:27
 one-requires-3 : tie.Need-one-requires-3
@@ -29,7 +29,7 @@ one-requires-3 c κs = search needs
 
 -- src/lib.rt:166:16
 add-d-3 : tie.Need-add-d-3
-add-d-3 c = omega (arith, c .before .one3 .ensures .most, c .before .before .before .before .before .before .before .before .before .pre .values)
+add-d-3 c = omega (arith, c .before .one3 .ensures .most, c .before .before .before .before .before .before .pre .values)
 
 -- src/lib.rt:167:29
 one-requires-4 : tie.Need-one-requires-4
@@ -37,7 +37,7 @@ one-requires-4 c κs = search needs
 
 -- src/lib.rt:167:17
 add-d-4 : tie.Need-add-d-4
-add-d-4 c = omega (arith, c .before .one4 .ensures .most, c .before .before .before .before .before .before .before .before .before .before .before .pre .learned)
+add-d-4 c = omega (arith, c .before .one4 .ensures .most, c .before .before .before .before .before .before .before .before .pre .learned)
 
 -- src/lib.rt:168:31
 one-requires-5 : tie.Need-one-requires-5
@@ -45,7 +45,7 @@ one-requires-5 c κs = search needs
 
 -- src/lib.rt:168:18
 add-d-5 : tie.Need-add-d-5
-add-d-5 c = omega (arith, c .before .one5 .ensures .most, c .before .before .before .before .before .before .before .before .before .before .before .before .before .pre .grammars)
+add-d-5 c = omega (arith, c .before .one5 .ensures .most, c .before .before .before .before .before .before .before .before .before .before .pre .grammars)
 
 -- src/lib.rt:156:1
 returns : tie.Need-returns

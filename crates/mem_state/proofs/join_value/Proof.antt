@@ -13,7 +13,7 @@ returns c = value-not _ _ _ _ (c .if1 .taken)
 
 -- src/lib.rt:102:5
 add-requires : tie.Need-add-requires
-add-requires c κs = value-adds (c .before .before .before .before .pre) (c .before .if1 .left)
+add-requires c κs = value-adds (c .before .before .before .pre) (c .before .if1 .left)
 
 -- src/lib.rt:95:1
 same-length : tie.Need-same-length

@@ -27,8 +27,11 @@ returns c =
 part-of-requires : tie.Need-part-of-requires
 part-of-requires c κs = search needs
 
-value-strings-requires : tie.Need-value-strings-requires
-value-strings-requires c κs = search needs
+no-strings-requires : tie.Need-no-strings-requires
+no-strings-requires c κs = search needs
+
+with-value-requires : tie.Need-with-value-requires
+with-value-requires c κs = search needs
 
 same-length-2 : tie.Need-same-length-2
 same-length-2 c = search needs
@@ -36,11 +39,11 @@ same-length-2 c = search needs
 returns-2 : tie.Need-returns-2
 returns-2 c =
     let pre = c .before .before .before .before .before .before .before .before .before .before
-    .before .pre in
-    let read-value = c .before .before .before .before .before .before .read-value in
-    let if1 = c .before .before .if1 in
-    let part-of = c .before .part-of in
-    rw (part-of .ensures, c .value-strings .ensures) (characters-read (pre .0) (read-value .ensures
+    .before .before .pre in
+    let read-value = c .before .before .before .before .before .before .before .read-value in
+    let if1 = c .before .before .before .if1 in
+    let part-of = c .before .before .part-of in
+    rw (part-of .ensures, c .with-value .ensures, c .before .no-strings .ensures) (characters-read (pre .0) (read-value .ensures
     .0) (read-value .ensures .1) (kind-is CH (pre .1)) (pre .1) (if1 .left))
 
 pub read-characters-spec : {M : Type 1} → statement M
@@ -52,6 +55,7 @@ read-characters-spec =
     same-length
     returns
     part-of-requires
-    value-strings-requires
+    no-strings-requires
+    with-value-requires
     same-length-2
     returns-2)

@@ -29,33 +29,30 @@ store-requires : tie.Need-store-requires
 unfolding cellsPerEvent
 store-requires c κs = c .before .before .before .before .before .before .before .before .before .before .before .before .before .pre .0 .cells
 
-joining-requires : tie.Need-joining-requires
-joining-requires c κs = search needs
-
 join-value-requires : tie.Need-join-value-requires
-join-value-requires c κs = join-asks (c .before .before .before .before .before .before .before .before .before .before .before .before .before .before .before .before .before .before .pre .0) (c .before .before .before .before .before .before .before .before .before .before .before .before .before .before .before .before .before .before .pre .1) (c .before .before .before .before .before .before .before .before .before .before .before .read-value .ensures .1) (c .before .before .before .before .before .before .before .before .before .before .before .before .before .before .before .before .before .before .pre .0 .bounded .top) (c .joining .ensures)
+join-value-requires c κs = join-asks (c .before .before .before .before .before .before .before .before .before .before .before .before .before .before .before .before .before .pre .0) (c .before .before .before .before .before .before .before .before .before .before .before .before .before .before .before .before .before .pre .1) (c .before .before .before .before .before .before .before .before .before .before .read-value .ensures .1) (c .before .before .before .before .before .before .before .before .before .before .before .before .before .before .before .before .before .pre .0 .bounded .top)
 
 mode-after-requires : tie.Need-mode-after-requires
 mode-after-requires c κs = search needs
 
 next-tag-requires : tie.Need-next-tag-requires
-next-tag-requires c κs = c .before .before .before .before .before .before .before .before .before .before .before .before .before .before .before .before .before .before .before .before .before .before .pre .0 .early
+next-tag-requires c κs = c .before .before .before .before .before .before .before .before .before .before .before .before .before .before .before .before .before .before .before .before .before .pre .0 .early
 
 moved-on-requires : tie.Need-moved-on-requires
-moved-on-requires c κs = c .before .before .before .before .before .before .before .before .before .before .before .before .before .before .before .before .before .before .before .before .before .before .before .pre .0 .bounded
+moved-on-requires c κs = c .before .before .before .before .before .before .before .before .before .before .before .before .before .before .before .before .before .before .before .before .before .before .pre .0 .bounded
 
 same-length-3 : tie.Need-same-length-3
 same-length-3 c = search needs
 
 same-length-4 : tie.Need-same-length-4
-same-length-4 c = c .before .before .before .before .before .before .before .before .before .before .before .before .before .before .before .before .text .given
+same-length-4 c = c .before .before .before .before .before .before .before .before .before .before .before .before .before .before .before .text .given
 
 same-length-5 : tie.Need-same-length-5
 same-length-5 c = search needs
 
 returns-2 : tie.Need-returns-2
 unfolding cellsPerEvent kindNumber
-returns-2 c = rw (c .moved-on .ensures) (record { steps = λ s a q. characters-stepped (c .before .before .before .before .before .before .before .before .before .before .before .before .before .before .before .before .before .before .before .before .before .before .before .before .pre .0) q (c .before .before .before .before .before .before .before .before .before .before .before .before .before .before .before .before .before .before .before .before .before .before .before .before .pre .1 .learned) a (c .before .before .before .before .before .before .before .before .before .before .before .before .before .before .before .before .before .read-value .ensures .1) (c .before .before .before .before .before .before .before .before .before .before .before .before .before .before .before .before .before .before .before .before .before .before .before .before .pre .1 .kind) (c .before .before .before .before .before .before .before .before .before .before .before .before .before .before .before .before .before .read-value .ensures .0) (c .before .before .before .before .before .before .before .before .before .before .before .before .before .if1 .left) (c .before .before .before .before .before .before .before .before .before .before .before .before .part-of .ensures) (c .before .before .before .before .before .before .before .before .before .before .store .ensures) (c .before .before .before .before .before .before .joining .ensures) (c .before .before .before .before .before .join-value .ensures) (c .before .before .mode-after .ensures) (c .before .next-tag .ensures) })
+returns-2 c = rw (c .moved-on .ensures) (record { steps = λ s a q. characters-stepped (c .before .before .before .before .before .before .before .before .before .before .before .before .before .before .before .before .before .before .before .before .before .before .before .pre .0) q (c .before .before .before .before .before .before .before .before .before .before .before .before .before .before .before .before .before .before .before .before .before .before .before .pre .1 .learned) a (c .before .before .before .before .before .before .before .before .before .before .before .before .before .before .before .before .read-value .ensures .1) (c .before .before .before .before .before .before .before .before .before .before .before .before .before .before .before .before .before .before .before .before .before .before .before .pre .1 .kind) (c .before .before .before .before .before .before .before .before .before .before .before .before .before .before .before .before .read-value .ensures .0) (c .before .before .before .before .before .before .before .before .before .before .before .before .if1 .left) (c .before .before .before .before .before .before .before .before .before .before .before .part-of .ensures) (c .before .before .before .before .before .before .before .before .before .store .ensures) (c .before .before .before .before .before .join-value .ensures) (c .before .before .mode-after .ensures) (c .before .next-tag .ensures) })
 
 pub known-characters-spec : {M : Type 1} → statement M
 known-characters-spec =
@@ -68,7 +65,6 @@ known-characters-spec =
     returns
     part-of-requires
     store-requires
-    joining-requires
     join-value-requires
     mode-after-requires
     next-tag-requires

@@ -5,12 +5,6 @@ use Rattle.read_qname.proofs.paired.Tie as tie
 no-strings-requires : tie.Need-no-strings-requires
 no-strings-requires c κs = search needs
 
-joining-requires : tie.Need-joining-requires
-joining-requires c κs = search needs
-
-joining-requires-2 : tie.Need-joining-requires-2
-joining-requires-2 c κs = search needs
-
 part-of-requires : tie.Need-part-of-requires
 part-of-requires c κs = search needs
 
@@ -19,26 +13,9 @@ part-of-requires-2 c κs = search needs
 
 returns : tie.Need-returns
 returns c =
-    let no-strings = c .before .before .before .before .no-strings in
-    let joining = c .before .before .before .joining in
-    let joining2 = c .before .before .joining2 in
-    let part-of = c .before .part-of in
-    rw (
-      no-strings .ensures,
-      joining .ensures,
-      joining2 .ensures,
-      part-of .ensures,
-      c .part-of2
-          .ensures,
-    )
+    let no-strings = c .before .before .no-strings in
+    rw (no-strings .ensures, c .before .part-of .ensures, c .part-of2 .ensures)
 
 pub paired-spec : {M : Type 1} → statement M
 paired-spec =
-    tie.close
-    (tie.spec
-    no-strings-requires
-    joining-requires
-    joining-requires-2
-    part-of-requires
-    part-of-requires-2
-    returns)
+    tie.close (tie.spec no-strings-requires part-of-requires part-of-requires-2 returns)

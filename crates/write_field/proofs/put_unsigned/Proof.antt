@@ -15,11 +15,11 @@ abbrev μ-loop : tie.MeasureT-loop
 loop-holds : tie.Need-loop-holds Inv-loop μ-loop
 loop-holds c = started (c .slice-known .given) (c .before .pre)
 
-add-put-octet : tie.Need-add-put-octet Inv-loop μ-loop
-add-put-octet c = omega arith
+add-put-few : tie.Need-add-put-few Inv-loop μ-loop
+add-put-few c = omega arith
 
-put-octet-requires : tie.Need-put-octet-requires Inv-loop μ-loop
-put-octet-requires c κs =
+put-few-requires : tie.Need-put-few-requires Inv-loop μ-loop
+put-few-requires c κs =
     let b = c .before .before in
     group-asks _ (b .before .before .pre .near) (b .loop .inv) (omega arith)
 
@@ -29,22 +29,22 @@ loop-less c = omega arith
 loop-again : tie.Need-loop-again Inv-loop μ-loop
 loop-again c =
     one-more (c .before .before .before .before .before .loop .inv) (c .before .before .before .before .loop-test .taken)
-    (c .before .before .put-octet .ensures)
+    (c .before .before .put-few .ensures)
 
-put-octet-requires-2 : tie.Need-put-octet-requires-2 Inv-loop μ-loop
-put-octet-requires-2 c κs =
+put-few-requires-2 : tie.Need-put-few-requires-2 Inv-loop μ-loop
+put-few-requires-2 c κs =
     let b = c .before .before in
     group-asks _ (b .before .before .pre .near) (b .loop .inv) (omega arith)
 
 same-length : tie.Need-same-length Inv-loop μ-loop
 same-length c =
     let b = c .before .before in
-    put-length (b .put-octet2 .ensures) ∙ put-length (b .before .before .before .loop .inv .put)
+    put-length (b .put-few2 .ensures) ∙ put-length (b .before .before .before .loop .inv .put)
 
 returns : tie.Need-returns Inv-loop μ-loop
 returns c =
     finished (c .before .before .before .before .before .loop .inv) (c .before .before .before .before .loop-test .left)
-    (c .before .before .put-octet2 .ensures)
+    (c .before .before .put-few2 .ensures)
 
 pub put-unsigned-spec : {M : Type 1} → statement M
 put-unsigned-spec =
@@ -53,10 +53,10 @@ put-unsigned-spec =
     Inv-loop
     μ-loop
     loop-holds
-    add-put-octet
-    put-octet-requires
+    add-put-few
+    put-few-requires
     loop-less
     loop-again
-    put-octet-requires-2
+    put-few-requires-2
     same-length
     returns)

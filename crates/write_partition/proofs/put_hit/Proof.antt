@@ -7,35 +7,30 @@ use Rattle.write_partition.proofs.put_hit.Tie as tie
 put-unsigned-requires : tie.Need-put-unsigned-requires
 put-unsigned-requires c κs = partition-asks (c .before .before .pre)
 
-width-requires : tie.Need-width-requires
-width-requires c κs = search needs
-
 less-requires : tie.Need-less-requires
 less-requires c κs = search needs
 
-put-number-requires : tie.Need-put-number-requires
-put-number-requires c κs =
-    id-asks (c .before .before .before .before .before .before .before .before .pre) _
-    (c .before .before .before .before .before .put-unsigned .ensures) (c .before .before .width .ensures)
-    (c .less .ensures)
+put-choice-requires : tie.Need-put-choice-requires
+put-choice-requires c κs =
+    let u = c .before .before .before .before in
+    id-asks (u .before .before .before .pre) _ (u .put-unsigned .ensures) (c .less .ensures)
 
 same-length : tie.Need-same-length
 same-length c = search needs
 
 returns : tie.Need-returns
 returns c =
-    hit-put (c .before .before .before .before .before .before .before .before .before .before .before .pre) _
-    (c .before .before .before .before .before .before .before .before .put-unsigned .ensures)
-    (c .before .before .before .before .before .width .ensures) (c .before .before .before .less .ensures) _
-    (c .before .before .put-number .ensures)
+    let l = c .before .before .before in
+    let u = l .before .before .before .before in
+    hit-put (u .before .before .before .pre) _ (u .put-unsigned .ensures) (l .less .ensures) _
+    (c .before .before .put-choice .ensures)
 
 pub put-hit-spec : {M : Type 1} → statement M
 put-hit-spec =
     tie.close
     (tie.spec
     put-unsigned-requires
-    width-requires
     less-requires
-    put-number-requires
+    put-choice-requires
     same-length
     returns)

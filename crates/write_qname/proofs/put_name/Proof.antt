@@ -8,7 +8,7 @@ look-up-requires c κs = search needs
 
 put-uri-requires : tie.Need-put-uri-requires
 put-uri-requires c κs =
-    let pre = c .before .before .before .before .before .before .before .pre in
+    let pre = c .before .before .before .before .before .pre in
     let look-up = c .before .look-up in
     uri-put-asks pre (look-up .ensures .0)
 
@@ -18,7 +18,7 @@ look-up-requires-2 c κs = search needs
 put-local-requires : tie.Need-put-local-requires
 put-local-requires c κs =
     let pre = c .before .before .before .before .before .before .before .before .before .before
-    .before .before .pre in
+    .pre in
     let look-up = c .before .before .before .before .before .before .look-up in
     let put-uri = c .before .before .before .before .put-uri in
     let look-up2 = c .before .look-up2 in
@@ -30,7 +30,7 @@ same-length c = search needs
 returns : tie.Need-returns
 returns c =
     let pre = c .before .before .before .before .before .before .before .before .before .before
-    .before .before .before .before .before .pre in
+    .before .before .before .pre in
     let look-up = c .before .before .before .before .before .before .before .before .before .look-up in
     let put-uri = c .before .before .before .before .before .before .before .put-uri in
     let look-up2 = c .before .before .before .before .look-up2 in

@@ -1,56 +1,71 @@
 -- `judge_new_value` meets its contract: each return is one law.
+use native.Mathlib.Omega.{arith}
 use borrow.Author.Needs.{needs}
-use Rattle.spec_exi.specs.Sizes.{maxValues}
-use Rattle.write_values.proofs.Texts.{text-passed}
-use Rattle.write_values.proofs.Values.{new-fault, new-full, new-laid}
+use Rattle.spec_exi.specs.Sizes.{maxStore, maxValues}
+use Rattle.write_values.proofs.Values.{new-much, new-no-char, new-full, new-laid}
 use Rattle.write_values.proofs.judge_new_value.Statement.{statement}
 use Rattle.write_values.proofs.judge_new_value.Tie as tie
 
-literal-fault-requires : tie.Need-literal-fault-requires
-literal-fault-requires c κs = search needs
+sub-if1 : tie.Need-sub-if1
+unfolding maxStore
+sub-if1 c = omega (arith, c .before .pre .store)
 
 refused-requires : tie.Need-refused-requires
 refused-requires c κs = search needs
 
 returns : tie.Need-returns
+unfolding maxStore
 returns c =
-    let literal-fault = c .before .before .literal-fault in
-    let if1 = c .before .if1 in
-    rw (c .refused .ensures) (new-fault _ _ _ _ (literal-fault .ensures) (if1 .taken))
+    let pre = c .before .before .before .pre in
+    rw (c .refused .ensures) (new-much _ _ _ _ (pre .store) (c .before .if1 .taken))
 
 refused-requires-2 : tie.Need-refused-requires-2
 refused-requires-2 c κs = search needs
 
 returns-2 : tie.Need-returns-2
-unfolding maxValues
+unfolding maxStore
 returns-2 c =
-    let literal-fault = c .before .before .before .literal-fault in
     let if1 = c .before .before .if1 in
-    let if2 = c .before .if2 in
-    rw (c .refused2 .ensures) (new-full _ _ _ _ (literal-fault .ensures) (if1 .left) (if2 .taken))
+    let pre = c .before .before .before .before .pre in
+    rw (c .refused2 .ensures)
+    (new-no-char _ _ _ _ (pre .store) (if1 .left) (pre .weighed) (c .before .if2 .taken))
 
-literal-requires : tie.Need-literal-requires
-literal-requires c κs =
-    let literal-fault = c .before .before .literal-fault in
-    let if1 = c .before .if1 in
-    text-passed _ _ (literal-fault .ensures) (if1 .left) .store
+refused-requires-3 : tie.Need-refused-requires-3
+refused-requires-3 c κs = search needs
 
 returns-3 : tie.Need-returns-3
-unfolding maxValues
+unfolding maxStore maxValues
 returns-3 c =
-    let literal-fault = c .before .before .before .literal-fault in
-    let if1 = c .before .before .if1 in
-    let if2 = c .before .if2 in
-    rw (c .literal .ensures) (new-laid _ _ _ _ (literal-fault .ensures) (if1 .left) (if2 .left))
+    let if2 = c .before .before .if2 in
+    let if1 = c .before .before .before .if1 in
+    let pre = c .before .before .before .before .before .pre in
+    rw (c .refused3 .ensures)
+    (new-full _ _ _ _ (pre .store) (if1 .left) (pre .weighed) (if2 .left) (c .before .if3 .taken))
+
+literal-requires : tie.Need-literal-requires
+unfolding maxStore
+literal-requires c κs =
+    omega (arith, c .before .before .before .before .pre .store, c .before .before .if1 .left)
+
+returns-4 : tie.Need-returns-4
+unfolding maxStore maxValues
+returns-4 c =
+    let if2 = c .before .before .if2 in
+    let if1 = c .before .before .before .if1 in
+    let pre = c .before .before .before .before .before .pre in
+    rw (c .literal .ensures)
+    (new-laid _ _ _ _ (pre .store) (if1 .left) (pre .weighed) (if2 .left) (c .before .if3 .left))
 
 pub judge-new-value-spec : {M : Type 1} → statement M
 judge-new-value-spec =
     tie.close
     (tie.spec
-    literal-fault-requires
+    sub-if1
     refused-requires
     returns
     refused-requires-2
     returns-2
+    refused-requires-3
+    returns-3
     literal-requires
-    returns-3)
+    returns-4)

@@ -15,8 +15,8 @@ returns c =
     let if1 = c .before .if1 in
     rw (c .refused .ensures) (value-long pre (if1 .taken))
 
-hash-requires : tie.Need-hash-requires
-hash-requires c κs = search needs
+weigh-requires : tie.Need-weigh-requires
+weigh-requires c κs = search needs
 
 form-of-requires : tie.Need-form-of-requires
 form-of-requires c κs = form-asks (c .before .before .before .before .before .pre)
@@ -42,45 +42,45 @@ literal-requires c κs = search needs
 returns-2 : tie.Need-returns-2
 returns-2 c =
     let pre = c .before .before .before .before .before .before .before .before .before .before .pre in
-    let hash = c .before .before .before .before .before .hash in
+    let weigh = c .before .before .before .before .before .weigh in
     let form-of = c .before .before .before .before .form-of in
     let enum-told = c .before .before .enum-told in
     let if2 = c .before .if2 in
-    rw (c .literal .ensures) (value-empty pre (hash .ensures) (form-of .ensures) (enum-told .given .1) (if2 .taken))
+    rw (c .literal .ensures)
+    (value-empty pre (weigh .ensures .0) (form-of .ensures) (enum-told .given .1) (if2 .taken))
 
 judge-new-value-requires : tie.Need-judge-new-value-requires
-unfolding maxString
 judge-new-value-requires c κs =
     let pre = c .before .before .before .before .before .before .before .before .before .pre in
-    let if1 = c .before .before .before .before .before .if1 in
-    record { store = pre .store; short = if1 .left }
+    let weigh = c .before .before .before .before .weigh in
+    record { store = pre .store; weighed = weigh .ensures .1 }
 
 returns-3 : tie.Need-returns-3
 returns-3 c =
     let pre = c .before .before .before .before .before .before .before .before .before .before .pre in
-    let hash = c .before .before .before .before .before .hash in
+    let weigh = c .before .before .before .before .before .weigh in
     let form-of = c .before .before .before .before .form-of in
     let i = c .before .before .i in
-    rw (c .found .ensures) (value-own pre (hash .ensures) (form-of .ensures) (i .given .1))
+    rw (c .found .ensures) (value-own pre (weigh .ensures .0) (form-of .ensures) (i .given .1))
 
 returns-4 : tie.Need-returns-4
 returns-4 c =
     let pre = c .before .before .before .before .before .before .before .before .before .before .pre in
-    let hash = c .before .before .before .before .before .hash in
+    let weigh = c .before .before .before .before .before .weigh in
     let form-of = c .before .before .before .before .form-of in
     let i2 = c .before .before .i2 in
-    rw (c .found2 .ensures) (value-all pre (hash .ensures) (form-of .ensures) (i2 .given .1))
+    rw (c .found2 .ensures) (value-all pre (weigh .ensures .0) (form-of .ensures) (i2 .given .1))
 
 returns-5 : tie.Need-returns-5
 unfolding maxString
 returns-5 c =
     let pre = c .before .before .before .before .before .before .before .before .before .before .pre in
     let if1 = c .before .before .before .before .before .before .if1 in
-    let hash = c .before .before .before .before .before .hash in
+    let weigh = c .before .before .before .before .before .weigh in
     let form-of = c .before .before .before .before .form-of in
     let enum-told = c .before .before .enum-told in
     let if2 = c .before .if2 in
-    value-new pre (hash .ensures) (form-of .ensures) (enum-told .given .1) (if2 .left) (if1 .left)
+    value-new pre (weigh .ensures .0) (form-of .ensures) (enum-told .given .1) (if2 .left) (if1 .left)
     (c .judge-new-value .ensures)
 
 pub judge-value-spec : {M : Type 1} → statement M
@@ -89,7 +89,7 @@ judge-value-spec =
     (tie.spec
     refused-requires
     returns
-    hash-requires
+    weigh-requires
     form-of-requires
     enum-known-i
     found-requires
