@@ -10,6 +10,7 @@ use Rattle.spec_exi.specs.Examples.Bounds.{RefusedUnder, inOrder}
 use Rattle.spec_exi.specs.Examples.Written.{Written, WriteReplied, writes, writeReplies}
 use Rattle.spec_exi.specs.Examples.Written.{WrittenUnder, writesInOrder, atSizes}
 use Rattle.spec_exi.specs.Examples.Attributes.{equalRead, equalWritten}
+use Rattle.spec_exi.specs.Examples.Names.{NameRules, namesRead, textsRead, namesWritten}
 use Rattle.spec_exi.specs.Examples.Pieces.{Tell, pieces}
 
 -- Each holds.
@@ -30,4 +31,8 @@ pub record WorkedExamples : Type 0 where
   pub at-sizes : Written atSizes
   pub equal-read : Hold equalRead
   pub equal-written : Written equalWritten
+  pub name-rules : NameRules
+  pub names-read : Hold namesRead
+  pub texts-read : Hold textsRead
+  pub names-written : Written namesWritten
   pub pieces-told : Tell pieces
