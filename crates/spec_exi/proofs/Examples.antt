@@ -7,6 +7,7 @@ use Rattle.spec_fields.proofs.Refusal.{numbered}
 use Rattle.spec_fields.proofs.Tests.{left, right}
 use Rattle.text.specs.Text.{eqText}
 use Rattle.text.proofs.Equal.{eqText-eq}
+use Rattle.text.proofs.Examples.{name-examples}
 use Rattle.spec_exi.specs.Lists.{every}
 use Rattle.spec_exi.specs.Writer.{writeReply}
 use Rattle.spec_exi.specs.Examples.{Example, strictFor, Hold, Replied}
@@ -24,9 +25,8 @@ use Rattle.spec_exi.specs.Examples.Written.{writes, writeReplies, Writte
 use Rattle.spec_exi.specs.Examples.Written.{upTo, nested, inUris, withAttribute, aRow, atSizes}
 use Rattle.spec_exi.specs.Examples.Attributes.{thenOctets, equalRead, thenEvents}
 use Rattle.spec_exi.specs.Examples.Attributes.{equalWritten}
-use Rattle.spec_exi.specs.Examples.Names.{besideStarts, starts, further, besideFurther}
-use Rattle.spec_exi.specs.Examples.Names.{NameRules, afterComment, afterInstruction, before}
-use Rattle.spec_exi.specs.Examples.Names.{namesRead, textsRead, element, keeping}
+use Rattle.spec_exi.specs.Examples.Names.{InitialNames, afterComment, afterInstruction}
+use Rattle.spec_exi.specs.Examples.Names.{before, namesRead, textsRead, element, keeping}
 use Rattle.spec_exi.specs.Examples.Names.{namesWritten}
 use Rattle.spec_exi.specs.Examples.Pieces.{Tell, pieces}
 use Rattle.spec_exi.specs.Examples.All.{WorkedExamples}
@@ -128,9 +128,9 @@ equal-written : Written equalWritten
 unfolding definitions at inUri named writtenFor listed thenEvents equalWritten
 equal-written = record { answers = refl }
 
-name-rules : NameRules
-unfolding definitions besideStarts starts further besideFurther
-name-rules = record { first = refl; notFirst = refl; following = refl; notFollowing = refl; initial = λ s. tt }
+initial-names : InitialNames
+unfolding definitions
+initial-names s = tt
 
 names-read : Hold namesRead
 unfolding definitions namesRead
@@ -168,7 +168,8 @@ worked-examples =
       at-sizes = at-sizes;
       equal-read = equal-read;
       equal-written = equal-written;
-      name-rules = name-rules;
+      names = name-examples;
+      initial-names = initial-names;
       names-read = names-read;
       texts-read = texts-read;
       names-written = names-written;

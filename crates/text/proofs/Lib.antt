@@ -2,3 +2,4 @@ pub mod Char
 pub mod Equal
 pub mod Parts
 pub mod Rest
+pub mod Examples

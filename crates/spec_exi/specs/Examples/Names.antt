@@ -1,11 +1,9 @@
 -- Names are names (P6): local names and targets that are NAME, comments and instructions' texts
 -- that are CHARACTER. Lists that end after what is no fault are SHAPE at their length.
-use Rattle.spec_fields.specs.Prelude.{ℕ, String, _≡_, true, false, List, [], _∷_, _++_, map}
-use Rattle.spec_fields.specs.Prelude.{some, T, replicate}
+use Rattle.spec_fields.specs.Prelude.{ℕ, String, List, [], _∷_, _++_, some, T, replicate}
 use Rattle.spec_fields.specs.Refusal.{Refusal, ended, character, name, limit, shape, Answer}
 use Rattle.spec_fields.specs.Refusal.{refused}
 use Rattle.text.specs.Text.{Span, Text, text}
-use Rattle.text.specs.Names.{isNameStart, isNameChar}
 use Rattle.spec_exi.specs.Event.{Event, startDocument, startElement, attribute, comment}
 use Rattle.spec_exi.specs.Event.{instruction}
 use Rattle.spec_exi.specs.Settings.{Settings}
@@ -16,36 +14,10 @@ use Rattle.spec_exi.specs.Examples.{attr, remark, instruct, end, whole}
 use Rattle.spec_exi.specs.Examples.Places.{at, named}
 use Rattle.spec_exi.specs.Examples.Written.{WriteExample, listed}
 
--- ---- code points
-
--- Both sides of each range of NameStartChar (XML 1.0, production 4; the colon, 58, is not in it).
-unfoldable pub besideStarts : List ℕ
-besideStarts =
-    58 ∷ 64 ∷ 91 ∷ 94 ∷ 96 ∷ 123 ∷ 0xBF ∷ 0xD7 ∷ 0xF7 ∷ 0x300 ∷ 0x36F ∷ 0x37E ∷ 0x2000 ∷ 0x200B
-    ∷ 0x200E ∷ 0x206F ∷ 0x2190 ∷ 0x2BFF ∷ 0x2FF0 ∷ 0x3000 ∷ 0xD800 ∷ 0xF8FF ∷ 0xFDD0 ∷ 0xFDEF
-    ∷ 0xFFFE ∷ 0xFFFF ∷ 0xF0000 ∷ []
-
-unfoldable pub starts : List ℕ
-starts =
-    65 ∷ 90 ∷ 95 ∷ 97 ∷ 122 ∷ 0xC0 ∷ 0xD6 ∷ 0xD8 ∷ 0xF6 ∷ 0xF8 ∷ 0x2FF ∷ 0x370 ∷ 0x37D ∷ 0x37F
-    ∷ 0x1FFF ∷ 0x200C ∷ 0x200D ∷ 0x2070 ∷ 0x218F ∷ 0x2C00 ∷ 0x2FEF ∷ 0x3001 ∷ 0xD7FF ∷ 0xF900
-    ∷ 0xFDCF ∷ 0xFDF0 ∷ 0xFFFD ∷ 0x10000 ∷ 0xEFFFF ∷ []
-
--- What NameChar has besides (XML 1.0, production 4a), and both sides of that.
-unfoldable pub further : List ℕ
-further = 45 ∷ 46 ∷ 48 ∷ 57 ∷ 0xB7 ∷ 0x300 ∷ 0x36F ∷ 0x203F ∷ 0x2040 ∷ []
-
-unfoldable pub besideFurther : List ℕ
-besideFurther = 44 ∷ 47 ∷ 58 ∷ 0xB6 ∷ 0xB8 ∷ 0x203E ∷ 0x2041 ∷ []
-
--- What may stand first in a name, and what may follow; and no initial entry is refused, so that a
--- hit of one can only be NAME as an attribute's (nil and type).
-pub record NameRules : Type 0 where
-  pub first : map isNameStart starts ≡ replicate 29 true
-  pub notFirst : map isNameStart (besideStarts ++ further) ≡ replicate 36 false
-  pub following : map isNameChar (starts ++ further) ≡ replicate 38 true
-  pub notFollowing : map isNameChar besideFurther ≡ replicate 7 false
-  pub initial : (s : Settings) → T (every (λ x. nameAllowed (x .0) (x .1)) (initialEntries s))
+-- No initial entry is refused (EXI D.1, D.3), so that a hit can only be NAME as an attribute's: nil
+-- and type of XMLSchema-instance.
+abbrev pub InitialNames : Type 0
+InitialNames = (s : Settings) → T (every (λ x. nameAllowed (x .0) (x .1)) (initialEntries s))
 
 -- ---- streams
 
