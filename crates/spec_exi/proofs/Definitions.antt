@@ -7,8 +7,8 @@ use Rattle.spec_fields.specs.Field.{bit, octet, littleEndian, littleValue, numb
 use Rattle.spec_fields.specs.Field.{widthFrom, width, choiceBits, choice, maxOctets, maxUnsigned}
 use Rattle.spec_fields.specs.Field.{groups, unsignedBits, grouped, unsigned}
 use Rattle.text.specs.Text.{text, eqText, isEmpty, isChar, allChars, inside, part}
-use Rattle.text.specs.Names.{inRange, inRanges, startRanges, furtherRanges, isNameStart, isNameChar}
-use Rattle.text.specs.Names.{allNameChars, isNCName, isLetter, isXml, hasPair, endsIn}
+use Rattle.text.specs.Names.{isLetter, isXml, hasPair, endsIn}
+use Rattle.text.proofs.Names.{nameDefinitions}
 use Rattle.spec_exi.specs.Sizes.{maxStream, maxEvents, maxOpen, maxUris, maxNames, maxValues}
 use Rattle.spec_exi.specs.Sizes.{maxGrammars, maxLearned, maxString, maxStore, cellsPerEvent}
 use Rattle.spec_exi.specs.Sizes.{readerWork, eventCells, writerWork}
@@ -55,8 +55,8 @@ unfoldable pub definitions : Unit {0}
 unfolding bitsOf valueOf each unpack octetsFrom octetsFor pack allZero isPadding numberOf return
     fail present need andThen _>>=_ _>>_ times bit octet littleEndian littleValue numberBits
     numberField widthFrom width choiceBits choice maxOctets maxUnsigned groups unsignedBits grouped
-    unsigned text eqText isEmpty isChar allChars inside part inRange inRanges startRanges
-    furtherRanges isNameStart isNameChar allNameChars isNCName isLetter isXml hasPair endsIn
+    unsigned text eqText isEmpty isChar allChars inside part nameDefinitions isLetter isXml
+    hasPair endsIn
     maxStream maxEvents maxOpen maxUris
     maxNames maxValues maxGrammars maxLearned maxString maxStore cellsPerEvent readerWork eventCells
     writerWork meaningful settingsOf headerOf kindOf nameOf stringsOf mapName mapEvent eqName

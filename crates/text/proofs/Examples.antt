@@ -1,13 +1,13 @@
 -- The worked examples of names hold, by computation.
 use mathlib.Core.Path.{refl}
 use Rattle.text.specs.Text.{text}
-use Rattle.text.specs.Names.{inRange, inRanges, startRanges, furtherRanges, isNameStart, isNameChar}
-use Rattle.text.specs.Names.{allNameChars, isNCName, isLetter, isXml, hasPair, endsIn}
+use Rattle.text.specs.Names.{isLetter, isXml, hasPair, endsIn}
 use Rattle.text.specs.Examples.{starts, besideStarts, further, besideFurther, NameExamples}
+use Rattle.text.proofs.Names.{nameDefinitions}
 
 pub name-examples : NameExamples
-unfolding text inRange inRanges startRanges furtherRanges isNameStart isNameChar allNameChars isNCName
-    isLetter isXml hasPair endsIn starts besideStarts further besideFurther
+unfolding text nameDefinitions isLetter isXml hasPair endsIn starts besideStarts further
+    besideFurther
 name-examples =
     record {
       first = refl;
