@@ -7,7 +7,8 @@ use mathlib.Core.List.{List, [], _++_, append-nil}
 use lib.ListN.{length, getD, take, drop, replicate, length-replicate, getD-replicate}
 use lib.Seq.{length-take-le, take-at, getD-take}
 use lib.Dec.{T}
-use Rattle.text.specs.Text.{Text, text, eqText, isEmpty}
+use Rattle.text.specs.Text.{Text, text, eqText}
+use Rattle.text.proofs.Names.{nameDefinitions}
 use Rattle.spec_exi.specs.Sizes.{maxStore, maxUris, maxNames, maxValues, maxLearned, maxGrammars}
 use Rattle.spec_exi.specs.Sizes.{maxOpen, maxEvents}
 use Rattle.spec_exi.specs.Settings.{Settings}
@@ -103,7 +104,8 @@ uris-counted origin = refl
 names-fresh : (origin : ℕ)
     → T (freshNames (plusUris noRows origin 0 initialUris) origin (length urisText) initialNames)
 unfolding freshNames freshName firstThat eqName nameAt placedAt entryAt uriAt eqText nameAllowed
-    isEmpty withUri withName plusUris urisText together initialUris initialNames xmlUri xsiUri text
+    nameDefinitions withUri withName plusUris urisText together initialUris initialNames xmlUri xsiUri
+    text
 names-fresh origin = tt
 
 -- ---- memory with them

@@ -18,7 +18,8 @@ use Rattle.spec_exi.specs.Event.{startElement, attribute, characters, co
 use Rattle.spec_exi.specs.Event.{Kind, SD, ED, SE, AT, EE, CH, CM, PI, mapName, mapEvent}
 use Rattle.spec_exi.specs.Event.{kindOf, nameOf}
 use Rattle.spec_exi.specs.Tables.{Placed, nameText, eventText, Tables, Role, uri, local}
-use Rattle.spec_exi.specs.Tables.{value, target, plain, namesOf, nameAllowed}
+use Rattle.spec_exi.specs.Tables.{value, target, commentText, instructionText, namesOf}
+use Rattle.spec_exi.specs.Tables.{nameAllowed, textAllowed}
 use Rattle.spec_exi.specs.Grammar.{Production, State, kindNumber, isWildcard, fitsName, fits}
 use Rattle.spec_exi.specs.Context.{Item, item, characterRole, nameItems, items, afterItem}
 use Rattle.spec_exi.specs.Context.{afterItems, entryOf, entriesOf}
@@ -55,10 +56,10 @@ pub data ContentRead (z : Sizes) (s : Settings) (t : Tables) (st : State) (n : O
       → w ≡ u ++ v → ContentRead z s t st n c w AT
   aCH : (x : Placed × Tables) → StringRead z s t (characterRole st) x w
       → c ≡ (characters (x .0), x .1) → ContentRead z s t st n c w CH
-  aCM : (x : Placed × Tables) → StringRead z s t plain x w → c ≡ (comment (x .0), x .1)
+  aCM : (x : Placed × Tables) → StringRead z s t commentText x w → c ≡ (comment (x .0), x .1)
       → ContentRead z s t st n c w CM
   aPI : (x y : Placed × Tables) (u v : Bits) → StringRead z s t target x u
-      → StringRead z s (x .1) plain y v → c ≡ (instruction (x .0) (y .0), y .1) → w ≡ u ++ v
+      → StringRead z s (x .1) instructionText y v → c ≡ (instruction (x .0) (y .0), y .1) → w ≡ u ++ v
       → ContentRead z s t st n c w PI
 
 module _ (z : Sizes) (s : Settings) (t : Tables) where
@@ -134,22 +135,22 @@ module _ (z : Sizes) (s : Settings) (t : Tables) where
             → Mapped (StringRead z s t (characterRole st)) (λ x. (characters (x .0), x .1)) c w
         from c w (aCH x h i) = record { from = x; by = h; is = i }
     content-reads CM =
-        reads-as (reads-map (string-reads z s t plain) (λ x. (comment (x .0), x .1)))
+        reads-as (reads-map (string-reads z s t commentText) (λ x. (comment (x .0), x .1)))
         (λ c w h. aCM (h .from) (h .by) (h .is)) from
       where
         from : (c : Event Placed × Tables) (w : Bits) → Content CM c w
-            → Mapped (StringRead z s t plain) (λ x. (comment (x .0), x .1)) c w
+            → Mapped (StringRead z s t commentText) (λ x. (comment (x .0), x .1)) c w
         from c w (aCM x h i) = record { from = x; by = h; is = i }
     content-reads PI =
         reads-as
         (reads-then (string-reads z s t target) (λ x u h.
-        reads-map (string-reads z s (x .1) plain) (λ y. (instruction (x .0) (y .0), y .1))))
+        reads-map (string-reads z s (x .1) instructionText) (λ y. (instruction (x .0) (y .0), y .1))))
         (λ c w h. aPI (h .first) (h .two .from) (h .front) (h .back) (h .one) (h .two .by) (h .two .is) (h .joined))
         from
       where
         from : (c : Event Placed × Tables) (w : Bits) → Content PI c w
             → Then (StringRead z s t target)
-            (λ x. Mapped (StringRead z s (x .1) plain) (λ y. (instruction (x .0) (y .0), y .1))) c w
+            (λ x. Mapped (StringRead z s (x .1) instructionText) (λ y. (instruction (x .0) (y .0), y .1))) c w
         from c w (aPI x y u v h k i j) =
             record { first = x; front = u; back = v; one = h; two = record { from = y; by = k; is = i }; joined = j }
 
@@ -221,15 +222,19 @@ string-fit s t r x is t′ u v g h k =
 name-fit : (s : Settings) (t : Tables) (attr : Bool) (n : Option (QName Placed)) (k : Kind) (a : QName Placed × Tables) (is : List Item) (t′ : Tables)
     (u v : Bits) → GoodTables t → T (withinTables sizes t) → NamedOk attr n → NameRead sizes s t attr a u n → (GoodTables (a .1) → FitItems s (a .1) is t′ v)
     → T (fitsName n (some (nameText (a .0)))) × FitItems s t (nameItems (record { kind = k; qname = n }) attr (nameText (a .0)) ++ is) t′ (u ++ v)
-unfolding nameItems isWildcard fitsName itemsBits itemBits afterItems afterItem nameAllowed nameText mapName item
+unfolding nameItems isWildcard fitsName itemsBits itemBits afterItems afterItem nameAllowed textAllowed
+    nameText mapName item
 name-fit s t attr n k a is t′ u v g room ok (carriedName q i e) f =
     let m = f (rw i g) in
     rw (i, e) (
       eqName-refl (nameText q),
       record {
         fit = (
-          record { chars = ok .uriChars; small = ok .uriSmall; named = tt; room = room },
-          (record { chars = ok .localChars; small = ok .localSmall; named = ok .named; room = room }, rw i at (m .fit)),
+          record { chars = ok .uriChars; small = ok .uriSmall; clean = tt; named = tt; room = room },
+          (
+            record { chars = ok .localChars; small = ok .localSmall; clean = tt; named = ok .named; room = room },
+            rw i at (m .fit),
+          ),
         );
         bits = rw i at (m .bits);
         after = rw i at (m .after);
@@ -278,13 +283,13 @@ content-fit s t st k n c w g room ok (aCH x h i) =
 content-fit s t st k n c w g room ok (aCM x h i) =
     rw (i, ok)
     (of-items s t st (record { kind = CM; qname = none }) (comment (x .0 .text)) (x .1) w tt
-    (string-fit s t plain x [] (x .1) w [] g h (λ g₁. none-fit s (x .1))))
+    (string-fit s t commentText x [] (x .1) w [] g h (λ g₁. none-fit s (x .1))))
 content-fit s t st k n c w g room ok (aPI x y u v h l i j) =
     rw (i, ok, j)
     (of-items s t st (record { kind = PI; qname = none }) (instruction (x .0 .text) (y .0 .text)) (y .1) (u ++ v) tt
     (rw (append-assoc u v [])
-    (string-fit s t target x (item plain (y .0 .text) ∷ []) (y .1) u (v ++ []) g h
-    (λ g₁. string-fit s (x .1) plain y [] (y .1) v [] g₁ l (λ g₂. none-fit s (y .1))))))
+    (string-fit s t target x (item instructionText (y .0 .text) ∷ []) (y .1) u (v ++ []) g h
+    (λ g₁. string-fit s (x .1) instructionText y [] (y .1) v [] g₁ l (λ g₂. none-fit s (y .1))))))
 
 -- A name that is written lies, strictly read, where its first entries lie.
 module _ {z : Sizes} {s : Settings} {t : Tables} where
@@ -406,19 +411,20 @@ found s t st n (characters v) f h =
     let (x, e, l, r) = one s t (characterRole st) v (h .0) in
     record { event = characters (x .0); is = ap characters e; tables = x .1; first = λ b. refl; after = l; read = aCH x r refl }
 found s t st n (comment v) f h =
-    let (x, e, l, r) = one s t plain v (h .0) in
+    let (x, e, l, r) = one s t commentText v (h .0) in
     record { event = comment (x .0); is = ap comment e; tables = x .1; first = λ b. refl; after = l; read = aCM x r refl }
 found s t st n (instruction v w) f h =
     let x = read-of-item s t target v (h .0) in
     let t₁ = afterItem t (item target v) in
-    let (y, e, l, r) = one s t₁ plain w (h .1 .0) in
+    let (y, e, l, r) = one s t₁ instructionText w (h .1 .0) in
     record {
       event = instruction (x .string) (y .0);
       is = ap (λ p. instruction p (y .0 .text)) (x .is) ∙ ap (instruction v) e;
       tables = y .1;
       first = λ b. refl;
       after = l;
-      read = aPI (x .string, t₁) y (itemBits (s .alignment) t (item target v)) (itemBits (s .alignment) t₁ (item plain w) ++ []) (x .read) r refl refl;
+      read = aPI (x .string, t₁) y (itemBits (s .alignment) t (item target v))
+          (itemBits (s .alignment) t₁ (item instructionText w) ++ []) (x .read) r refl refl;
     }
 
 -- Content that is fit is read from the strict form's bits.

@@ -7,6 +7,8 @@ use Rattle.spec_fields.specs.Field.{bit, octet, littleEndian, littleValue, numb
 use Rattle.spec_fields.specs.Field.{widthFrom, width, choiceBits, choice, maxOctets, maxUnsigned}
 use Rattle.spec_fields.specs.Field.{groups, unsignedBits, grouped, unsigned}
 use Rattle.text.specs.Text.{text, eqText, isEmpty, isChar, allChars, inside, part}
+use Rattle.text.specs.Names.{isLetter, isXml, hasPair, endsIn}
+use Rattle.text.proofs.Names.{nameDefinitions}
 use Rattle.spec_exi.specs.Sizes.{maxStream, maxEvents, maxOpen, maxUris, maxNames, maxValues}
 use Rattle.spec_exi.specs.Sizes.{maxGrammars, maxLearned, maxString, maxStore, cellsPerEvent}
 use Rattle.spec_exi.specs.Sizes.{readerWork, eventCells, writerWork}
@@ -17,6 +19,7 @@ use Rattle.spec_exi.specs.Tables.{allValues, hasText, indexOf, partition
 use Rattle.spec_exi.specs.Tables.{firstHit, formOf, stringBits, formBits, newUri, newName}
 use Rattle.spec_exi.specs.Tables.{newEntry, newValue, laid, added, tablesAfter, xmlUri}
 use Rattle.spec_exi.specs.Tables.{xsiUri, initialEntries, addedAll, startTables, nameAllowed}
+use Rattle.spec_exi.specs.Tables.{textAllowed}
 use Rattle.spec_exi.specs.Grammar.{unnamed, kindNumber, isWildcard, fitsName, fits}
 use Rattle.spec_exi.specs.Grammar.{openElements, eqSite, siteOf, learnedIn, learnedAt, kept}
 use Rattle.spec_exi.specs.Grammar.{levelsWith, levels, allEmpty, choices, atLevel, below}
@@ -29,8 +32,8 @@ use Rattle.spec_exi.specs.Context.{start, levelsIn, item, characterRole,
 use Rattle.spec_exi.specs.Context.{afterItem, afterItems, after, entryOf, entriesOf}
 use Rattle.spec_exi.specs.Context.{afterCode, next, contextAfter}
 use Rattle.spec_exi.specs.Strict.{itemBits, itemsBits, codedBits, eventBits, listBits, strict}
-use Rattle.spec_exi.specs.Lists.{every, namesAllowed, charsOnly, withinTables, withinGrammars}
-use Rattle.spec_exi.specs.Lists.{within, staysWithin, short, shortStrings}
+use Rattle.spec_exi.specs.Lists.{every, namesAllowed, textsAllowed, charsOnly, withinTables}
+use Rattle.spec_exi.specs.Lists.{withinGrammars, within, staysWithin, short, shortStrings}
 use Rattle.spec_exi.specs.Reader.{readCharacter, readLiteral, readHit, readIn, readByLiterals}
 use Rattle.spec_exi.specs.Reader.{readEntry, readForm, readString, readName, readContent}
 use Rattle.spec_exi.specs.Reader.{readPart, readCode, step, following, ending, onward}
@@ -52,19 +55,22 @@ unfoldable pub definitions : Unit {0}
 unfolding bitsOf valueOf each unpack octetsFrom octetsFor pack allZero isPadding numberOf return
     fail present need andThen _>>=_ _>>_ times bit octet littleEndian littleValue numberBits
     numberField widthFrom width choiceBits choice maxOctets maxUnsigned groups unsignedBits grouped
-    unsigned text eqText isEmpty isChar allChars inside part maxStream maxEvents maxOpen maxUris
+    unsigned text eqText isEmpty isChar allChars inside part nameDefinitions isLetter isXml
+    hasPair endsIn
+    maxStream maxEvents maxOpen maxUris
     maxNames maxValues maxGrammars maxLearned maxString maxStore cellsPerEvent readerWork eventCells
     writerWork meaningful settingsOf headerOf kindOf nameOf stringsOf mapName mapEvent eqName
     nameText eventText spanOf partition namesOf valuesOf allValues hasText indexOf partitionsOf
     eqForm hitOr firstHit formOf stringBits formBits newUri newName newEntry newValue laid added
-    tablesAfter xmlUri xsiUri initialEntries addedAll startTables nameAllowed unnamed kindNumber
+    tablesAfter xmlUri xsiUri initialEntries addedAll startTables nameAllowed textAllowed
+    unnamed kindNumber
     isWildcard fitsName fits openElements eqSite siteOf learnedIn learnedAt kept levelsWith levels
     allEmpty choices atLevel below codeBits raised firstFit codeOr codeOf sameCode hasKind teaches
     taught learn hasName withGrammar grammarsAfter inContent closed stateAfter
     emptyTag isAttribute attributeName withAttribute tagAfter isNew tagAllows isFinished start
     levelsIn item characterRole nameItems items afterItem afterItems after entryOf entriesOf
     afterCode next contextAfter itemBits itemsBits codedBits eventBits listBits strict every
-    namesAllowed charsOnly withinTables withinGrammars within staysWithin short shortStrings
+    namesAllowed textsAllowed charsOnly withinTables withinGrammars within staysWithin short shortStrings
     readCharacter readLiteral readHit readIn readByLiterals readEntry readForm readString readName
     readContent readPart readCode step following ending onward readEvents readHeader readBody
     readStream enoughToRead readSized read listOf readReply firstFailed placeTests stringTests

@@ -15,7 +15,8 @@ use Rattle.text.specs.Text.{Text, eqText, isEmpty, allChars}
 use Rattle.spec_exi.specs.Settings.{Settings}
 use Rattle.spec_exi.specs.Sizes.{Sizes, sizes, maxStore, maxString}
 use Rattle.spec_exi.specs.Tables.{Placed, Entry, Tables, partition, namesOf, valuesOf}
-use Rattle.spec_exi.specs.Tables.{allValues, Role, uri, local, value, target, plain}
+use Rattle.spec_exi.specs.Tables.{allValues, Role, uri, local, value, target, commentText}
+use Rattle.spec_exi.specs.Tables.{instructionText, plain}
 use Rattle.spec_exi.specs.Tables.{Partitions, compact, literals, partitionsOf, Form, hit}
 use Rattle.spec_exi.specs.Tables.{literal, formOf, formBits, newUri, newName, newEntry}
 use Rattle.spec_exi.specs.Tables.{newValue, laid, added, tablesAfter}
@@ -85,6 +86,8 @@ module _ (P : Placed → Type 0) where
     (values-all (t .values) (g .values), tt),
   )
   partitions-all t target g = tt
+  partitions-all t commentText g = tt
+  partitions-all t instructionText g = tt
   partitions-all t plain g = tt
 
   -- What a hit names is an entry; a literal is to be as P says.
@@ -117,6 +120,8 @@ module _ (P : Placed → Type 0) where
       uris (local attr u) = tt
       uris (value q) = tt
       uris target = tt
+      uris commentText = tt
+      uris instructionText = tt
       uris plain = tt
 
       names : (r : Role) → Every P (map (λ x. x .string) (newName r (laid t y)))
@@ -124,6 +129,8 @@ module _ (P : Placed → Type 0) where
       names (local attr u) = (p, tt)
       names (value q) = tt
       names target = tt
+      names commentText = tt
+      names instructionText = tt
       names plain = tt
 
       values : (r : Role) → Every P (map (λ x. x .string) (newValue r (laid t y)))
@@ -131,6 +138,8 @@ module _ (P : Placed → Type 0) where
       values (local attr u) = tt
       values (value q) = split (isEmpty y) (λ e. rw e tt) (λ e. rw e (p, tt))
       values target = tt
+      values commentText = tt
+      values instructionText = tt
       values plain = tt
 
 -- Only Chars, and short.
@@ -171,7 +180,13 @@ item-of-read s t r x t′ w g h =
     let same = same-form (h .form) (formIn t r (x .text)) (h .strictly) in
     let after = h .after ∙ ap (λ f. tablesAfter t r f (x .text)) same in
     record {
-      fit = record { chars = b .chars; small = b .small; named = h .named; room = rw after at (h .room) };
+      fit = record {
+        chars = b .chars;
+        small = b .small;
+        clean = h .clean;
+        named = h .named;
+        room = rw after at (h .room);
+      };
       bits = spelled-bits (h .spelled) ∙ ap (λ f. formBits (s .alignment) (partitionsOf t r) f (x .text)) same;
       after = after;
     }
@@ -209,6 +224,7 @@ read-of-item s t r y h =
         spelled = m .spelled;
         fits = fit (formIn t r y) (m .string) e (h .room);
         strictly = rw e (form-same (formIn t r y));
+        clean = rw e (h .clean);
         named = rw e (h .named);
         after = rw e;
         room = h .room;

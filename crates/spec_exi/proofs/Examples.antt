@@ -7,6 +7,7 @@ use Rattle.spec_fields.proofs.Refusal.{numbered}
 use Rattle.spec_fields.proofs.Tests.{left, right}
 use Rattle.text.specs.Text.{eqText}
 use Rattle.text.proofs.Equal.{eqText-eq}
+use Rattle.text.proofs.Examples.{name-examples}
 use Rattle.spec_exi.specs.Lists.{every}
 use Rattle.spec_exi.specs.Writer.{writeReply}
 use Rattle.spec_exi.specs.Examples.{Example, strictFor, Hold, Replied}
@@ -14,7 +15,7 @@ use Rattle.spec_exi.specs.Examples.Scope.{K, KReplies}
 use Rattle.spec_exi.specs.Examples.Streams.{mistakes, kept}
 use Rattle.spec_exi.specs.Examples.Places.{layoutOf, storeWith, Lie, at, inUri, named}
 use Rattle.spec_exi.specs.Examples.Places.{laidOut}
-use Rattle.spec_exi.specs.Examples.Refusals.{orders, refusals}
+use Rattle.spec_exi.specs.Examples.Refusals.{orders, thenCharacters, refusals}
 use Rattle.spec_exi.specs.Examples.Bounds.{sizesAs, only, bound, RefusedUnder, rewritten}
 use Rattle.spec_exi.specs.Examples.Bounds.{sumUnder, Bounded, bounds, inOrder}
 use Rattle.spec_exi.specs.Examples.Numbers.{setting, meaningless, readerRoom, writerRoom}
@@ -24,6 +25,9 @@ use Rattle.spec_exi.specs.Examples.Written.{writes, writeReplies, Writte
 use Rattle.spec_exi.specs.Examples.Written.{upTo, nested, inUris, withAttribute, aRow, atSizes}
 use Rattle.spec_exi.specs.Examples.Attributes.{thenOctets, equalRead, thenEvents}
 use Rattle.spec_exi.specs.Examples.Attributes.{equalWritten}
+use Rattle.spec_exi.specs.Examples.Names.{InitialNames, afterComment, afterInstruction}
+use Rattle.spec_exi.specs.Examples.Names.{before, namesRead, textsRead, element, keeping}
+use Rattle.spec_exi.specs.Examples.Names.{namesWritten}
 use Rattle.spec_exi.specs.Examples.Pieces.{Tell, pieces}
 use Rattle.spec_exi.specs.Examples.All.{WorkedExamples}
 use Rattle.spec_exi.proofs.Definitions.{definitions}
@@ -66,7 +70,7 @@ unfolding definitions orders
 orders-hold = record { answers = refl; strictForms = same-streams orders tt }
 
 refusals-hold : Hold refusals
-unfolding definitions refusals
+unfolding definitions thenCharacters refusals
 refusals-hold = record { answers = refl; strictForms = same-streams refusals tt }
 
 bounds-hold : Bounded bounds
@@ -124,6 +128,22 @@ equal-written : Written equalWritten
 unfolding definitions at inUri named writtenFor listed thenEvents equalWritten
 equal-written = record { answers = refl }
 
+initial-names : InitialNames
+unfolding definitions
+initial-names s = tt
+
+names-read : Hold namesRead
+unfolding definitions namesRead
+names-read = record { answers = refl; strictForms = same-streams namesRead tt }
+
+texts-read : Hold textsRead
+unfolding definitions afterComment afterInstruction before textsRead
+texts-read = record { answers = refl; strictForms = same-streams textsRead tt }
+
+names-written : Written namesWritten
+unfolding definitions at inUri named writtenFor listed element keeping namesWritten
+names-written = record { answers = refl }
+
 pieces-told : Tell pieces
 unfolding definitions pieces
 pieces-told = record { replies = refl }
@@ -148,5 +168,10 @@ worked-examples =
       at-sizes = at-sizes;
       equal-read = equal-read;
       equal-written = equal-written;
+      names = name-examples;
+      initial-names = initial-names;
+      names-read = names-read;
+      texts-read = texts-read;
+      names-written = names-written;
       pieces-told = pieces-told;
     }

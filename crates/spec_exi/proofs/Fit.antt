@@ -10,7 +10,7 @@ use Rattle.text.specs.Text.{Text, allChars}
 use Rattle.spec_exi.specs.Sizes.{sizes}
 use Rattle.spec_exi.specs.Event.{Event}
 use Rattle.spec_exi.specs.Settings.{Settings}
-use Rattle.spec_exi.specs.Tables.{Tables, nameAllowed}
+use Rattle.spec_exi.specs.Tables.{Tables, nameAllowed, textAllowed}
 use Rattle.spec_exi.specs.Grammar.{Code, codeOf, finished, tagAllows}
 use Rattle.spec_exi.specs.Context.{Context, levelsIn, Item, items, afterItem, next}
 use Rattle.spec_exi.specs.Lists.{short, withinTables, withinGrammars}
@@ -19,6 +19,7 @@ use Rattle.spec_exi.specs.Lists.{short, withinTables, withinGrammars}
 pub record ItemFit (t : Tables) (i : Item) : Type 0 where
   pub chars : T (allChars (i .text))
   pub small : T (short sizes (i .text))
+  pub clean : T (textAllowed (i .role) (i .text))
   pub named : T (nameAllowed (i .role) (i .text))
   pub room : T (withinTables sizes (afterItem t i))
 

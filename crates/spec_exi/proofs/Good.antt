@@ -16,15 +16,15 @@ use Rattle.spec_exi.specs.Event.{Event, startDocument, endDocument, endE
 use Rattle.spec_exi.specs.Event.{attribute, characters, comment, instruction, stringsOf}
 use Rattle.spec_exi.specs.Settings.{Settings}
 use Rattle.spec_exi.specs.Tables.{Tables, Form, hit, literal, partitionsOf, formOf, added}
-use Rattle.spec_exi.specs.Tables.{tablesAfter, nameAllowed}
+use Rattle.spec_exi.specs.Tables.{tablesAfter, nameAllowed, textAllowed}
 use Rattle.spec_exi.specs.Grammar.{Production, State, document, docContent, docEnd, finished}
 use Rattle.spec_exi.specs.Grammar.{startTag, elementContent, Code, codeOf, stateAfter}
 use Rattle.spec_exi.specs.Grammar.{tagAfter, tagAllows}
 use Rattle.spec_exi.specs.Context.{Context, start, levelsIn, Item, item, characterRole}
 use Rattle.spec_exi.specs.Context.{nameItems, items, afterItem, afterItems, after, afterCode}
 use Rattle.spec_exi.specs.Context.{next}
-use Rattle.spec_exi.specs.Lists.{every, namesAllowed, charsOnly, WellFormed, withinTables}
-use Rattle.spec_exi.specs.Lists.{within, staysWithin, short, shortStrings}
+use Rattle.spec_exi.specs.Lists.{every, namesAllowed, textsAllowed, charsOnly, WellFormed}
+use Rattle.spec_exi.specs.Lists.{withinTables, within, staysWithin, short, shortStrings}
 use Rattle.spec_exi.proofs.Step.{sane-start}
 use Rattle.spec_exi.proofs.Fit.{ItemsFit, EventFit, ListFit, done, also}
 use Rattle.spec_exi.proofs.Shape.{allowed, Run, stop, go, run-of-document, document-of-run}
@@ -57,6 +57,7 @@ room-before-all t (i ∷ is) h = room-before t i (room-before-all (afterItem t i
 record StringsFit (t : Tables) (is : List Item) : Type 0 where
   chars : T (every (λ i. allChars (i .text)) is)
   small : T (every (λ i. short sizes (i .text)) is)
+  clean : T (every (λ i. textAllowed (i .role) (i .text)) is)
   named : T (every (λ i. nameAllowed (i .role) (i .text)) is)
   room : T (withinTables sizes (afterItems t is))
 
@@ -68,7 +69,7 @@ items-of-strings t (i ∷ is) h =
 
 strings-of-items : (t : Tables) (is : List Item) → T (withinTables sizes t) → ItemsFit t is → StringsFit t is
 unfolding every afterItems
-strings-of-items t [] r h = record { chars = tt; small = tt; named = tt; room = r }
+strings-of-items t [] r h = record { chars = tt; small = tt; clean = tt; named = tt; room = r }
 strings-of-items t (i ∷ is) r h = let later = strings-of-items (afterItem t i) is (h .0 .room) (h .1) in search both
 
 -- An event's items hold its strings, in their order.
@@ -107,6 +108,31 @@ names-are st p =
       | instruction x y ↦ and-true _
     ]
 
+text-lawful : (st : State) (v : Text) → textAllowed (characterRole st) v ≡ true
+unfolding textAllowed characterRole
+text-lawful document v = refl
+text-lawful docContent v = refl
+text-lawful docEnd v = refl
+text-lawful finished v = refl
+text-lawful (startTag q outer) v = refl
+text-lawful (elementContent q outer) v = refl
+
+-- Of its items only a comment and an instruction's text can be unclean.
+texts-are : (st : State) (p : Production) (e : Event Text)
+    → every (λ i. textAllowed (i .role) (i .text)) (items st p e) ≡ textsAllowed e
+unfolding every items nameItems item textAllowed textsAllowed
+texts-are st p =
+    elim [
+      | startDocument ↦ refl
+      | endDocument ↦ refl
+      | endElement ↦ refl
+      | startElement q ↦ refl
+      | attribute q v ↦ refl
+      | characters v ↦ rw (text-lawful st v)
+      | comment x ↦ and-true _
+      | instruction x y ↦ and-true _
+    ]
+
 -- ---- one event
 
 -- What holds of every context that a list that fits goes through.
@@ -123,6 +149,7 @@ record Meet (s : Settings) (c : Context) (e : Event Text) : Type 0 where
   shape : T (allowed s (c .state) e)
   chars : T (charsOnly e)
   names : T (namesAllowed e)
+  texts : T (textsAllowed e)
   tag : T (tagAllows (c .tag) e)
   strings : T (shortStrings sizes e)
   sizes : T (within sizes (next s c e))
@@ -143,6 +170,7 @@ module _ (s : Settings) (c : Context) (e : Event Text) where
         strings = items-of-strings (c .tables) (items (c .state) (x .production) e) (record {
           chars = rw (strings-are allChars) (m .chars);
           small = rw (strings-are (short sizes)) (m .strings);
+          clean = rw texts-are (m .texts);
           named = rw names-are (m .names);
           room = rw (next-is x h) at room;
         });
@@ -182,6 +210,7 @@ module _ (s : Settings) (c : Context) (e : Event Text) where
             shape = shape-fits;
             chars = rw (strings-are allChars) at (strings-fit .chars);
             names = rw names-are at (strings-fit .named);
+            texts = rw texts-are at (strings-fit .clean);
             tag = f .tag;
             strings = rw (strings-are (short sizes)) at (strings-fit .small);
             sizes = search (both, sound-next .room);
@@ -200,6 +229,7 @@ record MeetsFrom (s : Settings) (c : Context) (l : List (Event Text)) : Type 0 w
   shape : Run s (c .state) l
   chars : T (every charsOnly l)
   names : T (every namesAllowed l)
+  texts : T (every textsAllowed l)
   tags : T (tagsAllow (c .tag) l)
   strings : T (every (shortStrings sizes) l)
   sizes : T (staysWithin sizes s c l)
@@ -223,7 +253,7 @@ module _ {s : Settings} where
   meets-from : {c : Context} {l : List (Event Text)} → Sound s c → ListFit s c l → MeetsFrom s c l
   unfolding every staysWithin tagsAllow
   meets-from o (done h) =
-      record { shape = rw h stop; chars = tt; names = tt; tags = tt; strings = tt; sizes = tt }
+      record { shape = rw h stop; chars = tt; names = tt; texts = tt; tags = tt; strings = tt; sizes = tt }
   meets-from {c} o (also e f r) =
       let first = meet-of-fit s c e f o in
       let later = meets-from (sound-next s c e f o) r in
@@ -239,6 +269,7 @@ fit-of-good s l m =
       shape = run-of-document s l (w .shape);
       chars = w .chars;
       names = w .names;
+      texts = w .texts;
       tags = rw (tags-differ l) (m .formed .attributes);
       strings = m .strings;
       sizes = m .sizes;
@@ -255,6 +286,7 @@ good-of-fit s l f =
           shape = document-of-run s l (m .shape);
           chars = m .chars;
           names = m .names;
+          texts = m .texts;
         };
         attributes = rw (tags-differ l) at (m .tags);
       };

@@ -94,7 +94,8 @@ module _ (z : Sizes) (s : Settings) where
   unfolding readString ofEvents between numberOf
   says-string t r =
       says-then _ (says-form t (partitionsOf t r))
-      (λ x. says-guard _ _ loose tt (says-guard _ _ name tt (says-guard _ _ limit tt (says-return _ _))))
+      (λ x. says-guard _ _ character tt (says-guard _ _ loose tt (says-guard _ _ name tt
+      (says-guard _ _ limit tt (says-return _ _)))))
 
   says-name : (t : Tables) (attr : Bool) (n : Option (QName Placed))
       → Says ofEvents (readName z s t attr n)

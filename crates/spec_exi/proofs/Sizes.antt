@@ -8,7 +8,8 @@ use mathlib.Core.Option.{Option, none, some}
 use lib.ListN.{length, getElem?}
 use lib.Dec.{T, leb, leb→le, le→leb}
 use Rattle.spec_fields.specs.Bits.{Bits, unpack}
-use Rattle.spec_fields.specs.Refusal.{Refusal, loose, name, limit, shape, Answer, refused, accepted}
+use Rattle.spec_fields.specs.Refusal.{Refusal, character, loose, name, limit, shape, Answer}
+use Rattle.spec_fields.specs.Refusal.{refused, accepted}
 use Rattle.spec_fields.specs.Parser.{Result, bad, got, Parser, return, fail, need, andThen, _>>=_}
 use Rattle.spec_fields.specs.Parser.{_>>_}
 use Rattle.spec_fields.proofs.Tests.{T-is, is-T, both, left, right, split}
@@ -18,7 +19,8 @@ use Rattle.spec_exi.specs.Sizes.{Sizes, NoLarger}
 use Rattle.spec_exi.specs.Settings.{Settings, SettingNumbers, meaningful, settingsOf}
 use Rattle.spec_exi.specs.Settings.{headerOf}
 use Rattle.spec_exi.specs.Tables.{Placed, nameText, Slot, Tables, Role, uri, local, value}
-use Rattle.spec_exi.specs.Tables.{target, plain, Partitions, compact, literals, partitionsOf}
+use Rattle.spec_exi.specs.Tables.{target, commentText, instructionText, Partitions, compact}
+use Rattle.spec_exi.specs.Tables.{literals, partitionsOf}
 use Rattle.spec_exi.specs.Tables.{tablesAfter}
 use Rattle.spec_exi.specs.Grammar.{State, isFinished}
 use Rattle.spec_exi.specs.Context.{Context, start, characterRole}
@@ -119,8 +121,8 @@ module _ (y z : Sizes) (h : NoLarger y z) where
     string-also : (t : Tables) (r : Role) → Also (readString y s t r) (readString z s t r)
     unfolding readString
     string-also t r =
-        also-then (form-also t (partitionsOf t r)) (λ x. also-when _ loose (also-when _ name
-        (also-need _ _ limit (tables-larger (tablesAfter t r (x .0) (x .1 .text))) (also-same _))))
+        also-then (form-also t (partitionsOf t r)) (λ x. also-when _ character (also-when _ loose (also-when _ name
+        (also-need _ _ limit (tables-larger (tablesAfter t r (x .0) (x .1 .text))) (also-same _)))))
 
     name-also : (t : Tables) (attr : Bool) (n : Option (QName Placed))
         → Also (readName y s t attr n) (readName z s t attr n)
@@ -137,8 +139,9 @@ module _ (y z : Sizes) (h : NoLarger y z) where
     content-also t st SE n = also-then (name-also t false n) (λ q. also-same _)
     content-also t st AT n = also-then (name-also t true n) (λ q. also-then (string-also (q .1) (value (nameText (q .0)))) (λ v. also-same _))
     content-also t st CH n = also-then (string-also t (characterRole st)) (λ v. also-same _)
-    content-also t st CM n = also-then (string-also t plain) (λ v. also-same _)
-    content-also t st PI n = also-then (string-also t target) (λ x. also-then (string-also (x .1) plain) (λ v. also-same _))
+    content-also t st CM n = also-then (string-also t commentText) (λ v. also-same _)
+    content-also t st PI n =
+        also-then (string-also t target) (λ x. also-then (string-also (x .1) instructionText) (λ v. also-same _))
 
     step-also : (c : Context) → Also (step y s c) (step z s c)
     unfolding step

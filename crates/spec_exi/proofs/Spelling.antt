@@ -17,7 +17,8 @@ use Rattle.text.proofs.Equal.{eqText-eq}
 use Rattle.spec_exi.specs.Sizes.{maxString}
 use Rattle.spec_exi.specs.Settings.{Settings}
 use Rattle.spec_exi.specs.Tables.{Placed, Slot, Tables, hasText, indexOf, Role, uri, local}
-use Rattle.spec_exi.specs.Tables.{value, target, plain, Partitions, compact, literals}
+use Rattle.spec_exi.specs.Tables.{value, target, commentText, instructionText, plain}
+use Rattle.spec_exi.specs.Tables.{Partitions, compact, literals}
 use Rattle.spec_exi.specs.Tables.{partitionsOf, Form, hit, literal, eqForm, hitOr, firstHit}
 use Rattle.spec_exi.specs.Tables.{formOf, stringBits, formBits, laid}
 use Rattle.spec_exi.proofs.Derivation.{Characters, nothing, more, Literal, aLiteral, Spelled}
@@ -51,6 +52,8 @@ few-partitions t uri = omega arith
 few-partitions t (local attr u) = omega arith
 few-partitions t (value q) = omega arith
 few-partitions t target = omega arith
+few-partitions t commentText = omega arith
+few-partitions t instructionText = omega arith
 few-partitions t plain = omega arith
 
 -- ---- what is spelled out has the form's bits

@@ -52,7 +52,8 @@ module _ (z : Sizes) (s : Settings) where
   steady-string : (t : Tables) (r : Role) → Steady (readString z s t r)
   unfolding readString
   steady-string t r =
-      steady-then (steady-form t _) (λ v. steady-guard _ _ (steady-guard _ _ (steady-guard _ _ (steady-return _))))
+      steady-then (steady-form t _) (λ v.
+      steady-guard _ _ (steady-guard _ _ (steady-guard _ _ (steady-guard _ _ (steady-return _)))))
 
   steady-name : (t : Tables) (attr : Bool) (n : Option (QName Placed)) → Steady (readName z s t attr n)
   unfolding readName

@@ -21,7 +21,7 @@ use Rattle.spec_exi.specs.Sizes.{Sizes}
 use Rattle.spec_exi.specs.Settings.{Settings}
 use Rattle.spec_exi.specs.Tables.{Placed, Slot, Tables, Role, Partitions, compact, literals}
 use Rattle.spec_exi.specs.Tables.{partitionsOf, Form, hit, literal, eqForm, formOf, laid}
-use Rattle.spec_exi.specs.Tables.{tablesAfter, nameAllowed}
+use Rattle.spec_exi.specs.Tables.{tablesAfter, nameAllowed, textAllowed}
 use Rattle.spec_exi.specs.Lists.{withinTables}
 use Rattle.spec_exi.specs.Reader.{readCharacter, readLiteral, readHit, readIn, readByLiterals}
 use Rattle.spec_exi.specs.Reader.{readEntry, readForm, readString}
@@ -307,6 +307,7 @@ module _ (z : Sizes) (s : Settings) (t : Tables) where
     pub form : Form
     pub spelled : Spelled s t (partitionsOf t r) form (y .0) w
     pub fits : Fits form (y .0)
+    pub clean : T (textAllowed r (y .0 .text))
     pub strictly : T (eqForm form (formOf (partitionsOf t r) (y .0 .text)))
     pub named : T (nameAllowed r (y .0 .text))
     pub after : y .1 ≡ tablesAfter t r form (y .0 .text)
@@ -318,23 +319,25 @@ module _ (z : Sizes) (s : Settings) (t : Tables) where
   string-reads r =
       reads-as
       (reads-then (form-reads (partitionsOf t r)) (λ y u h.
+      reads-guard (textAllowed r (y .1 .text)) character (λ a.
       reads-guard (eqForm (y .0) (formOf (partitionsOf t r) (y .1 .text))) loose (λ b.
       reads-guard (nameAllowed r (y .1 .text)) name (λ c.
       reads-guard (withinTables z (tablesAfter t r (y .0) (y .1 .text))) limit (λ d.
-      reads-return (y .1, tablesAfter t r (y .0) (y .1 .text)))))))
+      reads-return (y .1, tablesAfter t r (y .0) (y .1 .text))))))))
       (λ x w h.
       let q = h .two in
-      let m = q .1 .1 .1 in
+      let m = q .1 .1 .1 .1 in
       let i : w ≡ h .front = h .joined ∙ ap (λ b. h .front ++ b) (m .empty) ∙ append-nil (h .front) in
       rw (m .is, i)
       (record {
         form = h .first .0;
         spelled = h .one .spelled;
         fits = h .one .fits;
-        strictly = q .0;
-        named = q .1 .0;
+        clean = q .0;
+        strictly = q .1 .0;
+        named = q .1 .1 .0;
         after = refl;
-        room = q .1 .1 .0;
+        room = q .1 .1 .1 .0;
       }))
       (λ x w h.
       record {
@@ -343,8 +346,11 @@ module _ (z : Sizes) (s : Settings) (t : Tables) where
         back = [];
         one = record { spelled = h .spelled; fits = h .fits };
         two = (
-          h .strictly,
-          (h .named, (rw (h .after) at (h .room), record { is = ap (λ k. (x .0, k)) (h .after); empty = refl })),
+          h .clean,
+          (
+            h .strictly,
+            (h .named, (rw (h .after) at (h .room), record { is = ap (λ k. (x .0, k)) (h .after); empty = refl })),
+          ),
         );
         joined = sym (append-nil w);
       })

@@ -17,7 +17,8 @@ use Rattle.spec_exi.specs.Sizes.{Sizes}
 use Rattle.spec_exi.specs.Settings.{Settings}
 use Rattle.spec_exi.specs.Tables.{Placed, nameText, Entry, Tables, Slot, partition, namesOf}
 use Rattle.spec_exi.specs.Tables.{valuesOf, allValues, hasText, indexOf, Role, uri, local}
-use Rattle.spec_exi.specs.Tables.{value, target, plain, Partitions, compact, literals}
+use Rattle.spec_exi.specs.Tables.{value, target, commentText, instructionText, plain}
+use Rattle.spec_exi.specs.Tables.{Partitions, compact, literals}
 use Rattle.spec_exi.specs.Tables.{partitionsOf, Form, hit, literal, firstHit, formOf}
 use Rattle.spec_exi.specs.Tables.{formBits, newUri, newName, newEntry, newValue, laid, added}
 use Rattle.spec_exi.specs.Grammar.{Production, unnamed, isWildcard, fitsName, fits, State}
@@ -75,6 +76,8 @@ partitions-unplaced t (value q) =
       all-unplaced (t .values),
     )
 partitions-unplaced t target = refl
+partitions-unplaced t commentText = refl
+partitions-unplaced t instructionText = refl
 partitions-unplaced t plain = refl
 
 index-unplaced : (es : List Slot) (x : Text) → indexOf (map unplacedSlot es) x ≡ indexOf es x
@@ -128,11 +131,23 @@ join f e (x ∷ l) m n h = cc (e x, join f e l m n h)
 module _ (u v : Placed) (e : u .text ≡ v .text) where
   new-uri : (r : Role) → map unplaced (newUri r u) ≡ map unplaced (newUri r v)
   unfolding newUri unplaced
-  new-uri = elim [ uri ↦ cc | local attr w ↦ refl | value n ↦ refl | target ↦ refl | plain ↦ refl ]
+  new-uri uri = cc
+  new-uri (local attr w) = refl
+  new-uri (value n) = refl
+  new-uri target = refl
+  new-uri commentText = refl
+  new-uri instructionText = refl
+  new-uri plain = refl
 
   new-name : (r : Role) → map unplacedEntry (newName r u) ≡ map unplacedEntry (newName r v)
   unfolding newName unplacedEntry unplaced
-  new-name = elim [ uri ↦ refl | local attr w ↦ cc | value n ↦ refl | target ↦ refl | plain ↦ refl ]
+  new-name uri = refl
+  new-name (local attr w) = cc
+  new-name (value n) = refl
+  new-name target = refl
+  new-name commentText = refl
+  new-name instructionText = refl
+  new-name plain = refl
 
   new-value : (r : Role) → map unplacedEntry (newValue r u) ≡ map unplacedEntry (newValue r v)
   unfolding newValue newEntry unplacedEntry unplaced
@@ -140,6 +155,8 @@ module _ (u v : Placed) (e : u .text ≡ v .text) where
   new-value (local attr w) = refl
   new-value (value n) = split (isEmpty (v .text)) (λ h. rw (e, h)) (λ h. rw (e, h))
   new-value target = refl
+  new-value commentText = refl
+  new-value instructionText = refl
   new-value plain = refl
 
 pub added-unplaced : (r : Role) (x : Text) (t : Tables)

@@ -62,7 +62,8 @@ module _ (z : Sizes) where
   content-faults : (t : Tables) (is : List Item) → Faults (contentTests z t is)
   unfolding contentTests stringTests
   content-faults t [] = tt
-  content-faults t (i ∷ is) = (aLimit, (aLimit, (aCharacter, (aName, (aLimit, content-faults (afterItem t i) is)))))
+  content-faults t (i ∷ is) =
+      (aLimit, (aLimit, (aCharacter, (aCharacter, (aName, (aLimit, content-faults (afterItem t i) is))))))
 
   event-faults : (s : Settings) (c : Context) (store : Text) (e : Event Span) (x : Option Code)
       → Faults (eventTests z s c store e x)

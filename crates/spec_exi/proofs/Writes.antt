@@ -72,8 +72,14 @@ store-room t =
 string-passed : (t : Tables) (i : Item) → Passed (stringTests sizes t i) ↔ ItemFit t i
 unfolding stringTests
 string-passed t i = (
-  (λ (small, (stored, (chars, (named, (room, u))))). record { chars = chars; small = small; named = named; room = room }),
-  (λ h. (h .small, (store-room (afterItem t i) (h .room), (h .chars, (h .named, (h .room, tt)))))),
+  (λ (small, (stored, (chars, (clean, (named, (room, u)))))). record {
+    chars = chars;
+    small = small;
+    clean = clean;
+    named = named;
+    room = room;
+  }),
+  (λ h. (h .small, (store-room (afterItem t i) (h .room), (h .chars, (h .clean, (h .named, (h .room, tt))))))),
 )
 
 content-passed : (t : Tables) (is : List Item) → Passed (contentTests sizes t is) ↔ ItemsFit t is

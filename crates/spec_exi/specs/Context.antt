@@ -9,7 +9,8 @@ use Rattle.spec_exi.specs.Event.{startElement, attribute, characters, co
 use Rattle.spec_exi.specs.Event.{kindOf, nameOf}
 use Rattle.spec_exi.specs.Settings.{Settings}
 use Rattle.spec_exi.specs.Tables.{Placed, Tables, namesOf, Role, uri, local, value, target}
-use Rattle.spec_exi.specs.Tables.{plain, partitionsOf, formOf, tablesAfter, startTables}
+use Rattle.spec_exi.specs.Tables.{commentText, instructionText, plain, partitionsOf, formOf}
+use Rattle.spec_exi.specs.Tables.{tablesAfter, startTables}
 use Rattle.spec_exi.specs.Grammar.{Production, State, document, docContent, docEnd, finished}
 use Rattle.spec_exi.specs.Grammar.{startTag, elementContent, Learned, Code, isWildcard}
 use Rattle.spec_exi.specs.Grammar.{levels, codeOf, siteOf, learnedAt, taught, learn}
@@ -77,8 +78,8 @@ items st p endElement = []
 items st p (startElement q) = nameItems p false q
 items st p (attribute q v) = nameItems p true q ++ (item (value q) v ∷ [])
 items st p (characters v) = item (characterRole st) v ∷ []
-items st p (comment x) = item plain x ∷ []
-items st p (instruction x y) = item target x ∷ item plain y ∷ []
+items st p (comment x) = item commentText x ∷ []
+items st p (instruction x y) = item target x ∷ item instructionText y ∷ []
 
 -- What a string leaves, by the form that it has in the strict form (EXI 7.3; scope, "Grammars").
 unfoldable pub afterItem : Tables → Item → Tables

@@ -19,6 +19,7 @@ pub mod Bounds
 pub mod Numbers
 pub mod Written
 pub mod Attributes
+pub mod Names
 pub mod Pieces
 pub mod All
 

@@ -8,7 +8,8 @@ use Rattle.spec_exi.specs.Event.{startElement, attribute, characters, co
 use Rattle.spec_exi.specs.Event.{stringsOf}
 use Rattle.spec_exi.specs.Settings.{Settings}
 use Rattle.spec_exi.specs.Sizes.{Sizes, sizes}
-use Rattle.spec_exi.specs.Tables.{Tables, local, target, nameAllowed}
+use Rattle.spec_exi.specs.Tables.{Tables, local, target, commentText, instructionText}
+use Rattle.spec_exi.specs.Tables.{nameAllowed, textAllowed}
 use Rattle.spec_exi.specs.Grammar.{openElements, isAttribute, attributeName, isNew}
 use Rattle.spec_exi.specs.Context.{Context, start, next}
 use Rattle.spec_exi.specs.Strict.{strict}
@@ -67,17 +68,29 @@ namesAllowed (characters v) = true
 namesAllowed (comment x) = true
 namesAllowed (instruction x y) = nameAllowed target x
 
+-- It is no comment and no instruction whose text row 8 refuses (P6).
+unfoldable pub textsAllowed : Event Text → Bool
+textsAllowed startDocument = true
+textsAllowed endDocument = true
+textsAllowed endElement = true
+textsAllowed (startElement q) = true
+textsAllowed (attribute q v) = true
+textsAllowed (characters v) = true
+textsAllowed (comment x) = textAllowed commentText x
+textsAllowed (instruction x y) = textAllowed instructionText y
+
 -- Only Chars in its strings (scope, "What is bought").
 unfoldable pub charsOnly : Event Text → Bool
 charsOnly e = every allChars (stringsOf e)
 
--- The scope's "well-formed list", over the texts, where equal attributes are allowed (as before
--- P3). (That no stored event is SHAPE by itself and every string lies inside its store is said by
--- `meant`, in Meaning.)
+-- The scope's "well-formed list", over the texts, with P6's names and texts, where equal attributes
+-- are allowed (as before P3). (That no stored event is SHAPE by itself and every string lies inside
+-- its store is said by `meant`, in Meaning.)
 pub record BaseWellFormed (s : Settings) (l : List (Event Text)) : Type 0 where
   pub shape : Document s l
   pub chars : T (every charsOnly l)
   pub names : T (every namesAllowed l)
+  pub texts : T (every textsAllowed l)
 
 -- ---- equal attributes (P3): no two attributes of one start tag have one name
 

@@ -18,9 +18,9 @@ use Rattle.spec_exi.specs.Settings.{Settings, SettingNumbers, meaningful
 use Rattle.spec_exi.specs.Settings.{headerOf}
 use Rattle.spec_exi.specs.Sizes.{Sizes, sizes, cellsPerEvent}
 use Rattle.spec_exi.specs.Tables.{Placed, nameText, eventText, Slot, Tables, Role, uri, local}
-use Rattle.spec_exi.specs.Tables.{value, target, plain, Partitions, compact, literals}
-use Rattle.spec_exi.specs.Tables.{partitionsOf, Form, hit, literal, eqForm, formOf, laid}
-use Rattle.spec_exi.specs.Tables.{tablesAfter, nameAllowed}
+use Rattle.spec_exi.specs.Tables.{value, target, commentText, instructionText, Partitions}
+use Rattle.spec_exi.specs.Tables.{compact, literals, partitionsOf, Form, hit, literal, eqForm}
+use Rattle.spec_exi.specs.Tables.{formOf, laid, tablesAfter, nameAllowed, textAllowed}
 use Rattle.spec_exi.specs.Grammar.{Production, Code, State, isFinished, choices, atLevel}
 use Rattle.spec_exi.specs.Grammar.{below, codeOf, sameCode, tagAllows}
 use Rattle.spec_exi.specs.Context.{Context, start, levelsIn, characterRole, after}
@@ -81,11 +81,13 @@ module _ (z : Sizes) (s : Settings) where
     readEntry t v e
   readForm t (literals ess) = readByLiterals t ess
 
-  -- A string and the tables after it: its form, then LOOSE, NAME, its table's limit (scope,
-  -- "Refusal numbers", "Order").
+  -- A string and the tables after it: its form, CHARACTER for a comment or an instruction's text
+  -- (P6: after their code points), then LOOSE, NAME, its table's limit (scope, "Refusal
+  -- numbers", "Order").
   unfoldable pub readString : Tables → Role → Parser (Placed × Tables)
   readString t r = do
     (f, x) ← readForm t (partitionsOf t r)
+    need (textAllowed r (x .text)) character
     need (eqForm f (formOf (partitionsOf t r) (x .text))) loose
     need (nameAllowed r (x .text)) name
     let t′ = tablesAfter t r f (x .text)
@@ -121,11 +123,11 @@ module _ (z : Sizes) (s : Settings) where
     (v, t₁) ← readString t (characterRole st)
     return (characters v, t₁)
   readContent t st CM n = do
-    (x, t₁) ← readString t plain
+    (x, t₁) ← readString t commentText
     return (comment x, t₁)
   readContent t st PI n = do
     (x, t₁) ← readString t target
-    (y, t₂) ← readString t₁ plain
+    (y, t₂) ← readString t₁ instructionText
     return (instruction x y, t₂)
 
 -- A part that names a production ends the code; else the next level goes on.

@@ -5,6 +5,7 @@ use Rattle.spec_fields.specs.Prelude.{getD, eqb}
 use Rattle.spec_fields.specs.Bits.{Bits, each}
 use Rattle.spec_fields.specs.Field.{Alignment, choiceBits, unsignedBits}
 use Rattle.text.specs.Text.{Text, Span, text, eqText, isEmpty}
+use Rattle.text.specs.Names.{isNCName, isXml, hasPair, endsIn}
 use Rattle.spec_exi.specs.Event.{QName, Event, mapName, mapEvent, eqName}
 use Rattle.spec_exi.specs.Settings.{Settings}
 
@@ -86,7 +87,11 @@ pub data Role : Type 0 where
   value : QName Text → Role
   -- an instruction's target
   target : Role
-  -- a comment, or an instruction's text
+  -- a comment
+  commentText : Role
+  -- an instruction's text
+  instructionText : Role
+  -- characters outside an element, where none stand
   plain : Role
 
 -- The partitions by which a string is written, and how these are optimized (EXI 7.3).
@@ -103,6 +108,8 @@ partitionsOf t uri = compact (map some (t .uris))
 partitionsOf t (local attr u) = literals (map some (namesOf t u) ∷ [])
 partitionsOf t (value q) = literals (valuesOf t q ∷ allValues t ∷ [])
 partitionsOf t target = literals []
+partitionsOf t commentText = literals []
+partitionsOf t instructionText = literals []
 partitionsOf t plain = literals []
 
 -- ---- the form that a string takes
@@ -154,7 +161,13 @@ formBits a (literals ess) literal x = stringBits (length ess) x
 
 -- What a literal adds to the URIs, by its role (EXI 7.3.2).
 unfoldable pub newUri : Role → Placed → List Placed
-newUri r x = elim r [ uri ↦ x ∷ [] | local attr u ↦ [] | value q ↦ [] | target ↦ [] | plain ↦ [] ]
+newUri uri x = x ∷ []
+newUri (local attr u) x = []
+newUri (value q) x = []
+newUri target x = []
+newUri commentText x = []
+newUri instructionText x = []
+newUri plain x = []
 
 -- To the local names, under their URI (EXI 7.3.3).
 unfoldable pub newName : Role → Placed → List (Entry Text)
@@ -162,6 +175,8 @@ newName uri x = []
 newName (local attr u) x = record { key = u; string = x } ∷ []
 newName (value q) x = []
 newName target x = []
+newName commentText x = []
+newName instructionText x = []
 newName plain x = []
 
 -- An empty value joins no table (EXI 7.3.3; scope, "String tables").
@@ -170,8 +185,13 @@ newEntry q x = cond (isEmpty (x .text)) [] (record { key = q; string = x } ∷ [
 
 -- To the values, under the name of their element or attribute (EXI 7.3.3).
 unfoldable pub newValue : Role → Placed → List (Entry (QName Text))
-newValue r x =
-    elim r [ uri ↦ [] | local attr u ↦ [] | value q ↦ newEntry q x | target ↦ [] | plain ↦ [] ]
+newValue uri x = []
+newValue (local attr u) x = []
+newValue (value q) x = newEntry q x
+newValue target x = []
+newValue commentText x = []
+newValue instructionText x = []
+newValue plain x = []
 
 -- A literal lies at the end of the store so far (scope, "Sizes").
 unfoldable pub laid : Tables → Text → Placed
@@ -227,15 +247,29 @@ unfoldable pub startTables : Settings → Tables
 startTables s =
     addedAll (record { uris = []; names = []; values = []; store = [] }) (initialEntries s)
 
--- ---- names that are refused (scope, "Refusal numbers", 11): an empty local name or target;
--- attribute nil or type in the XMLSchema-instance URI
+-- ---- strings that are refused whole (scope, "Refusal numbers", 8 and 11; P6)
 
--- No name that row 11 refuses (scope, "Refusal numbers"); other strings are no names.
+-- No name that row 11 refuses: local names are NCNames, and no attribute is nil or type in the
+-- XMLSchema-instance URI; targets are NCNames, and not `xml` in any case (scope, "Refusal numbers",
+-- 11; P6). Other strings are no names.
 unfoldable pub nameAllowed : Role → Text → Bool
 nameAllowed uri x = true
 nameAllowed (local attr u) x =
-    not (isEmpty x)
+    isNCName x
     && not (attr && eqText u xsiUri && (eqText x (text "nil") || eqText x (text "type")))
 nameAllowed (value q) x = true
-nameAllowed target x = not (isEmpty x)
+nameAllowed target x = isNCName x && not (isXml x)
+nameAllowed commentText x = true
+nameAllowed instructionText x = true
 nameAllowed plain x = true
+
+-- A comment has no two hyphens in a row and does not end in one, and an instruction's text has no
+-- `?>`; else it is CHARACTER, though its code points are Chars (scope, "Refusal numbers", 8; P6).
+unfoldable pub textAllowed : Role → Text → Bool
+textAllowed uri x = true
+textAllowed (local attr u) x = true
+textAllowed (value q) x = true
+textAllowed target x = true
+textAllowed commentText x = not (hasPair 0x2D 0x2D x) && not (endsIn 0x2D x)
+textAllowed instructionText x = not (hasPair 0x3F 0x3E x)
+textAllowed plain x = true

@@ -10,7 +10,7 @@ use Rattle.spec_exi.specs.Event.{Event, mapEvent, stringsOf}
 use Rattle.spec_exi.specs.Settings.{Settings, SettingNumbers, meaningful, settingsOf}
 use Rattle.spec_exi.specs.Settings.{headerOf}
 use Rattle.spec_exi.specs.Sizes.{Sizes, sizes}
-use Rattle.spec_exi.specs.Tables.{Tables, nameAllowed}
+use Rattle.spec_exi.specs.Tables.{Tables, nameAllowed, textAllowed}
 use Rattle.spec_exi.specs.Grammar.{Code, codeOf, tagAllows, isFinished}
 use Rattle.spec_exi.specs.Context.{Context, start, levelsIn, Item, items, afterItem, next}
 use Rattle.spec_exi.specs.Strict.{eventBits}
@@ -39,12 +39,14 @@ placeTests store (x ∷ xs) = (inside store x, place) ∷ placeTests store xs
 
 module _ (z : Sizes) where
   -- One string: the length limit, the store limit (a string that is no literal leaves the store as
-  -- it is), characters, NAME, its table's limit.
+  -- it is), characters, CHARACTER for a comment or an instruction's text (P6), NAME, its
+  -- table's limit.
   unfoldable pub stringTests : Tables → Item → List Test
   stringTests t i =
       (short z (i .text), limit)
       ∷ (leb (length (afterItem t i .store)) (z .store), limit)
       ∷ (allChars (i .text), character)
+      ∷ (textAllowed (i .role) (i .text), character)
       ∷ (nameAllowed (i .role) (i .text), name)
       ∷ (withinTables z (afterItem t i), limit)
       ∷ []

@@ -1,4 +1,5 @@
 -- All worked examples, by topic.
+use Rattle.text.specs.Examples.{NameExamples}
 use Rattle.spec_fields.specs.Examples.{FieldExamples}
 use Rattle.spec_exi.specs.Examples.{Hold, Replied}
 use Rattle.spec_exi.specs.Examples.Scope.{K, KReplies}
@@ -10,6 +11,8 @@ use Rattle.spec_exi.specs.Examples.Bounds.{RefusedUnder, inOrder}
 use Rattle.spec_exi.specs.Examples.Written.{Written, WriteReplied, writes, writeReplies}
 use Rattle.spec_exi.specs.Examples.Written.{WrittenUnder, writesInOrder, atSizes}
 use Rattle.spec_exi.specs.Examples.Attributes.{equalRead, equalWritten}
+use Rattle.spec_exi.specs.Examples.Names.{InitialNames, namesRead, textsRead}
+use Rattle.spec_exi.specs.Examples.Names.{namesWritten}
 use Rattle.spec_exi.specs.Examples.Pieces.{Tell, pieces}
 
 -- Each holds.
@@ -30,4 +33,9 @@ pub record WorkedExamples : Type 0 where
   pub at-sizes : Written atSizes
   pub equal-read : Hold equalRead
   pub equal-written : Written equalWritten
+  pub names : NameExamples
+  pub initial-names : InitialNames
+  pub names-read : Hold namesRead
+  pub texts-read : Hold textsRead
+  pub names-written : Written namesWritten
   pub pieces-told : Tell pieces

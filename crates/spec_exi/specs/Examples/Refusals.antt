@@ -1,9 +1,11 @@
 -- What the reader refuses: the order of its tests, and both sides of what no other module has.
-use Rattle.spec_fields.specs.Prelude.{List, [], _∷_}
+use Rattle.spec_fields.specs.Prelude.{String, List, [], _∷_}
 use Rattle.spec_fields.specs.Refusal.{settings, header, ended, number, character, reference, loose}
-use Rattle.spec_fields.specs.Refusal.{name, limit, tail, refused}
-use Rattle.spec_exi.specs.Examples.{Example, numbers, inBits, inOctets, example, begin, end}
-use Rattle.spec_exi.specs.Examples.{whole}
+use Rattle.spec_fields.specs.Refusal.{name, limit, tail, Answer, refused}
+use Rattle.text.specs.Text.{Text}
+use Rattle.spec_exi.specs.Event.{Event}
+use Rattle.spec_exi.specs.Examples.{Example, numbers, inBits, inOctets, twoLines, example}
+use Rattle.spec_exi.specs.Examples.{begin, chars, end, whole}
 
 -- Where two tests fail, the first is answered (scope, "Refusal numbers", "Order").
 unfoldable pub orders : List Example
@@ -35,7 +37,11 @@ orders =
     ∷ example inOctets "80 01 02 61 02 01 00 01 02 01" (refused ended 3)
     ∷ example inOctets "80 01 02 61 02 01 00 01 02 01 00" (refused loose 3) ∷ []
 
--- Names, characters, and the end of the stream.
+-- These octets come after <a> and the code of characters, byte-aligned.
+unfoldable pub thenCharacters : String → Answer (List (Event Text)) → Example
+thenCharacters x a = twoLines inOctets "80 01 02 61 03" x a
+
+-- Names, characters, and the end of the stream. (More of names is in Names.)
 unfoldable pub refusals : List Example
 refusals =
     -- NAME: an empty local name of an element and of an attribute, an empty target, the attribute
@@ -44,14 +50,15 @@ refusals =
     ∷ example inOctets "80 01 02 61 01 01 01" (refused name 2)
     ∷ example (numbers (1 ∷ 0 ∷ 0 ∷ 1 ∷ [])) "80 01 00" (refused name 1)
     ∷ example inOctets "80 01 02 61 01 03 00 00" (refused name 2)
-    -- Chars: 9, 10, 13; 31 is none; 55295, 55296; 65533, 65534; 1114111, 1114112.
-    ∷ example inOctets "80 01 04 09 0A 0D 00" (whole (begin "\t\n\r" ∷ end ∷ []))
-    ∷ example inOctets "80 01 02 1F" (refused character 1)
-    ∷ example inOctets "80 01 02 FF AF 03 00" (whole (begin "\u{d7ff}" ∷ end ∷ []))
-    ∷ example inOctets "80 01 02 80 B0 03" (refused character 1)
-    ∷ example inOctets "80 01 02 FD FF 03 00" (whole (begin "�" ∷ end ∷ []))
-    ∷ example inOctets "80 01 02 FE FF 03" (refused character 1)
-    ∷ example inOctets "80 01 02 FF FF 43 00" (whole (begin "\u{10ffff}" ∷ end ∷ []))
-    ∷ example inOctets "80 01 02 80 80 44" (refused character 1)
+    -- Chars, as the characters of <a>: 9, 10, 13; 31 is none; 55295, 55296; 65533, 65534; 1114111,
+    -- 1114112.
+    ∷ thenCharacters "05 09 0A 0D 00" (whole (begin "a" ∷ chars "\t\n\r" ∷ end ∷ []))
+    ∷ thenCharacters "03 1F" (refused character 2)
+    ∷ thenCharacters "03 FF AF 03 00" (whole (begin "a" ∷ chars "\u{d7ff}" ∷ end ∷ []))
+    ∷ thenCharacters "03 80 B0 03" (refused character 2)
+    ∷ thenCharacters "03 FD FF 03 00" (whole (begin "a" ∷ chars "�" ∷ end ∷ []))
+    ∷ thenCharacters "03 FE FF 03" (refused character 2)
+    ∷ thenCharacters "03 FF FF 43 00" (whole (begin "a" ∷ chars "\u{10ffff}" ∷ end ∷ []))
+    ∷ thenCharacters "03 80 80 44" (refused character 2)
     -- K2 with a pad bit set: TAIL, at the number of the events.
     ∷ example inBits "80 40 98 41" (refused tail 4) ∷ []
