@@ -2,20 +2,18 @@
 // contracts cite crates/text/specs/Names.antt.
 ghost use mathlib.Core.Path.{_≡_};
 ghost use mathlib.Core.Bool.{_||_};
+ghost use Prim.Native.Nat.{_≤_};
 ghost use lib.Dec.{eqb};
 ghost use Rattle.text.specs.Names.{isNameStart, isNameChar, isNCName, isXml};
 
-// Tells what may stand first in a name (XML 1.0, production 4).
-pub fn is_name_start(p: u32) -> bool
+mod class;
+
+// Tells what may stand first in a name, of what has no class in the table (XML 1.0, production 4).
+fn is_high_start(p: u32) -> bool
+    requires { ⌜ 768 ≤ p ⌝ }
     ensures { λ r. ⌜ r ≡ isNameStart p ⌝ }
 {
     match p {
-        0x41..=0x5A => true,
-        0x5F => true,
-        0x61..=0x7A => true,
-        0xC0..=0xD6 => true,
-        0xD8..=0xF6 => true,
-        0xF8..=0x2FF => true,
         0x370..=0x37D => true,
         0x37F..=0x1FFF => true,
         0x200C..=0x200D => true,
@@ -29,17 +27,27 @@ pub fn is_name_start(p: u32) -> bool
     }
 }
 
+// Tells what may stand first in a name: by the table alone where that has its class (02, P10).
+pub fn is_name_start(p: u32) -> bool
+    ensures { λ r. ⌜ r ≡ isNameStart p ⌝ }
+{
+    if p < class::TABLED {
+        return class::class_of(p) == class::FIRST;
+    }
+    is_high_start(p)
+}
+
 // Tells what may stand in a name (XML 1.0, production 4a).
 pub fn is_name_char(p: u32) -> bool
     ensures { λ r. ⌜ r ≡ isNameChar p ⌝ }
 {
-    if is_name_start(p) {
+    if p < class::TABLED {
+        return class::class_of(p) != class::NONE;
+    }
+    if is_high_start(p) {
         return true;
     }
     match p {
-        0x2D..=0x2E => true,
-        0x30..=0x39 => true,
-        0xB7 => true,
         0x300..=0x36F => true,
         0x203F..=0x2040 => true,
         _ => false,
