@@ -1,0 +1,3 @@
+pub mod Ranges
+pub mod Rest
+pub mod Table
