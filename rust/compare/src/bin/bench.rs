@@ -29,25 +29,30 @@ const ROUNDS: usize = 15;
 /// What the library may take of the ordinary implementation's time.
 #[derive(Clone, Copy)]
 struct Goals {
-    read: f64,
-    write: f64,
+    read: Option<f64>,
+    write: Option<f64>,
     /// The reader's, with the clearing taken off both.
     read_net: Option<f64>,
 }
 
 const GOALS: Goals = Goals {
-    read: 1.0,
-    write: 1.0,
+    read: Some(1.0),
+    write: Some(1.0),
     read_net: None,
 };
 const SMALL: Goals = Goals {
-    read: 0.95,
-    write: 0.9,
+    read: Some(0.95),
+    write: Some(0.9),
     read_net: Some(0.75),
+};
+/// P10 allows the reader 2.0.
+const NAMES: Goals = Goals {
+    write: None,
+    ..GOALS
 };
 /// Where the writer looks much up and writes little.
 const LOOK_UPS: Goals = Goals {
-    write: 1.25,
+    write: Some(1.25),
     ..GOALS
 };
 
@@ -109,6 +114,7 @@ fn rows() -> Vec<Row> {
     };
     let mut rows = Vec::new();
     rows.extend(both!("K7", readings, 10_000, 200, SMALL));
+    rows.extend(both!("K7, many names", other_names, 10_000, 200, NAMES));
     rows.extend(both!("long", long_documents, 20, 1, GOALS));
     rows.extend(both!("512 values", unlike_values, 10, 1, GOALS));
     rows.extend(both!("512 alike", alike_values, 10, 1, GOALS));
@@ -182,25 +188,72 @@ fn digits(rng: &mut Prng, from: usize, to: usize) -> Text {
     (0..length).map(|_| 48 + rng.below(10) as u32).collect()
 }
 
-/// `<r><p t="1"/><p t="1"/></r>` with other names and values.
+/// `<r><p t="1"/><p t="1"/></r>` with these names and this value.
+fn k7(r: &[u32], p: &[u32], t: &[u32], value: Text) -> Vec<Event> {
+    document(vec![
+        start(r),
+        start(p),
+        attribute(t, value.clone()),
+        END,
+        start(p),
+        attribute(t, value),
+        END,
+        END,
+    ])
+}
+
+/// K7 with other names and values.
 fn readings(count: usize) -> Vec<Vec<Event>> {
     let mut rng = Prng::new(7);
     let mut one = || {
         let mut name = |first: u32| [vec![first], letters(&mut rng, 0, 7)].concat();
         let (r, p, t) = (name(114), name(112), name(116));
-        let value = digits(&mut rng, 1, 6);
-        document(vec![
-            start(&r),
-            start(&p),
-            attribute(&t, value.clone()),
-            END,
-            start(&p),
-            attribute(&t, value),
-            END,
-            END,
-        ])
+        k7(&r, &p, &t, digits(&mut rng, 1, 6))
     };
     (0..count).map(|_| one()).collect()
+}
+
+/// A name of up to 12 code points: every tenth has some that are not ASCII.
+fn nth_name(rng: &mut Prng, n: usize) -> Text {
+    let mut name = letters(rng, 1, 12);
+    if n.is_multiple_of(10) {
+        let others = [0xE9, 0x17E, 0x3B1, 0x416, 0x4E2D, 0x1_2000];
+        for _ in 0..rng.between(1, name.len()) {
+            let at = rng.below(name.len());
+            name[at] = *rng.pick(&others);
+        }
+    }
+    name
+}
+
+/// P10: K7 with 1,500 names; values are like names, or of digits.
+fn other_names(count: usize) -> Vec<Vec<Event>> {
+    let mut rng = Prng::new(17);
+    let mut names: Vec<Text> = Vec::new();
+    while names.len() < 1_500 {
+        let name = nth_name(&mut rng, names.len());
+        if !names.contains(&name) {
+            names.push(name);
+        }
+    }
+    let mut one = |k: usize| {
+        let mut unlike = |others: &[&Text]| loop {
+            let name = rng.pick(&names);
+            if !others.contains(&name) {
+                return name;
+            }
+        };
+        let r = unlike(&[]);
+        let p = unlike(&[r]);
+        let t = unlike(&[r, p]);
+        let value = if rng.one_in(2) {
+            nth_name(&mut rng, k)
+        } else {
+            digits(&mut rng, 1, 12)
+        };
+        k7(r, p, t, value)
+    };
+    (0..count).map(&mut one).collect()
 }
 
 /// Records with a time and a reading each.
@@ -421,6 +474,7 @@ fn short_values(count: usize) -> Vec<Vec<Event>> {
     (0..count).map(|_| one()).collect()
 }
 
+#[derive(Clone, PartialEq)]
 struct Memory {
     events: Vec<u32>,
     text: Vec<u32>,
@@ -561,10 +615,11 @@ fn times(case: &Case, way: Way, memory: &mut Memory) -> Times {
     }
 }
 
-/// Both implementations read and write all of the case, with the same result.
+/// Both implementations read and write all of the case, with the same result and the same memory.
 fn check(case: &Case, memory: &mut Memory) {
     let (name, settings) = (case.row.name, case.row.settings);
     for (stream, list) in case.streams.iter().zip(&case.lists) {
+        let mut left = None;
         for codec in [Codec::Library, Codec::Ordinary] {
             let [number, _, count, code_points] = memory.read(codec, settings, stream);
             assert_eq!(number, 0, "{name}");
@@ -574,6 +629,10 @@ fn check(case: &Case, memory: &mut Memory) {
             let [number, _, octets] = memory.write(codec, settings, list);
             assert_eq!(number, 0, "{name}");
             assert_eq!(&memory.octets[..octets as usize], stream, "{name}");
+            match &left {
+                None => left = Some(memory.clone()),
+                Some(left) => assert!(memory == left, "{name}"),
+            }
         }
     }
 }
@@ -620,8 +679,10 @@ fn print(case: &Case, way: Way, times: &Times, score: &mut Score) {
         Way::Read => ("read", goals.read, goals.read_net),
         Way::Write => ("write", goals.write, None),
     };
-    let verdict = score.judge(times.ratio(), goal);
-    let net_verdict = net_goal.map_or("-".to_string(), |goal| score.judge(times.net(), goal));
+    let mut judge =
+        |value, goal: Option<f64>| goal.map_or("-".to_string(), |goal| score.judge(value, goal));
+    let verdict = judge(times.ratio(), goal);
+    let net_verdict = judge(times.net(), net_goal);
     println!(
         "{:<28} {:>5} {:>7} {:>6} {:>9.0} {:>9.0} {:>6.2} {:>10} {:>8.0} {:>6.2} {:>10}",
         case.row.name,
