@@ -22,6 +22,7 @@ use compare::event::{document, element, events, text, Event, Stored, Text, CELLS
 use compare::lent::{Codec, ReaderSizes, Settings, WriterSizes};
 use compare::prng::Prng;
 use compare::sizes::{MAX_STORE, MAX_STREAM, MAX_STRING, MAX_VALUES};
+use ordinary::value_bucket;
 
 const END: Event = Event::EndElement;
 const ROUNDS: usize = 15;
@@ -50,6 +51,12 @@ const NAMES: Goals = Goals {
     write: None,
     ..GOALS
 };
+/// Each by itself; see [`print_crafted`].
+const NO_GOALS: Goals = Goals {
+    read: None,
+    write: None,
+    read_net: None,
+};
 /// Where the writer looks much up and writes little.
 const LOOK_UPS: Goals = Goals {
     write: Some(1.25),
@@ -62,6 +69,11 @@ const GROWTH: f64 = 9.0;
 /// 120 attributes in one start tag may take this many times the time of 120 elements with one each,
 /// net of clearing.
 const ONE_TAG: f64 = 1.2;
+
+/// What the library may take for 2,048 values that all fall into one of its buckets: so many times
+/// what the ordinary code takes for as many in one of its own, and so many milliseconds.
+const CRAFTED: f64 = 1.2;
+const CRAFTED_TIME: f64 = 10.0;
 
 /// What streams are made of: so many lists.
 type Lists = fn(usize) -> Vec<Vec<Event>>;
@@ -104,14 +116,15 @@ macro_rules! both {
 }
 
 fn rows() -> Vec<Row> {
-    let growth = |name, lists| Row {
+    let bytes = |name, lists, streams, goals| Row {
         name,
         lists,
         settings: BYTES,
-        streams: 10,
+        streams,
         slice: 1,
-        goals: GOALS,
+        goals,
     };
+    let growth = |name, lists| bytes(name, lists, 10, GOALS);
     let mut rows = Vec::new();
     rows.extend(both!("K7", readings, 10_000, 200, SMALL));
     rows.extend(both!("K7, many names", other_names, 10_000, 200, NAMES));
@@ -130,6 +143,18 @@ fn rows() -> Vec<Row> {
     rows.push(growth("growth, 4 KB", |count| records(count, 64)));
     rows.push(growth("growth, 8 KB", |count| records(count, 128)));
     rows.push(growth("growth, 16 KB", |count| records(count, 256)));
+    rows.push(bytes(
+        CRAFTED_ROWS[0],
+        |count| crafted(count, library_bucket),
+        4,
+        NO_GOALS,
+    ));
+    rows.push(bytes(
+        CRAFTED_ROWS[1],
+        |count| crafted(count, value_bucket),
+        4,
+        NO_GOALS,
+    ));
     rows
 }
 
@@ -474,6 +499,36 @@ fn short_values(count: usize) -> Vec<Vec<Event>> {
     (0..count).map(|_| one()).collect()
 }
 
+/// Those that all fall into one of the library's buckets, and into one of the ordinary code's.
+const CRAFTED_ROWS: [&str; 2] = ["one bucket, library", "one bucket, ordinary"];
+
+/// The bucket in which the library looks for a value (`mem_entries::hash`, and the buckets of
+/// `mem_layout`).
+fn library_bucket(text: &[u32]) -> usize {
+    let mix = |hash: u32, &c: &u32| hash.wrapping_mul(16_777_619).wrapping_add(c);
+    text.iter().fold(0, mix) as usize % 1_024
+}
+
+/// 2,048 values of four code points that begin alike, all of one bucket. Each is sought along those
+/// before.
+fn crafted(count: usize, bucket: fn(&[u32]) -> usize) -> Vec<Vec<Event>> {
+    let mut rng = Prng::new(18);
+    let digits = |k: u32| [k / 94 / 94 / 94, k / 94 / 94, k / 94, k].map(|digit| 33 + digit % 94);
+    let mut one = || {
+        let wanted = rng.below(1_024);
+        let values = (0..).map(digits).filter(|value| bucket(value) == wanted);
+        let mut inner = vec![element("", "r")];
+        inner.extend(
+            values
+                .take(MAX_VALUES)
+                .map(|value| Event::Characters(value.to_vec())),
+        );
+        inner.push(END);
+        document(inner)
+    };
+    (0..count).map(|_| one()).collect()
+}
+
 #[derive(Clone, PartialEq)]
 struct Memory {
     events: Vec<u32>,
@@ -743,6 +798,27 @@ fn print_one_tag(timed: &[Timed], score: &mut Score) {
     }
 }
 
+/// What values that were crafted for the library's hash cost it, by what others, crafted for the
+/// ordinary code's, cost that.
+fn print_crafted(timed: &[Timed], score: &mut Score) {
+    let [library, ordinary] = CRAFTED_ROWS.map(|name| timed.iter().find(|row| row.name == name));
+    let (Some(library), Some(ordinary)) = (library, ordinary) else {
+        return;
+    };
+    for (k, way) in WAYS.into_iter().enumerate() {
+        let (time, other) = (library.times[k].library, ordinary.times[k].ordinary);
+        let (ratio, milliseconds) = (time / other, time / 1e6);
+        let (by_ratio, by_time) = (
+            score.judge(ratio, CRAFTED),
+            score.judge(milliseconds, CRAFTED_TIME),
+        );
+        println!(
+            "one bucket, {way}: each on values crafted for its own hash, the library takes \
+             {ratio:.2} times the time  {by_ratio}, {milliseconds:.1} ms  {by_time}"
+        );
+    }
+}
+
 fn time_rows(rows: Vec<Row>) {
     let mut memory = Memory::new();
     let mut score = Score::default();
@@ -765,6 +841,7 @@ fn time_rows(rows: Vec<Row>) {
     }
     print_growth(&timed, &mut score);
     print_one_tag(&timed, &mut score);
+    print_crafted(&timed, &mut score);
     println!("{} of {} goals missed", score.missed, score.goals);
 }
 
