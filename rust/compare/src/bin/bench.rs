@@ -22,6 +22,7 @@ use compare::event::{document, element, events, text, Event, Stored, Text, CELLS
 use compare::lent::{Codec, ReaderSizes, Settings, WriterSizes};
 use compare::prng::Prng;
 use compare::sizes::{MAX_STORE, MAX_STREAM, MAX_STRING, MAX_VALUES};
+use ordinary::value_bucket;
 
 const END: Event = Event::EndElement;
 const ROUNDS: usize = 15;
@@ -29,25 +30,36 @@ const ROUNDS: usize = 15;
 /// What the library may take of the ordinary implementation's time.
 #[derive(Clone, Copy)]
 struct Goals {
-    read: f64,
-    write: f64,
+    read: Option<f64>,
+    write: Option<f64>,
     /// The reader's, with the clearing taken off both.
     read_net: Option<f64>,
 }
 
 const GOALS: Goals = Goals {
-    read: 1.0,
-    write: 1.0,
+    read: Some(1.0),
+    write: Some(1.0),
     read_net: None,
 };
 const SMALL: Goals = Goals {
-    read: 0.95,
-    write: 0.9,
+    read: Some(0.95),
+    write: Some(0.9),
     read_net: Some(0.75),
+};
+/// P10 allows the reader 2.0.
+const NAMES: Goals = Goals {
+    write: None,
+    ..GOALS
+};
+/// Each by itself; see [`print_crafted`].
+const NO_GOALS: Goals = Goals {
+    read: None,
+    write: None,
+    read_net: None,
 };
 /// Where the writer looks much up and writes little.
 const LOOK_UPS: Goals = Goals {
-    write: 1.25,
+    write: Some(1.25),
     ..GOALS
 };
 
@@ -57,6 +69,11 @@ const GROWTH: f64 = 9.0;
 /// 120 attributes in one start tag may take this many times the time of 120 elements with one each,
 /// net of clearing.
 const ONE_TAG: f64 = 1.2;
+
+/// What the library may take for 2,048 values that all fall into one of its buckets: so many times
+/// what the ordinary code takes for as many in one of its own, and so many milliseconds.
+const CRAFTED: f64 = 1.2;
+const CRAFTED_TIME: f64 = 10.0;
 
 /// What streams are made of: so many lists.
 type Lists = fn(usize) -> Vec<Vec<Event>>;
@@ -99,16 +116,18 @@ macro_rules! both {
 }
 
 fn rows() -> Vec<Row> {
-    let growth = |name, lists| Row {
+    let bytes = |name, lists, streams, goals| Row {
         name,
         lists,
         settings: BYTES,
-        streams: 10,
+        streams,
         slice: 1,
-        goals: GOALS,
+        goals,
     };
+    let growth = |name, lists| bytes(name, lists, 10, GOALS);
     let mut rows = Vec::new();
     rows.extend(both!("K7", readings, 10_000, 200, SMALL));
+    rows.extend(both!("K7, many names", other_names, 10_000, 200, NAMES));
     rows.extend(both!("long", long_documents, 20, 1, GOALS));
     rows.extend(both!("512 values", unlike_values, 10, 1, GOALS));
     rows.extend(both!("512 alike", alike_values, 10, 1, GOALS));
@@ -124,6 +143,18 @@ fn rows() -> Vec<Row> {
     rows.push(growth("growth, 4 KB", |count| records(count, 64)));
     rows.push(growth("growth, 8 KB", |count| records(count, 128)));
     rows.push(growth("growth, 16 KB", |count| records(count, 256)));
+    rows.push(bytes(
+        CRAFTED_ROWS[0],
+        |count| crafted(count, library_bucket),
+        4,
+        NO_GOALS,
+    ));
+    rows.push(bytes(
+        CRAFTED_ROWS[1],
+        |count| crafted(count, value_bucket),
+        4,
+        NO_GOALS,
+    ));
     rows
 }
 
@@ -182,25 +213,72 @@ fn digits(rng: &mut Prng, from: usize, to: usize) -> Text {
     (0..length).map(|_| 48 + rng.below(10) as u32).collect()
 }
 
-/// `<r><p t="1"/><p t="1"/></r>` with other names and values.
+/// `<r><p t="1"/><p t="1"/></r>` with these names and this value.
+fn k7(r: &[u32], p: &[u32], t: &[u32], value: Text) -> Vec<Event> {
+    document(vec![
+        start(r),
+        start(p),
+        attribute(t, value.clone()),
+        END,
+        start(p),
+        attribute(t, value),
+        END,
+        END,
+    ])
+}
+
+/// K7 with other names and values.
 fn readings(count: usize) -> Vec<Vec<Event>> {
     let mut rng = Prng::new(7);
     let mut one = || {
         let mut name = |first: u32| [vec![first], letters(&mut rng, 0, 7)].concat();
         let (r, p, t) = (name(114), name(112), name(116));
-        let value = digits(&mut rng, 1, 6);
-        document(vec![
-            start(&r),
-            start(&p),
-            attribute(&t, value.clone()),
-            END,
-            start(&p),
-            attribute(&t, value),
-            END,
-            END,
-        ])
+        k7(&r, &p, &t, digits(&mut rng, 1, 6))
     };
     (0..count).map(|_| one()).collect()
+}
+
+/// A name of up to 12 code points: every tenth has some that are not ASCII.
+fn nth_name(rng: &mut Prng, n: usize) -> Text {
+    let mut name = letters(rng, 1, 12);
+    if n.is_multiple_of(10) {
+        let others = [0xE9, 0x17E, 0x3B1, 0x416, 0x4E2D, 0x1_2000];
+        for _ in 0..rng.between(1, name.len()) {
+            let at = rng.below(name.len());
+            name[at] = *rng.pick(&others);
+        }
+    }
+    name
+}
+
+/// P10: K7 with 1,500 names; values are like names, or of digits.
+fn other_names(count: usize) -> Vec<Vec<Event>> {
+    let mut rng = Prng::new(17);
+    let mut names: Vec<Text> = Vec::new();
+    while names.len() < 1_500 {
+        let name = nth_name(&mut rng, names.len());
+        if !names.contains(&name) {
+            names.push(name);
+        }
+    }
+    let mut one = |k: usize| {
+        let mut unlike = |others: &[&Text]| loop {
+            let name = rng.pick(&names);
+            if !others.contains(&name) {
+                return name;
+            }
+        };
+        let r = unlike(&[]);
+        let p = unlike(&[r]);
+        let t = unlike(&[r, p]);
+        let value = if rng.one_in(2) {
+            nth_name(&mut rng, k)
+        } else {
+            digits(&mut rng, 1, 12)
+        };
+        k7(r, p, t, value)
+    };
+    (0..count).map(&mut one).collect()
 }
 
 /// Records with a time and a reading each.
@@ -421,6 +499,37 @@ fn short_values(count: usize) -> Vec<Vec<Event>> {
     (0..count).map(|_| one()).collect()
 }
 
+/// Those that all fall into one of the library's buckets, and into one of the ordinary code's.
+const CRAFTED_ROWS: [&str; 2] = ["one bucket, library", "one bucket, ordinary"];
+
+/// The bucket in which the library looks for a value (`mem_entries::hash`, and the buckets of
+/// `mem_layout`).
+fn library_bucket(text: &[u32]) -> usize {
+    let mix = |hash: u32, &c: &u32| hash.wrapping_mul(16_777_619).wrapping_add(c);
+    text.iter().fold(0, mix) as usize % 1_024
+}
+
+/// 2,048 values of four code points that begin alike, all of one bucket. Each is sought along those
+/// before.
+fn crafted(count: usize, bucket: fn(&[u32]) -> usize) -> Vec<Vec<Event>> {
+    let mut rng = Prng::new(18);
+    let digits = |k: u32| [k / 94 / 94 / 94, k / 94 / 94, k / 94, k].map(|digit| 33 + digit % 94);
+    let mut one = || {
+        let wanted = rng.below(1_024);
+        let values = (0..).map(digits).filter(|value| bucket(value) == wanted);
+        let mut inner = vec![element("", "r")];
+        inner.extend(
+            values
+                .take(MAX_VALUES)
+                .map(|value| Event::Characters(value.to_vec())),
+        );
+        inner.push(END);
+        document(inner)
+    };
+    (0..count).map(|_| one()).collect()
+}
+
+#[derive(Clone, PartialEq)]
 struct Memory {
     events: Vec<u32>,
     text: Vec<u32>,
@@ -561,10 +670,11 @@ fn times(case: &Case, way: Way, memory: &mut Memory) -> Times {
     }
 }
 
-/// Both implementations read and write all of the case, with the same result.
+/// Both implementations read and write all of the case, with the same result and the same memory.
 fn check(case: &Case, memory: &mut Memory) {
     let (name, settings) = (case.row.name, case.row.settings);
     for (stream, list) in case.streams.iter().zip(&case.lists) {
+        let mut left = None;
         for codec in [Codec::Library, Codec::Ordinary] {
             let [number, _, count, code_points] = memory.read(codec, settings, stream);
             assert_eq!(number, 0, "{name}");
@@ -574,6 +684,10 @@ fn check(case: &Case, memory: &mut Memory) {
             let [number, _, octets] = memory.write(codec, settings, list);
             assert_eq!(number, 0, "{name}");
             assert_eq!(&memory.octets[..octets as usize], stream, "{name}");
+            match &left {
+                None => left = Some(memory.clone()),
+                Some(left) => assert!(memory == left, "{name}"),
+            }
         }
     }
 }
@@ -620,8 +734,10 @@ fn print(case: &Case, way: Way, times: &Times, score: &mut Score) {
         Way::Read => ("read", goals.read, goals.read_net),
         Way::Write => ("write", goals.write, None),
     };
-    let verdict = score.judge(times.ratio(), goal);
-    let net_verdict = net_goal.map_or("-".to_string(), |goal| score.judge(times.net(), goal));
+    let mut judge =
+        |value, goal: Option<f64>| goal.map_or("-".to_string(), |goal| score.judge(value, goal));
+    let verdict = judge(times.ratio(), goal);
+    let net_verdict = judge(times.net(), net_goal);
     println!(
         "{:<28} {:>5} {:>7} {:>6} {:>9.0} {:>9.0} {:>6.2} {:>10} {:>8.0} {:>6.2} {:>10}",
         case.row.name,
@@ -682,6 +798,27 @@ fn print_one_tag(timed: &[Timed], score: &mut Score) {
     }
 }
 
+/// What values that were crafted for the library's hash cost it, by what others, crafted for the
+/// ordinary code's, cost that.
+fn print_crafted(timed: &[Timed], score: &mut Score) {
+    let [library, ordinary] = CRAFTED_ROWS.map(|name| timed.iter().find(|row| row.name == name));
+    let (Some(library), Some(ordinary)) = (library, ordinary) else {
+        return;
+    };
+    for (k, way) in WAYS.into_iter().enumerate() {
+        let (time, other) = (library.times[k].library, ordinary.times[k].ordinary);
+        let (ratio, milliseconds) = (time / other, time / 1e6);
+        let (by_ratio, by_time) = (
+            score.judge(ratio, CRAFTED),
+            score.judge(milliseconds, CRAFTED_TIME),
+        );
+        println!(
+            "one bucket, {way}: each on values crafted for its own hash, the library takes \
+             {ratio:.2} times the time  {by_ratio}, {milliseconds:.1} ms  {by_time}"
+        );
+    }
+}
+
 fn time_rows(rows: Vec<Row>) {
     let mut memory = Memory::new();
     let mut score = Score::default();
@@ -704,6 +841,7 @@ fn time_rows(rows: Vec<Row>) {
     }
     print_growth(&timed, &mut score);
     print_one_tag(&timed, &mut score);
+    print_crafted(&timed, &mut score);
     println!("{} of {} goals missed", score.missed, score.goals);
 }
 
