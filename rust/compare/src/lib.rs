@@ -21,6 +21,7 @@ pub mod encode;
 pub mod event;
 pub mod generate;
 pub mod lent;
+pub mod names;
 pub mod prng;
 pub mod protocol;
 pub mod readings;
