@@ -4,7 +4,8 @@
 //! counts. A row's streams are put in slices to the library, to the ordinary implementation and to
 //! a clearing of the same memory, by turns, in many rounds; of each slice the fastest time of each
 //! counts, since that was disturbed least by other programs. A ratio is the library's time by the
-//! ordinary one's; net of clearing, the clearing is taken off both.
+//! ordinary one's; net of clearing, the clearing is taken off both. In the row of one bucket each
+//! of the two has values that were crafted for its own hash.
 //!
 //! `bench WORD..` takes only rows whose names have one of the words. `bench --once ROW WAY WHICH`
 //! puts a few streams of a row once to one of the two, for a counter of instructions; see
@@ -51,10 +52,10 @@ const NAMES: Goals = Goals {
     write: None,
     ..GOALS
 };
-/// Each by itself; see [`print_crafted`].
-const NO_GOALS: Goals = Goals {
-    read: None,
-    write: None,
+/// Where each has values that were crafted for its own hash.
+const CRAFTED: Goals = Goals {
+    read: Some(1.2),
+    write: Some(1.2),
     read_net: None,
 };
 /// Where the writer looks much up and writes little.
@@ -70,10 +71,8 @@ const GROWTH: f64 = 9.0;
 /// net of clearing.
 const ONE_TAG: f64 = 1.2;
 
-/// What the library may take for 2,048 values that all fall into one of its buckets: so many times
-/// what the ordinary code takes for as many in one of its own, and so many milliseconds.
-const CRAFTED: f64 = 1.2;
-const CRAFTED_TIME: f64 = 10.0;
+/// Milliseconds that the library may take for 2,048 values that all fall into one bucket.
+const ONE_BUCKET: f64 = 10.0;
 
 /// What streams are made of: so many lists.
 type Lists = fn(usize) -> Vec<Vec<Event>>;
@@ -81,6 +80,8 @@ type Lists = fn(usize) -> Vec<Vec<Event>>;
 struct Row {
     name: &'static str,
     lists: Lists,
+    /// Others for the ordinary implementation.
+    others: Option<Lists>,
     settings: Settings,
     /// How many streams there are, and how many in a slice.
     streams: usize,
@@ -98,6 +99,7 @@ macro_rules! both {
             Row {
                 name: concat!($name, ", byte-aligned"),
                 lists: $lists,
+                others: None,
                 settings: BYTES,
                 streams: $streams,
                 slice: $slice,
@@ -106,6 +108,7 @@ macro_rules! both {
             Row {
                 name: concat!($name, ", bit-packed"),
                 lists: $lists,
+                others: None,
                 settings: BITS,
                 streams: $streams,
                 slice: $slice,
@@ -116,15 +119,15 @@ macro_rules! both {
 }
 
 fn rows() -> Vec<Row> {
-    let bytes = |name, lists, streams, goals| Row {
+    let growth = |name, lists| Row {
         name,
         lists,
+        others: None,
         settings: BYTES,
-        streams,
+        streams: 10,
         slice: 1,
-        goals,
+        goals: GOALS,
     };
-    let growth = |name, lists| bytes(name, lists, 10, GOALS);
     let mut rows = Vec::new();
     rows.extend(both!("K7", readings, 10_000, 200, SMALL));
     rows.extend(both!("K7, many names", other_names, 10_000, 200, NAMES));
@@ -143,48 +146,72 @@ fn rows() -> Vec<Row> {
     rows.push(growth("growth, 4 KB", |count| records(count, 64)));
     rows.push(growth("growth, 8 KB", |count| records(count, 128)));
     rows.push(growth("growth, 16 KB", |count| records(count, 256)));
-    rows.push(bytes(
-        CRAFTED_ROWS[0],
-        |count| crafted(count, library_bucket),
-        4,
-        NO_GOALS,
-    ));
-    rows.push(bytes(
-        CRAFTED_ROWS[1],
-        |count| crafted(count, value_bucket),
-        4,
-        NO_GOALS,
-    ));
+    rows.push(Row {
+        name: "one bucket, byte-aligned",
+        lists: |count| crafted(count, library_bucket),
+        others: Some(|count| crafted(count, value_bucket)),
+        settings: BYTES,
+        streams: 4,
+        slice: 1,
+        goals: CRAFTED,
+    });
     rows
 }
 
-struct Case {
-    row: Row,
+/// Lists, and their streams.
+struct Inputs {
     streams: Vec<Vec<u8>>,
     lists: Vec<Stored>,
 }
 
-impl Case {
-    fn new(row: Row, streams: usize) -> Case {
-        let lists = (row.lists)(streams);
+impl Inputs {
+    fn new(row: &Row, lists: Vec<Vec<Event>>) -> Inputs {
         let encoded = lists.iter().map(|list| encode(row.settings, list).octets());
         let streams: Vec<Vec<u8>> = encoded.collect();
         let longest = streams.iter().map(Vec::len).max();
         assert!(longest <= Some(MAX_STREAM), "{}: {longest:?}", row.name);
-        Case {
+        Inputs {
             streams,
             lists: lists.iter().map(|list| Stored::plain(list)).collect(),
+        }
+    }
+}
+
+struct Case {
+    row: Row,
+    inputs: Inputs,
+    others: Option<Inputs>,
+}
+
+impl Case {
+    fn new(row: Row, streams: usize) -> Case {
+        let inputs = |lists: Lists| Inputs::new(&row, lists(streams));
+        Case {
+            inputs: inputs(row.lists),
+            others: row.others.map(inputs),
             row,
         }
     }
 
+    /// What is put to an implementation.
+    fn of(&self, codec: Codec) -> &Inputs {
+        match &self.others {
+            Some(others) if codec == Codec::Ordinary => others,
+            _ => &self.inputs,
+        }
+    }
+
+    fn streams(&self) -> usize {
+        self.inputs.streams.len()
+    }
+
     fn events(&self) -> usize {
-        let cells: usize = self.lists.iter().map(|list| list.cells.len()).sum();
+        let cells: usize = self.inputs.lists.iter().map(|list| list.cells.len()).sum();
         cells / CELLS
     }
 
     fn octets(&self) -> usize {
-        self.streams.iter().map(Vec::len).sum()
+        self.inputs.streams.iter().map(Vec::len).sum()
     }
 }
 
@@ -499,9 +526,6 @@ fn short_values(count: usize) -> Vec<Vec<Event>> {
     (0..count).map(|_| one()).collect()
 }
 
-/// Those that all fall into one of the library's buckets, and into one of the ordinary code's.
-const CRAFTED_ROWS: [&str; 2] = ["one bucket, library", "one bucket, ordinary"];
-
 /// The bucket in which the library looks for a value (`mem_entries::hash`, and the buckets of
 /// `mem_layout`).
 fn library_bucket(text: &[u32]) -> usize {
@@ -591,11 +615,12 @@ impl Memory {
     /// Puts the streams or lists of a slice to one implementation.
     fn run(&mut self, case: &Case, way: Way, codec: Codec, slice: Range<usize>) {
         let settings = case.row.settings;
+        let inputs = case.of(codec);
         match way {
-            Way::Read => case.streams[slice].iter().for_each(|stream| {
+            Way::Read => inputs.streams[slice].iter().for_each(|stream| {
                 self.read(codec, settings, stream);
             }),
-            Way::Write => case.lists[slice].iter().for_each(|list| {
+            Way::Write => inputs.lists[slice].iter().for_each(|list| {
                 self.write(codec, settings, list);
             }),
         }
@@ -640,7 +665,7 @@ impl Times {
 
 /// Of each slice the fastest time of each of the three, which go by turns.
 fn times(case: &Case, way: Way, memory: &mut Memory) -> Times {
-    let count = case.streams.len();
+    let count = case.streams();
     let slices: Vec<Range<usize>> = (0..count)
         .step_by(case.row.slice)
         .map(|from| from..count.min(from + case.row.slice))
@@ -673,7 +698,9 @@ fn times(case: &Case, way: Way, memory: &mut Memory) -> Times {
 /// Both implementations read and write all of the case, with the same result and the same memory.
 fn check(case: &Case, memory: &mut Memory) {
     let (name, settings) = (case.row.name, case.row.settings);
-    for (stream, list) in case.streams.iter().zip(&case.lists) {
+    let all = [Some(&case.inputs), case.others.as_ref()];
+    let all = all.into_iter().flatten();
+    for (stream, list) in all.flat_map(|it| it.streams.iter().zip(&it.lists)) {
         let mut left = None;
         for codec in [Codec::Library, Codec::Ordinary] {
             let [number, _, count, code_points] = memory.read(codec, settings, stream);
@@ -742,8 +769,8 @@ fn print(case: &Case, way: Way, times: &Times, score: &mut Score) {
         "{:<28} {:>5} {:>7} {:>6} {:>9.0} {:>9.0} {:>6.2} {:>10} {:>8.0} {:>6.2} {:>10}",
         case.row.name,
         word,
-        case.streams.len(),
-        case.octets() / case.streams.len(),
+        case.streams(),
+        case.octets() / case.streams(),
         times.library,
         times.ordinary,
         times.ratio(),
@@ -798,24 +825,17 @@ fn print_one_tag(timed: &[Timed], score: &mut Score) {
     }
 }
 
-/// What values that were crafted for the library's hash cost it, by what others, crafted for the
-/// ordinary code's, cost that.
-fn print_crafted(timed: &[Timed], score: &mut Score) {
-    let [library, ordinary] = CRAFTED_ROWS.map(|name| timed.iter().find(|row| row.name == name));
-    let (Some(library), Some(ordinary)) = (library, ordinary) else {
-        return;
-    };
-    for (k, way) in WAYS.into_iter().enumerate() {
-        let (time, other) = (library.times[k].library, ordinary.times[k].ordinary);
-        let (ratio, milliseconds) = (time / other, time / 1e6);
-        let (by_ratio, by_time) = (
-            score.judge(ratio, CRAFTED),
-            score.judge(milliseconds, CRAFTED_TIME),
-        );
-        println!(
-            "one bucket, {way}: each on values crafted for its own hash, the library takes \
-             {ratio:.2} times the time  {by_ratio}, {milliseconds:.1} ms  {by_time}"
-        );
+/// What values that all fall into one bucket cost the library.
+fn print_one_bucket(timed: &[Timed], score: &mut Score) {
+    for row in timed
+        .iter()
+        .filter(|row| row.name.starts_with("one bucket"))
+    {
+        for (times, way) in row.times.iter().zip(WAYS) {
+            let milliseconds = times.library / 1e6;
+            let verdict = score.judge(milliseconds, ONE_BUCKET);
+            println!("{}, {way}: {milliseconds:.1} ms  {verdict}", row.name);
+        }
     }
 }
 
@@ -835,13 +855,13 @@ fn time_rows(rows: Vec<Row>) {
         });
         timed.push(Timed {
             name: case.row.name,
-            octets: case.octets() as f64 / case.streams.len() as f64,
+            octets: case.octets() as f64 / case.streams() as f64,
             times: both,
         });
     }
     print_growth(&timed, &mut score);
     print_one_tag(&timed, &mut score);
-    print_crafted(&timed, &mut score);
+    print_one_bucket(&timed, &mut score);
     println!("{} of {} goals missed", score.missed, score.goals);
 }
 
