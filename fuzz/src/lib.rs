@@ -323,6 +323,8 @@ mod tests {
             "w 0 1 1 1 SD,SE:0:0:0:1,AT:4294967295:1:2:3:4:5,BAD2,BAD,CM:300:7,PI:1:1:1:1,EE,ED 61,ffffffff,0",
             "w 1 0 0 0 - -",
             "w 1 0 0 0 SD,SE:0:0:0:1,AT:0:0:0:1:0:1,AT:0:0:0:1:0:0,EE,ED 61",
+            "w 1 0 1 1 SD,CM:0:2,PI:2:3:5:2,SE:0:0:7:2,EE,ED 2d,2d,58,6d,4c,3f,3e,f0000,3a",
+            "r 1 0 1 1 800100022d2d",
             "r 1 0 0 0 800102610101026b03780002",
             "r 2 0 0 0 fragment=1 vmax=0 vcap=4294967294 loose=7 prefixes=300 cap=5 short=work 80",
             "r 1 0 0 0 cap=0 short=events -",
@@ -338,6 +340,34 @@ mod tests {
             let wanted = Request::parse(line).expect(line);
             let octets = input(&wanted).expect(line);
             assert_eq!(request(&octets), Some(wanted));
+        }
+    }
+
+    /// The dictionary has the code points at which names change, in octets as here.
+    #[test]
+    fn words_of_the_dictionary() {
+        let dictionary = include_str!("../names.dict");
+        let words: Vec<&str> = dictionary
+            .lines()
+            .filter(|it| !it.starts_with('#'))
+            .collect();
+        assert!(words
+            .iter()
+            .all(|it| it.len() > 2 && it.starts_with('"') && it.ends_with('"')));
+        for code_point in compare::names::edges() {
+            let mut octets = Vec::new();
+            put(&mut octets, code_point);
+            let word: String = octets
+                .iter()
+                .map(|octet| format!("\\x{octet:02x}"))
+                .collect();
+            assert!(
+                words.contains(&&*format!("\"{word}\"")),
+                "{code_point:X}: {word}"
+            );
+        }
+        for word in ["--", "?>", "xml", "XML", "XmL"] {
+            assert!(words.contains(&&*format!("\"{word}\"")), "{word}");
         }
     }
 

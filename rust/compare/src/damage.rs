@@ -12,6 +12,7 @@ use crate::lent::{
     Settings, CHARACTER, CODE, ENDED, HEADER, LIMIT, LOOSE, NAME, NUMBER, PLACE, REFERENCE, SHAPE,
     TAIL,
 };
+use crate::names;
 use crate::prng::Prng;
 use crate::sizes::MAX_STRING;
 
@@ -97,6 +98,10 @@ pub enum StreamFault {
     StringTooLong,
     EmptyName,
     EmptyTarget,
+    NoName,
+    NoTarget,
+    NoComment,
+    NoInstructionText,
     PadBit,
     Tail,
     Ended,
@@ -121,6 +126,10 @@ impl StreamFault {
             StreamFault::StringTooLong,
             StreamFault::EmptyName,
             StreamFault::EmptyTarget,
+            StreamFault::NoName,
+            StreamFault::NoTarget,
+            StreamFault::NoComment,
+            StreamFault::NoInstructionText,
             StreamFault::PadBit,
             StreamFault::Tail,
             StreamFault::Ended,
@@ -145,6 +154,7 @@ impl StreamFault {
             StreamFault::NoChar,
             StreamFault::StringTooLong,
             StreamFault::EmptyName,
+            StreamFault::NoName,
             StreamFault::Ended,
         ];
         let loose = [
@@ -182,9 +192,10 @@ pub fn faulty_stream(
     equal: Option<usize>,
 ) -> Option<FaultyStream> {
     let within = equal.filter(|_| rng.one_in(2));
-    let (fault, octets, number, index) = match rng.below(6) {
+    let (fault, octets, number, index) = match rng.below(7) {
         0 => loose_stream(rng, strict, events, within)?,
         1 => end_fault(rng, strict, within)?,
+        2 => text_fault(rng, strict, events, within)?,
         _ => field_fault(rng, strict, within)?,
     };
     let is_pair = equal == Some(index);
@@ -235,6 +246,45 @@ fn loose_stream(
     taken.push(at);
     let loose = encode_loosely(strict.settings, events, &taken);
     Some((StreamFault::Loose(form), loose.octets(), LOOSE, index))
+}
+
+/// Another string in place of a name, a target, or the text of a comment or an instruction.
+fn text_fault(
+    rng: &mut Prng,
+    strict: &Encoded,
+    events: &[Event],
+    within: Option<usize>,
+) -> Option<Drawn> {
+    let mut events = events.to_vec();
+    let index = within.unwrap_or_else(|| rng.below(events.len()));
+    let (fault, number) = match &mut events[index] {
+        Event::StartElement { name, .. } | Event::Attribute { name, .. } => {
+            *name = names::no_name(rng);
+            (StreamFault::NoName, NAME)
+        }
+        Event::Comment(text) => {
+            *text = names::no_comment(rng);
+            (StreamFault::NoComment, CHARACTER)
+        }
+        Event::Instruction { target, text } => {
+            let is_target = rng.one_in(2);
+            if !is_target || rng.one_in(2) {
+                *text = names::no_instruction_text(rng);
+            }
+            if is_target {
+                *target = names::no_target(rng);
+                (StreamFault::NoTarget, NAME)
+            } else {
+                (StreamFault::NoInstructionText, CHARACTER)
+            }
+        }
+        _ => return None,
+    };
+    // The event may have other places for loose forms now.
+    let mut taken = strict.taken.clone();
+    taken.retain(|&place| strict.loose[place].1 < index);
+    let stream = encode_loosely(strict.settings, &events, &taken);
+    Some((fault, stream.octets(), number, index))
 }
 
 fn end_fault(rng: &mut Prng, strict: &Encoded, within: Option<usize>) -> Option<Drawn> {
@@ -370,6 +420,16 @@ fn string_fault(rng: &mut Prng, role: Role) -> Option<(StreamFault, Shape, u32)>
     Some((fault, Shape::Unsigned(value), number))
 }
 
+/// A letter, or a Char that a name or a text may not have in some place.
+fn other_code_point(rng: &mut Prng) -> u32 {
+    let marks = [0x2D, 0x2E, 0x30, 0x3A, 0x3E, 0x3F, 0xB7, 0xD7, 0x300, 0x37E];
+    if rng.one_in(2) {
+        97 + rng.below(4) as u32
+    } else {
+        *rng.pick(&marks)
+    }
+}
+
 /// A few changes at random; `other` is another stream to take parts from.
 pub fn damaged_stream(rng: &mut Prng, stream: &[u8], other: &[u8]) -> Vec<u8> {
     let mut octets = stream.to_vec();
@@ -419,7 +479,7 @@ pub fn damaged_fields(rng: &mut Prng, strict: &Encoded) -> Vec<u8> {
                 match &mut damaged.fields[at].shape {
                     Shape::Choice { value, among } => *value = rng.below(*among + 1),
                     Shape::Unsigned(value) if role == Role::CodePoint => {
-                        *value = 97 + rng.below(4) as u32;
+                        *value = other_code_point(rng);
                     }
                     Shape::Unsigned(value) => *value = rng.below(5) as u32,
                     Shape::Octets(_) => {}
@@ -472,13 +532,17 @@ pub enum ListFault {
     NoChar,
     StringTooLong,
     EmptyName,
+    NoName,
+    NoTarget,
+    NoComment,
+    NoInstructionText,
     NilOrType,
     EqualAttribute,
 }
 
 impl ListFault {
     /// Those that an attribute can have beside being equal to another.
-    pub const OF_AN_ATTRIBUTE: [ListFault; 9] = [
+    pub const OF_AN_ATTRIBUTE: [ListFault; 10] = [
         ListFault::NoKind,
         ListFault::UnusedCell,
         ListFault::PartOfAnEvent,
@@ -487,10 +551,11 @@ impl ListFault {
         ListFault::NoChar,
         ListFault::StringTooLong,
         ListFault::EmptyName,
+        ListFault::NoName,
         ListFault::NilOrType,
     ];
 
-    pub const ALL: [ListFault; 17] = [
+    pub const ALL: [ListFault; 21] = [
         ListFault::NoKind,
         ListFault::UnusedCell,
         ListFault::PartOfAnEvent,
@@ -506,6 +571,10 @@ impl ListFault {
         ListFault::NoChar,
         ListFault::StringTooLong,
         ListFault::EmptyName,
+        ListFault::NoName,
+        ListFault::NoTarget,
+        ListFault::NoComment,
+        ListFault::NoInstructionText,
         ListFault::NilOrType,
         ListFault::EqualAttribute,
     ];
@@ -532,14 +601,24 @@ pub fn faulty_list(rng: &mut Prng, list: &Stored, equal: Option<usize>) -> Optio
     let fault = *rng.pick(&ListFault::ALL);
     let count = list.cells.len() / CELLS;
     let within = equal.filter(|_| rng.one_in(2));
-    let at = within.unwrap_or_else(|| rng.below(count));
+    let wanted = match fault {
+        ListFault::NoComment => Some(COMMENT),
+        ListFault::NoTarget | ListFault::NoInstructionText => Some(INSTRUCTION),
+        _ => None,
+    };
+    let at = match (within, wanted) {
+        (Some(at), _) => at,
+        (None, Some(kind)) => list.any_of(rng, kind)?,
+        (None, None) => rng.below(count),
+    };
+    let kind = list.cells[at * CELLS];
     let (number, index) = match fault {
         ListFault::NoKind => {
             list.cells[at * CELLS] = *rng.pick(&[0, 9, 256, 0x103, 0x8000_0003, u32::MAX]);
             (SHAPE, at)
         }
         ListFault::UnusedCell => {
-            let unused: Vec<usize> = unused_cells(list.cells[at * CELLS])?.collect();
+            let unused: Vec<usize> = unused_cells(kind)?.collect();
             let cell = *rng.pick(&unused);
             list.cells[at * CELLS + cell] = *rng.pick(&[1, 2, 1 << 16, 1 << 31, u32::MAX]);
             (SHAPE, at)
@@ -579,7 +658,6 @@ pub fn faulty_list(rng: &mut Prng, list: &Stored, equal: Option<usize>) -> Optio
             (SHAPE, root_ends + 1)
         }
         ListFault::LateAttribute => {
-            let kind = list.cells[at * CELLS];
             if kind == START_ELEMENT || kind == ATTRIBUTE {
                 return None;
             }
@@ -596,7 +674,7 @@ pub fn faulty_list(rng: &mut Prng, list: &Stored, equal: Option<usize>) -> Optio
         // The caller has put it in: see `EqualAttribute`.
         ListFault::EqualAttribute => return None,
         ListFault::OutsideTheStore => {
-            let strings = strings_of(list.cells[at * CELLS])?;
+            let strings = strings_of(kind)?;
             if strings.is_empty() {
                 return None;
             }
@@ -632,7 +710,7 @@ pub fn faulty_list(rng: &mut Prng, list: &Stored, equal: Option<usize>) -> Optio
             (LIMIT, at)
         }
         ListFault::EmptyName => {
-            let name = match list.cells[at * CELLS] {
+            let name = match kind {
                 START_ELEMENT | ATTRIBUTE => 3,
                 INSTRUCTION => 1,
                 _ => return None,
@@ -640,8 +718,31 @@ pub fn faulty_list(rng: &mut Prng, list: &Stored, equal: Option<usize>) -> Optio
             list.cells[at * CELLS + name + 1] = 0;
             (NAME, at)
         }
+        ListFault::NoName if [START_ELEMENT, ATTRIBUTE].contains(&kind) => {
+            list.set_string(at, 3, &names::no_name(rng));
+            (NAME, at)
+        }
+        ListFault::NoTarget if kind == INSTRUCTION => {
+            list.set_string(at, 1, &names::no_target(rng));
+            if rng.one_in(2) {
+                list.set_string(at, 3, &names::no_instruction_text(rng));
+            }
+            (NAME, at)
+        }
+        ListFault::NoComment if kind == COMMENT => {
+            list.set_string(at, 1, &names::no_comment(rng));
+            (CHARACTER, at)
+        }
+        ListFault::NoInstructionText if kind == INSTRUCTION => {
+            list.set_string(at, 3, &names::no_instruction_text(rng));
+            (CHARACTER, at)
+        }
+        ListFault::NoName
+        | ListFault::NoTarget
+        | ListFault::NoComment
+        | ListFault::NoInstructionText => return None,
         ListFault::NilOrType => {
-            if list.cells[at * CELLS] != ATTRIBUTE {
+            if kind != ATTRIBUTE {
                 return None;
             }
             let name = if rng.one_in(2) { "nil" } else { "type" };
@@ -678,6 +779,16 @@ impl Stored {
         self.cells
             .chunks(CELLS)
             .rposition(|event| event[0] == END_ELEMENT)
+    }
+
+    /// The index of an event of this kind.
+    fn any_of(&self, rng: &mut Prng, kind: u32) -> Option<usize> {
+        let kinds = self.cells.iter().step_by(CELLS).enumerate();
+        let all: Vec<usize> = kinds
+            .filter(|(_, it)| **it == kind)
+            .map(|(k, _)| k)
+            .collect();
+        (!all.is_empty()).then(|| *rng.pick(&all))
     }
 
     /// Puts an event before another. Strings that the kind does not have are laid in the cells
@@ -746,10 +857,10 @@ pub fn damaged_list(rng: &mut Prng, list: &Stored) -> Stored {
             }
             5 if !list.store.is_empty() => {
                 let place = rng.below(list.store.len());
-                list.store[place] = if rng.one_in(2) {
-                    97 + rng.below(4) as u32
-                } else {
+                list.store[place] = if rng.one_in(3) {
                     *rng.pick(&NO_CHARS)
+                } else {
+                    other_code_point(rng)
                 };
             }
             6 if !list.store.is_empty() => list.store.truncate(rng.below(list.store.len())),

@@ -3,6 +3,7 @@
 use crate::encode::encode;
 use crate::event::{tag_has, text, Event, Text, XML_URI, XSI_URI};
 use crate::lent::Settings;
+use crate::names;
 use crate::prng::Prng;
 use crate::sizes::{
     MAX_EVENTS, MAX_GRAMMARS, MAX_LEARNED, MAX_NAMES, MAX_OPEN, MAX_STORE, MAX_STREAM, MAX_STRING,
@@ -95,6 +96,8 @@ pub const NO_CHARS: [u32; 14] = [
 struct Pools {
     uris: Vec<Text>,
     names: Vec<Text>,
+    /// Those of the names that may be targets, and others.
+    targets: Vec<Text>,
     values: Vec<Text>,
 }
 
@@ -127,16 +130,26 @@ fn pools(rng: &mut Prng) -> Pools {
             1 => text("type"),
             2 => text("id"),
             3 => text("lang"),
-            _ => random_text(rng, 1, 2),
+            4 => names::xml(rng),
+            _ => names::name(rng, 2),
         });
     }
+    let mut targets = names.clone();
+    targets.retain(|name| !names::is_xml(name));
+    targets.extend([text("xmlx"), text("xml-")]);
     let mut values = Vec::new();
     for _ in 0..rng.between(1, 7) {
-        values.push(random_text(rng, 0, 3));
+        values.push(match rng.below(12) {
+            0 => names::no_name(rng),
+            1 => names::no_comment(rng),
+            2 => names::no_instruction_text(rng),
+            _ => random_text(rng, 0, 3),
+        });
     }
     Pools {
         uris,
         names,
+        targets,
         values,
     }
 }
@@ -236,14 +249,20 @@ fn misc(rng: &mut Prng, settings: Settings, pools: &Pools, all: &mut Vec<Event>)
 }
 
 fn one_misc(rng: &mut Prng, settings: Settings, pools: &Pools, all: &mut Vec<Event>) {
-    let data = rng.pick(&pools.values).clone();
     let comment = settings.comments == 1 && (settings.instructions == 0 || rng.one_in(2));
-    all.push(if comment {
-        Event::Comment(data)
+    let is_plain = rng.one_in(3);
+    all.push(if comment && is_plain {
+        Event::Comment(random_text(rng, 0, 3))
+    } else if comment {
+        Event::Comment(names::comment(rng))
     } else {
         Event::Instruction {
-            target: rng.pick(&pools.names).clone(),
-            text: data,
+            target: rng.pick(&pools.targets).clone(),
+            text: if is_plain {
+                random_text(rng, 0, 3)
+            } else {
+                names::instruction_text(rng)
+            },
         }
     });
 }

@@ -53,6 +53,9 @@ fn answers_in_order() {
         r 1 0 0 0 fragment=0 8001026104\n\
         r 1 0 0 0 800102610101026b03780002\n\
         w 1 0 0 0 SD,SE:0:0:0:1,AT:0:0:0:1:0:1,AT:1:0:0:1:0:0,EE,ED 61\n\
+        r 1 0 0 0 8001056261733a\n\
+        w 1 0 1 1 SD,CM:0:2,SE:0:0:2:1,EE,ED 2d,2d,61\n\
+        w 1 0 1 1 SD,PI:0:3:3:0,SE:0:0:0:1,EE,ED 58,6d,6c\n\
         w 1 0 0 0 SD,SE:0:0,EE,ED 61\n\
         m SD,SE:0:0:0:8,EE,ED 72,65,61,64,69,6e,67,73\n\
         m - -\n\
@@ -88,6 +91,9 @@ fn answers_in_order() {
         "6 2 - -".to_string(),
         "14 3 - -".to_string(),
         "14 3 -".to_string(),
+        "11 1 - -".to_string(),
+        "8 1 -".to_string(),
+        "11 1 -".to_string(),
         "14 1 -".to_string(),
         "0 0 -".to_string(),
         "16 0 -".to_string(),

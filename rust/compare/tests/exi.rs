@@ -86,11 +86,22 @@ fn samples_that_are_refused() {
         b"",
         "10 LOOSE, event 60: ",
     );
+    refused(
+        "check --byte-aligned refused-name.exi",
+        b"",
+        "11 NAME, event 1: ",
+    );
     refused("check refused-tail.exi", b"", "13 TAIL, event 196: ");
     refused("check -", &[0x80; 16_385], "3 LONG, event 0: ");
     // <a k="x" k=""/>
     let equal = b"\x80\x01\x02a\x01\x01\x02k\x03x\x00\x02\x01\x00";
     refused("check --byte-aligned -", equal, "14 SHAPE, event 3: ");
+    // <!-- - -->
+    let hyphen = b"\x80\x01\x03 - ";
+    let hyphen_at_the_end = b"\x80\x01\x02 -";
+    let words = "check --byte-aligned --comments -";
+    refused(words, hyphen, "5 ENDED, event 2: ");
+    refused(words, hyphen_at_the_end, "8 CHARACTER, event 1: ");
 }
 
 /// No number without a meaning can be asked for: there are no flags but those of the first four

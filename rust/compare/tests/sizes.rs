@@ -15,6 +15,7 @@ use compare::lent::{
     ReaderMemory, ReaderSizes, Settings, WriterMemory, WriterSizes, BOTH, CHARACTER, ENDED, HEADER,
     LIMIT, LONG, LOOSE, NAME, ROOM, SETTINGS, SHAPE, TAIL,
 };
+use compare::names::{class, Class};
 use compare::sizes::{
     CELLS_PER_EVENT, MAX_EVENTS, MAX_GRAMMARS, MAX_LEARNED, MAX_NAMES, MAX_OPEN, MAX_STORE,
     MAX_STREAM, MAX_STRING, MAX_URIS, MAX_VALUES,
@@ -166,7 +167,8 @@ fn with_string(string: &[u32]) -> Vec<(&'static str, Vec<Event>)> {
 #[test]
 fn string_lengths() {
     for settings in ALIGNMENTS.map(Settings::keeping) {
-        for code_point in [97, 128, 1_114_111] {
+        // In one, two and three octets.
+        for code_point in [97, 255, 983_039] {
             for (place, list) in with_string(&vec![code_point; MAX_STRING]) {
                 println!("{place}");
                 list_is_accepted(settings, &list);
@@ -298,7 +300,12 @@ fn code_points() {
         for code_point in good {
             for (place, list) in with_string(&[97, code_point]) {
                 println!("{place}: {code_point}");
-                list_is_accepted(settings, &list);
+                let is_name = place.ends_with("name") || place == "target";
+                if is_name && class(code_point) == Class::NoName {
+                    list_is_refused(settings, &list, NAME, 2);
+                } else {
+                    list_is_accepted(settings, &list);
+                }
             }
         }
         for code_point in bad {

@@ -12,20 +12,26 @@ const EDGES: &str = include_str!("../vectors/edges.txt");
 const RANDOM: &str = include_str!("../vectors/random.txt");
 const ROOM: &str = include_str!("../vectors/room.txt");
 const CROSS: &str = include_str!("../vectors/cross.txt");
+const P2_ALL: &str = include_str!("../vectors/p2-all.txt");
 const P2_BASE: &str = include_str!("../vectors/p2-base.txt");
 const P2_EDGES: &str = include_str!("../vectors/p2-edges.txt");
 const P2_RANDOM: &str = include_str!("../vectors/p2-random.txt");
+const P3_ALL: &str = include_str!("../vectors/p3-all.txt");
 const P3_BASE: &str = include_str!("../vectors/p3-base.txt");
 const P3_EDGES: &str = include_str!("../vectors/p3-edges.txt");
 const P3_RANDOM: &str = include_str!("../vectors/p3-random.txt");
+const P6_ALL: &str = include_str!("../vectors/p6-all.txt");
+const P6_BASE: &str = include_str!("../vectors/p6-base.txt");
+const P6_EDGES: &str = include_str!("../vectors/p6-edges.txt");
+const P6_RANDOM: &str = include_str!("../vectors/p6-random.txt");
 const P12_EDGES: &str = include_str!("../vectors/p12-edges.txt");
 const P12_RANDOM: &str = include_str!("../vectors/p12-random.txt");
 
 /// Lines of the base whose answers changed, in the order of landing: the last that has a line holds.
-const CHANGED: [&str; 2] = [P2_BASE, P3_BASE];
+const CHANGED: [&str; 3] = [P2_BASE, P3_BASE, P6_BASE];
 
 /// The requests of document 02 that have landed, by their numbers. Each landing adds its own.
-const LANDED: [u32; 3] = [2, 3, 12];
+const LANDED: [u32; 4] = [2, 3, 6, 12];
 
 /// The lines of a file, each as a request and its answer.
 fn lines(file: &str) -> impl Iterator<Item = (&str, &str)> {
@@ -69,24 +75,39 @@ fn both_sides_of_every_size() {
 #[test]
 fn random_lists_and_streams() {
     let (all, changed) = base(RANDOM);
-    assert_eq!(changed, 78);
+    assert_eq!(changed, 235);
     run(all.into_iter(), 1_500);
 }
 
 /// P2: strings of 4,096 code points and 2,048 values.
 #[test]
 fn longer_strings_and_more_values() {
-    run(lines(P2_BASE), 74);
+    let (all, changed) = base(P2_BASE);
+    assert_eq!(changed, 6);
+    run(all.into_iter(), 74);
     run(lines(P2_EDGES), 109);
     run(lines(P2_RANDOM), 472);
+    run(lines(P2_ALL), 33);
 }
 
 /// P3: equal attributes in one start tag.
 #[test]
 fn equal_attributes() {
-    run(lines(P3_BASE), 32);
+    let (all, changed) = base(P3_BASE);
+    assert_eq!(changed, 12);
+    run(all.into_iter(), 32);
     run(lines(P3_EDGES), 136);
     run(lines(P3_RANDOM), 600);
+    run(lines(P3_ALL), 28);
+}
+
+/// P6: names, targets, and texts of comments and instructions.
+#[test]
+fn names() {
+    run(lines(P6_BASE), 167);
+    run(lines(P6_EDGES), 285);
+    run(lines(P6_RANDOM), 600);
+    run(lines(P6_ALL), 1);
 }
 
 /// P12: readings of lists, and lists of readings.
@@ -155,7 +176,8 @@ const MOST: &str = "18446744073709551615";
 #[test]
 fn requests_are_printed_as_they_stand() {
     let files = [
-        EDGES, RANDOM, ROOM, P2_EDGES, P2_RANDOM, P3_EDGES, P3_RANDOM, P12_EDGES, P12_RANDOM,
+        EDGES, RANDOM, ROOM, P2_EDGES, P2_RANDOM, P2_ALL, P3_EDGES, P3_RANDOM, P3_ALL, P6_EDGES,
+        P6_RANDOM, P6_ALL, P12_EDGES, P12_RANDOM,
     ];
     let all = files.into_iter().flat_map(lines);
     let mut printed = 0;
@@ -169,7 +191,7 @@ fn requests_are_printed_as_they_stand() {
             printed += 1;
         }
     }
-    assert_eq!(printed, 4_543);
+    assert_eq!(printed, 5_490);
 }
 
 /// What a setting asks for that has not landed is SETTINGS before anything else; but ROOM comes

@@ -17,9 +17,14 @@ impl<const COUNT: usize> Buckets<COUNT> {
         }
     }
 
+    /// The bucket of a hash.
+    pub const fn bucket(hash: u32) -> usize {
+        hash as usize % COUNT
+    }
+
     /// Puts an entry into its bucket. It has to keep the link.
     pub const fn add(&mut self, hash: u32, number: usize) -> Link {
-        let bucket = hash as usize % COUNT;
+        let bucket = Self::bucket(hash);
         let older = self.newest[bucket];
         self.newest[bucket] = Link(number as u16 + 1);
         older
@@ -33,7 +38,7 @@ impl<const COUNT: usize> Buckets<COUNT> {
         link: impl Fn(usize) -> Link,
         is_it: impl Fn(usize) -> bool,
     ) -> Option<usize> {
-        let mut at = self.newest[hash as usize % COUNT];
+        let mut at = self.newest[Self::bucket(hash)];
         while at.0 != 0 {
             let number = usize::from(at.0 - 1);
             if is_it(number) {

@@ -1,6 +1,7 @@
 use crate::bits::BitReader;
 use crate::event::Event;
 use crate::grammar::{Grammars, Production, Symbol, Terminal};
+use crate::names::{is_comment, is_instruction_text, is_ncname, is_target};
 use crate::refusal::Refusal;
 use crate::settings::Options;
 use crate::sizes::{CELLS_PER_EVENT, MAX_EVENTS, MAX_STORE, MAX_STREAM, MAX_STRING};
@@ -85,13 +86,22 @@ impl Reader<'_> {
                 let owner = self.grammars.open_element().ok_or(Refusal::Code)?;
                 Event::Characters(self.value(owner)?)
             }
-            Terminal::Comment => Event::Comment(self.string()?),
+            Terminal::Comment => {
+                let text = self.string()?;
+                if !is_comment(text.of(self.text)) {
+                    return Err(Refusal::Character);
+                }
+                Event::Comment(text)
+            }
             Terminal::ProcessingInstruction => {
                 let target = self.string()?;
-                if target.is_empty() {
+                if !is_target(target.of(self.text)) {
                     return Err(Refusal::Name);
                 }
                 let text = self.string()?;
+                if !is_instruction_text(text.of(self.text)) {
+                    return Err(Refusal::Character);
+                }
                 Event::ProcessingInstruction { target, text }
             }
         };
@@ -140,9 +150,10 @@ impl Reader<'_> {
             }
             length => {
                 let text = self.literal(length - 1)?;
-                match self.strings.find_name(self.text, uri, text.of(self.text)) {
+                let name = text.of(self.text);
+                match self.strings.find_name(self.text, uri, name) {
                     Ok(_) => Err(Refusal::Loose),
-                    Err(_) if text.is_empty() => Err(Refusal::Name),
+                    Err(_) if !is_ncname(name) => Err(Refusal::Name),
                     Err(hash) => self.strings.add_name(uri, text, hash),
                 }
             }

@@ -16,13 +16,15 @@ pub enum Refusal {
     Code = 6,
     /// An Unsigned Integer is too large or not in fewest octets.
     Number = 7,
-    /// A code point is no XML 1.0 Char.
+    /// A code point is no XML 1.0 Char, or a comment or the text of an instruction could not stand
+    /// in XML.
     Character = 8,
     /// A compact identifier names no entry.
     Reference = 9,
     /// The strict form has another literal, hit or production here.
     Loose = 10,
-    /// An empty local name or target, or an attribute xsi:nil or xsi:type.
+    /// A local name or target is no NCName, a target is `xml` in any case, or an attribute is
+    /// xsi:nil or xsi:type.
     Name = 11,
     /// A size would be passed.
     Limit = 12,

@@ -88,12 +88,23 @@ pub struct Value {
     next_in_bucket: Link,
 }
 
+type ValueBuckets = Buckets<1_024>;
+
+/// The bucket in which a value is looked for. It is for those who want many in one.
+pub fn value_bucket(text: &[u32]) -> usize {
+    ValueBuckets::bucket(value_hash(text))
+}
+
+fn value_hash(text: &[u32]) -> u32 {
+    hash(0, text)
+}
+
 pub struct StringTable {
     uris: Vec<Uri>,
     names: Vec<Name>,
     names_by_text: Buckets<128>,
     values: Vec<Value>,
-    values_by_text: Buckets<1_024>,
+    values_by_text: ValueBuckets,
 }
 
 impl StringTable {
@@ -104,7 +115,7 @@ impl StringTable {
             names: Vec::with_capacity(16),
             names_by_text: Buckets::new(),
             values: Vec::new(),
-            values_by_text: Buckets::new(),
+            values_by_text: ValueBuckets::new(),
         };
         let mut place = 0;
         let mut next = |length| {
@@ -228,7 +239,7 @@ impl StringTable {
 
     /// The global identifier of a value, or else the hash to hand to [`Self::add_value`].
     pub fn find_value(&self, store: &[u32], text: &[u32]) -> Result<usize, u32> {
-        let hash = hash(0, text);
+        let hash = value_hash(text);
         let found = self.values_by_text.find(
             hash,
             |id| self.values[id].next_in_bucket,

@@ -3,6 +3,7 @@ use crate::sizes::{
 };
 use crate::{read, write, ReadReply, Refusal, Settings, WriteReply};
 
+mod names;
 mod readings;
 
 /// Work memory that is asked for.

@@ -1,6 +1,7 @@
 use crate::bits::BitWriter;
 use crate::event::Event;
 use crate::grammar::{Grammars, Place, Production, Symbol, Terminal};
+use crate::names::{is_comment, is_instruction_text, is_ncname, is_target};
 use crate::refusal::Refusal;
 use crate::settings::Options;
 use crate::sizes::{CELLS_PER_EVENT, MAX_EVENTS, MAX_STORE, MAX_STREAM, MAX_STRING};
@@ -91,16 +92,22 @@ impl<'a> Writer<'a> {
                 let [text] = self.texts([text])?;
                 let production = self.code(symbol, place);
                 self.literal(text, 0)?;
+                if !is_comment(text) {
+                    return Err(Refusal::Character);
+                }
                 production
             }
             Event::ProcessingInstruction { target, text } => {
                 let [target, text] = self.texts([target, text])?;
                 let production = self.code(symbol, place);
                 self.literal(target, 0)?;
-                if target.is_empty() {
+                if !is_target(target) {
                     return Err(Refusal::Name);
                 }
                 self.literal(text, 0)?;
+                if !is_instruction_text(text) {
+                    return Err(Refusal::Character);
+                }
                 production
             }
         };
@@ -181,11 +188,11 @@ impl<'a> Writer<'a> {
                 Ok(name)
             }
             Err(hash) => {
-                let text = self.literal(text, 1)?;
-                if text.is_empty() {
+                let span = self.literal(text, 1)?;
+                if !is_ncname(text) {
                     return Err(Refusal::Name);
                 }
-                self.strings.add_name(uri, text, hash)
+                self.strings.add_name(uri, span, hash)
             }
         }
     }

@@ -13,8 +13,16 @@ const NO_PREFIX: [u32; 2] = [0, 0];
 /// A well-formed list is: start document; comments and instructions; one element, balanced;
 /// comments and instructions; end document; nothing after. Attributes come before any other event
 /// in their element, and no two of one start tag have the same URI and local name. Kinds that the
-/// settings drop are not allowed. The list takes any events in any order; it is the
-/// [`Writer`](crate::Writer) that judges them.
+/// settings drop are not allowed.
+///
+/// Strings have only XML 1.0 Chars. Local names are NCNames of Namespaces in XML 1.0: a letter or
+/// `_` first, then letters, digits, `-`, `.` and `_`, no colon, in any script. Targets are NCNames,
+/// too, but not `xml` in any case. A comment has no two hyphens in a row and none at its end, the
+/// text of an instruction no `?>`. URIs and values are free of this.
+///
+/// The list takes any events with any strings in any order; it is the
+/// [`Writer`](crate::Writer) that judges them, as [`Shape`](crate::Refusal::Shape),
+/// [`Name`](crate::Refusal::Name) or [`Character`](crate::Refusal::Character).
 ///
 /// Two lists are the same when their events are.
 ///
@@ -69,13 +77,14 @@ impl EventList {
         self.add(kind::END_DOCUMENT, &[])
     }
 
-    /// Adds a start element. The URI is empty for a name in no namespace.
+    /// Adds a start element. The URI is empty for a name in no namespace; the name is to be an
+    /// NCName.
     pub fn start_element(&mut self, uri: &str, name: &str) -> &mut Self {
         let strings = [uri, name].map(|string| self.lay_str(string));
         self.add(kind::START_ELEMENT, &strings)
     }
 
-    /// Adds an attribute. The URI is empty for a name in no namespace.
+    /// Adds an attribute. The URI is empty for a name in no namespace; the name is to be an NCName.
     pub fn attribute(&mut self, uri: &str, name: &str, value: &str) -> &mut Self {
         let [uri, name, value] = [uri, name, value].map(|string| self.lay_str(string));
         self.add(kind::ATTRIBUTE, &[uri, name, NO_PREFIX, value])
@@ -92,13 +101,13 @@ impl EventList {
         self.add(kind::CHARACTERS, &strings)
     }
 
-    /// Adds a comment.
+    /// Adds a comment: no two hyphens in a row, none at the end.
     pub fn comment(&mut self, text: &str) -> &mut Self {
         let strings = [self.lay_str(text)];
         self.add(kind::COMMENT, &strings)
     }
 
-    /// Adds a processing instruction.
+    /// Adds a processing instruction: the target an NCName other than `xml`, no `?>` in the text.
     pub fn instruction(&mut self, target: &str, text: &str) -> &mut Self {
         let strings = [target, text].map(|string| self.lay_str(string));
         self.add(kind::INSTRUCTION, &strings)

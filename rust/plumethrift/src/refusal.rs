@@ -22,14 +22,16 @@ pub enum Refusal {
     Code = 6,
     /// An Unsigned Integer is not in fewest octets, over 5 octets, or above 2,147,483,647.
     Number = 7,
-    /// A code point is no XML 1.0 Char.
+    /// A code point is no XML 1.0 Char; a comment has two hyphens in a row or ends in one; the text
+    /// of an instruction has `?>`.
     Character = 8,
     /// A URI, name or value number names no entry.
     Reference = 9,
     /// A literal, hit or production stands where the strict form has another for the same text or
     /// event.
     Loose = 10,
-    /// An empty local name or target, or attribute `nil` or `type` in the XMLSchema-instance URI.
+    /// A local name or target is no NCName (an empty one is none); a target is `xml` in any case;
+    /// an attribute is `nil` or `type` in the XMLSchema-instance URI.
     Name = 11,
     /// A size would be passed: 4,096 events; 100 elements open at once; 16 URIs and 128 local
     /// names, those included that every stream begins with; 2,048 distinct values that are not
@@ -137,13 +139,17 @@ impl Refusal {
             Refusal::Number => {
                 "an Unsigned Integer is not in fewest octets, over 5 octets, or above 2147483647"
             }
-            Refusal::Character => "a code point is no XML 1.0 Char",
+            Refusal::Character => {
+                "a code point is no XML 1.0 Char, or a comment has -- or ends in -, or an \
+                 instruction has ?>"
+            }
             Refusal::Reference => "a URI, name or value number names no entry",
             Refusal::Loose => {
                 "a literal, hit or production stands where the strict form has another"
             }
             Refusal::Name => {
-                "a local name or target is empty, or an attribute is xsi:nil or xsi:type"
+                "a local name or target is no NCName, a target is xml, or an attribute is xsi:nil \
+                 or xsi:type"
             }
             Refusal::Limit => "a size would be passed",
             Refusal::Tail => "a pad bit is 1, or octets follow the end",

@@ -136,20 +136,24 @@ fn what_writing_leaves() {
     }
 }
 
-/// Slices that are only read may be the same. The name is the cell that says where the empty
-/// characters lie, a line feed.
+/// Slices that are only read may be the same. The name is the cell that says where the first of the
+/// empty characters lie, an `A`.
 #[test]
 fn a_list_that_is_its_own_store() {
     let events = [
         1, 0, 0, 0, 0, 0, 0, 0, 0, //
         3, 0, 0, 19, 1, 0, 0, 0, 0, //
-        6, 10, 0, 0, 0, 0, 0, 0, 0, //
+        6, 65, 0, 0, 0, 0, 0, 0, 0, //
+        6, 0, 0, 0, 0, 0, 0, 0, 0, //
+        6, 0, 0, 0, 0, 0, 0, 0, 0, //
+        6, 0, 0, 0, 0, 0, 0, 0, 0, //
         5, 0, 0, 0, 0, 0, 0, 0, 0, //
         2, 0, 0, 0, 0, 0, 0, 0, 0,
     ];
     let (reply, octets, _) = write(byte_aligned(), &events, &events, WRITER);
-    assert_eq!((reply.number, reply.octets), (0, 7));
-    assert_eq!(octets[..7], [0x80, 0x01, 0x02, 0x0A, 0x03, 0x02, 0x00]);
+    let stream = b"\x80\x01\x02A\x03\x02\x01\x01\x02\x00\x02\x00\x02\x01";
+    assert_eq!((reply.number, reply.octets), (0, 14));
+    assert_eq!(octets[..14], stream[..]);
 }
 
 #[test]

@@ -20,6 +20,11 @@ const BYTE_ALIGNED: Settings = Settings {
     alignment: Alignment::ByteAligned,
     ..BIT_PACKED
 };
+const KEEPING: Settings = Settings {
+    comments: true,
+    instructions: true,
+    ..BYTE_ALIGNED
+};
 
 #[track_caller]
 fn not_read(settings: Settings, stream: &[u8], refusal: Refusal, index: u32) {
@@ -238,6 +243,62 @@ fn names_that_are_refused() {
         list.attribute("http://www.w3.org/2001/XMLSchema-instance", "nil", "true");
     });
     not_written(BIT_PACKED, &nil, Refusal::Name, 2);
+
+    for name in ["1", "-a", "a:b", "a b", "\u{B7}", "\u{F0000}"] {
+        let element = inside_a(|list| {
+            list.start_element("", name).end_element();
+        });
+        not_written(BIT_PACKED, &element, Refusal::Name, 2);
+        let attribute = inside_a(|list| {
+            list.attribute("u", name, "x");
+        });
+        not_written(BIT_PACKED, &attribute, Refusal::Name, 2);
+        let target = inside_a(|list| {
+            list.instruction(name, "");
+        });
+        not_written(KEEPING, &target, Refusal::Name, 2);
+    }
+    not_read(BYTE_ALIGNED, b"\x80\x01\x05bas:", Refusal::Name, 1);
+    not_read(BYTE_ALIGNED, b"\x80\x01\x03:\0", Refusal::Character, 1);
+    not_read(KEEPING, b"\x80\x01\x01\x03XmL", Refusal::Name, 1);
+    goes_round(&inside_a(|list| {
+        list.start_element(":", "xml").attribute("1", "xmlns", ":");
+        list.start_element("", "a\u{B7}-1.é").end_element();
+        list.instruction("xmlx", "").end_element();
+    }));
+}
+
+/// What XML would not have in a comment or an instruction.
+#[test]
+fn comments_and_instructions_that_are_refused() {
+    for text in ["-", "a-", "--", "a--b"] {
+        let comment = inside_a(|list| {
+            list.comment(text);
+        });
+        not_written(KEEPING, &comment, Refusal::Character, 2);
+    }
+    for (target, refusal) in [("t", Refusal::Character), ("xml", Refusal::Name)] {
+        let instruction = inside_a(|list| {
+            list.instruction(target, "a?>b");
+        });
+        not_written(KEEPING, &instruction, refusal, 2);
+    }
+    not_read(KEEPING, b"\x80\x01\x00\x02--", Refusal::Character, 1);
+    not_read(KEEPING, b"\x80\x01\x00\x03--", Refusal::Ended, 1);
+    not_read(KEEPING, b"\x80\x01\x01\x01t\x02?>", Refusal::Character, 1);
+    goes_round(&inside_a(|list| {
+        list.comment("- -a?>")
+            .instruction("t", "--?")
+            .characters("--?>");
+    }));
+}
+
+/// The list is written, and read back.
+#[track_caller]
+fn goes_round(list: &EventList) {
+    let (mut reader, mut writer) = (Reader::new(), Writer::new());
+    let stream = writer.write(&KEEPING, list).unwrap();
+    assert_eq!(reader.read(&KEEPING, stream).unwrap(), *list);
 }
 
 /// Both sides of the sizes of strings, code points and open elements.

@@ -4,7 +4,8 @@
 //! counts. A row's streams are put in slices to the library, to the ordinary implementation and to
 //! a clearing of the same memory, by turns, in many rounds; of each slice the fastest time of each
 //! counts, since that was disturbed least by other programs. A ratio is the library's time by the
-//! ordinary one's; net of clearing, the clearing is taken off both.
+//! ordinary one's; net of clearing, the clearing is taken off both. In the row of one bucket each
+//! of the two has values that were crafted for its own hash.
 //!
 //! `bench WORD..` takes only rows whose names have one of the words. `bench --once ROW WAY WHICH`
 //! puts a few streams of a row once to one of the two, for a counter of instructions; see
@@ -22,6 +23,7 @@ use compare::event::{document, element, events, text, Event, Stored, Text, CELLS
 use compare::lent::{Codec, ReaderSizes, Settings, WriterSizes};
 use compare::prng::Prng;
 use compare::sizes::{MAX_STORE, MAX_STREAM, MAX_STRING, MAX_VALUES};
+use ordinary::value_bucket;
 
 const END: Event = Event::EndElement;
 const ROUNDS: usize = 15;
@@ -29,25 +31,36 @@ const ROUNDS: usize = 15;
 /// What the library may take of the ordinary implementation's time.
 #[derive(Clone, Copy)]
 struct Goals {
-    read: f64,
-    write: f64,
+    read: Option<f64>,
+    write: Option<f64>,
     /// The reader's, with the clearing taken off both.
     read_net: Option<f64>,
 }
 
 const GOALS: Goals = Goals {
-    read: 1.0,
-    write: 1.0,
+    read: Some(1.0),
+    write: Some(1.0),
     read_net: None,
 };
 const SMALL: Goals = Goals {
-    read: 0.95,
-    write: 0.9,
+    read: Some(0.95),
+    write: Some(0.9),
     read_net: Some(0.75),
+};
+/// P10 allows the reader 2.0.
+const NAMES: Goals = Goals {
+    write: None,
+    ..GOALS
+};
+/// Where each has values that were crafted for its own hash.
+const CRAFTED: Goals = Goals {
+    read: Some(1.2),
+    write: Some(1.2),
+    read_net: None,
 };
 /// Where the writer looks much up and writes little.
 const LOOK_UPS: Goals = Goals {
-    write: 1.25,
+    write: Some(1.25),
     ..GOALS
 };
 
@@ -58,12 +71,17 @@ const GROWTH: f64 = 9.0;
 /// net of clearing.
 const ONE_TAG: f64 = 1.2;
 
+/// Milliseconds that the library may take for 2,048 values that all fall into one bucket.
+const ONE_BUCKET: f64 = 10.0;
+
 /// What streams are made of: so many lists.
 type Lists = fn(usize) -> Vec<Vec<Event>>;
 
 struct Row {
     name: &'static str,
     lists: Lists,
+    /// Others for the ordinary implementation.
+    others: Option<Lists>,
     settings: Settings,
     /// How many streams there are, and how many in a slice.
     streams: usize,
@@ -81,6 +99,7 @@ macro_rules! both {
             Row {
                 name: concat!($name, ", byte-aligned"),
                 lists: $lists,
+                others: None,
                 settings: BYTES,
                 streams: $streams,
                 slice: $slice,
@@ -89,6 +108,7 @@ macro_rules! both {
             Row {
                 name: concat!($name, ", bit-packed"),
                 lists: $lists,
+                others: None,
                 settings: BITS,
                 streams: $streams,
                 slice: $slice,
@@ -102,6 +122,7 @@ fn rows() -> Vec<Row> {
     let growth = |name, lists| Row {
         name,
         lists,
+        others: None,
         settings: BYTES,
         streams: 10,
         slice: 1,
@@ -109,6 +130,7 @@ fn rows() -> Vec<Row> {
     };
     let mut rows = Vec::new();
     rows.extend(both!("K7", readings, 10_000, 200, SMALL));
+    rows.extend(both!("K7, many names", other_names, 10_000, 200, NAMES));
     rows.extend(both!("long", long_documents, 20, 1, GOALS));
     rows.extend(both!("512 values", unlike_values, 10, 1, GOALS));
     rows.extend(both!("512 alike", alike_values, 10, 1, GOALS));
@@ -124,36 +146,72 @@ fn rows() -> Vec<Row> {
     rows.push(growth("growth, 4 KB", |count| records(count, 64)));
     rows.push(growth("growth, 8 KB", |count| records(count, 128)));
     rows.push(growth("growth, 16 KB", |count| records(count, 256)));
+    rows.push(Row {
+        name: "one bucket, byte-aligned",
+        lists: |count| crafted(count, library_bucket),
+        others: Some(|count| crafted(count, value_bucket)),
+        settings: BYTES,
+        streams: 4,
+        slice: 1,
+        goals: CRAFTED,
+    });
     rows
 }
 
-struct Case {
-    row: Row,
+/// Lists, and their streams.
+struct Inputs {
     streams: Vec<Vec<u8>>,
     lists: Vec<Stored>,
 }
 
-impl Case {
-    fn new(row: Row, streams: usize) -> Case {
-        let lists = (row.lists)(streams);
+impl Inputs {
+    fn new(row: &Row, lists: Vec<Vec<Event>>) -> Inputs {
         let encoded = lists.iter().map(|list| encode(row.settings, list).octets());
         let streams: Vec<Vec<u8>> = encoded.collect();
         let longest = streams.iter().map(Vec::len).max();
         assert!(longest <= Some(MAX_STREAM), "{}: {longest:?}", row.name);
-        Case {
+        Inputs {
             streams,
             lists: lists.iter().map(|list| Stored::plain(list)).collect(),
+        }
+    }
+}
+
+struct Case {
+    row: Row,
+    inputs: Inputs,
+    others: Option<Inputs>,
+}
+
+impl Case {
+    fn new(row: Row, streams: usize) -> Case {
+        let inputs = |lists: Lists| Inputs::new(&row, lists(streams));
+        Case {
+            inputs: inputs(row.lists),
+            others: row.others.map(inputs),
             row,
         }
     }
 
+    /// What is put to an implementation.
+    fn of(&self, codec: Codec) -> &Inputs {
+        match &self.others {
+            Some(others) if codec == Codec::Ordinary => others,
+            _ => &self.inputs,
+        }
+    }
+
+    fn streams(&self) -> usize {
+        self.inputs.streams.len()
+    }
+
     fn events(&self) -> usize {
-        let cells: usize = self.lists.iter().map(|list| list.cells.len()).sum();
+        let cells: usize = self.inputs.lists.iter().map(|list| list.cells.len()).sum();
         cells / CELLS
     }
 
     fn octets(&self) -> usize {
-        self.streams.iter().map(Vec::len).sum()
+        self.inputs.streams.iter().map(Vec::len).sum()
     }
 }
 
@@ -182,25 +240,72 @@ fn digits(rng: &mut Prng, from: usize, to: usize) -> Text {
     (0..length).map(|_| 48 + rng.below(10) as u32).collect()
 }
 
-/// `<r><p t="1"/><p t="1"/></r>` with other names and values.
+/// `<r><p t="1"/><p t="1"/></r>` with these names and this value.
+fn k7(r: &[u32], p: &[u32], t: &[u32], value: Text) -> Vec<Event> {
+    document(vec![
+        start(r),
+        start(p),
+        attribute(t, value.clone()),
+        END,
+        start(p),
+        attribute(t, value),
+        END,
+        END,
+    ])
+}
+
+/// K7 with other names and values.
 fn readings(count: usize) -> Vec<Vec<Event>> {
     let mut rng = Prng::new(7);
     let mut one = || {
         let mut name = |first: u32| [vec![first], letters(&mut rng, 0, 7)].concat();
         let (r, p, t) = (name(114), name(112), name(116));
-        let value = digits(&mut rng, 1, 6);
-        document(vec![
-            start(&r),
-            start(&p),
-            attribute(&t, value.clone()),
-            END,
-            start(&p),
-            attribute(&t, value),
-            END,
-            END,
-        ])
+        k7(&r, &p, &t, digits(&mut rng, 1, 6))
     };
     (0..count).map(|_| one()).collect()
+}
+
+/// A name of up to 12 code points: every tenth has some that are not ASCII.
+fn nth_name(rng: &mut Prng, n: usize) -> Text {
+    let mut name = letters(rng, 1, 12);
+    if n.is_multiple_of(10) {
+        let others = [0xE9, 0x17E, 0x3B1, 0x416, 0x4E2D, 0x1_2000];
+        for _ in 0..rng.between(1, name.len()) {
+            let at = rng.below(name.len());
+            name[at] = *rng.pick(&others);
+        }
+    }
+    name
+}
+
+/// P10: K7 with 1,500 names; values are like names, or of digits.
+fn other_names(count: usize) -> Vec<Vec<Event>> {
+    let mut rng = Prng::new(17);
+    let mut names: Vec<Text> = Vec::new();
+    while names.len() < 1_500 {
+        let name = nth_name(&mut rng, names.len());
+        if !names.contains(&name) {
+            names.push(name);
+        }
+    }
+    let mut one = |k: usize| {
+        let mut unlike = |others: &[&Text]| loop {
+            let name = rng.pick(&names);
+            if !others.contains(&name) {
+                return name;
+            }
+        };
+        let r = unlike(&[]);
+        let p = unlike(&[r]);
+        let t = unlike(&[r, p]);
+        let value = if rng.one_in(2) {
+            nth_name(&mut rng, k)
+        } else {
+            digits(&mut rng, 1, 12)
+        };
+        k7(r, p, t, value)
+    };
+    (0..count).map(&mut one).collect()
 }
 
 /// Records with a time and a reading each.
@@ -421,6 +526,34 @@ fn short_values(count: usize) -> Vec<Vec<Event>> {
     (0..count).map(|_| one()).collect()
 }
 
+/// The bucket in which the library looks for a value (`mem_entries::hash`, and the buckets of
+/// `mem_layout`).
+fn library_bucket(text: &[u32]) -> usize {
+    let mix = |hash: u32, &c: &u32| hash.wrapping_mul(16_777_619).wrapping_add(c);
+    text.iter().fold(0, mix) as usize % 1_024
+}
+
+/// 2,048 values of four code points that begin alike, all of one bucket. Each is sought along those
+/// before.
+fn crafted(count: usize, bucket: fn(&[u32]) -> usize) -> Vec<Vec<Event>> {
+    let mut rng = Prng::new(18);
+    let digits = |k: u32| [k / 94 / 94 / 94, k / 94 / 94, k / 94, k].map(|digit| 33 + digit % 94);
+    let mut one = || {
+        let wanted = rng.below(1_024);
+        let values = (0..).map(digits).filter(|value| bucket(value) == wanted);
+        let mut inner = vec![element("", "r")];
+        inner.extend(
+            values
+                .take(MAX_VALUES)
+                .map(|value| Event::Characters(value.to_vec())),
+        );
+        inner.push(END);
+        document(inner)
+    };
+    (0..count).map(|_| one()).collect()
+}
+
+#[derive(Clone, PartialEq)]
 struct Memory {
     events: Vec<u32>,
     text: Vec<u32>,
@@ -482,11 +615,12 @@ impl Memory {
     /// Puts the streams or lists of a slice to one implementation.
     fn run(&mut self, case: &Case, way: Way, codec: Codec, slice: Range<usize>) {
         let settings = case.row.settings;
+        let inputs = case.of(codec);
         match way {
-            Way::Read => case.streams[slice].iter().for_each(|stream| {
+            Way::Read => inputs.streams[slice].iter().for_each(|stream| {
                 self.read(codec, settings, stream);
             }),
-            Way::Write => case.lists[slice].iter().for_each(|list| {
+            Way::Write => inputs.lists[slice].iter().for_each(|list| {
                 self.write(codec, settings, list);
             }),
         }
@@ -531,7 +665,7 @@ impl Times {
 
 /// Of each slice the fastest time of each of the three, which go by turns.
 fn times(case: &Case, way: Way, memory: &mut Memory) -> Times {
-    let count = case.streams.len();
+    let count = case.streams();
     let slices: Vec<Range<usize>> = (0..count)
         .step_by(case.row.slice)
         .map(|from| from..count.min(from + case.row.slice))
@@ -561,10 +695,13 @@ fn times(case: &Case, way: Way, memory: &mut Memory) -> Times {
     }
 }
 
-/// Both implementations read and write all of the case, with the same result.
+/// Both implementations read and write all of the case, with the same result and the same memory.
 fn check(case: &Case, memory: &mut Memory) {
     let (name, settings) = (case.row.name, case.row.settings);
-    for (stream, list) in case.streams.iter().zip(&case.lists) {
+    let all = [Some(&case.inputs), case.others.as_ref()];
+    let all = all.into_iter().flatten();
+    for (stream, list) in all.flat_map(|it| it.streams.iter().zip(&it.lists)) {
+        let mut left = None;
         for codec in [Codec::Library, Codec::Ordinary] {
             let [number, _, count, code_points] = memory.read(codec, settings, stream);
             assert_eq!(number, 0, "{name}");
@@ -574,6 +711,10 @@ fn check(case: &Case, memory: &mut Memory) {
             let [number, _, octets] = memory.write(codec, settings, list);
             assert_eq!(number, 0, "{name}");
             assert_eq!(&memory.octets[..octets as usize], stream, "{name}");
+            match &left {
+                None => left = Some(memory.clone()),
+                Some(left) => assert!(memory == left, "{name}"),
+            }
         }
     }
 }
@@ -620,14 +761,16 @@ fn print(case: &Case, way: Way, times: &Times, score: &mut Score) {
         Way::Read => ("read", goals.read, goals.read_net),
         Way::Write => ("write", goals.write, None),
     };
-    let verdict = score.judge(times.ratio(), goal);
-    let net_verdict = net_goal.map_or("-".to_string(), |goal| score.judge(times.net(), goal));
+    let mut judge =
+        |value, goal: Option<f64>| goal.map_or("-".to_string(), |goal| score.judge(value, goal));
+    let verdict = judge(times.ratio(), goal);
+    let net_verdict = judge(times.net(), net_goal);
     println!(
         "{:<28} {:>5} {:>7} {:>6} {:>9.0} {:>9.0} {:>6.2} {:>10} {:>8.0} {:>6.2} {:>10}",
         case.row.name,
         word,
-        case.streams.len(),
-        case.octets() / case.streams.len(),
+        case.streams(),
+        case.octets() / case.streams(),
         times.library,
         times.ordinary,
         times.ratio(),
@@ -682,6 +825,20 @@ fn print_one_tag(timed: &[Timed], score: &mut Score) {
     }
 }
 
+/// What values that all fall into one bucket cost the library.
+fn print_one_bucket(timed: &[Timed], score: &mut Score) {
+    for row in timed
+        .iter()
+        .filter(|row| row.name.starts_with("one bucket"))
+    {
+        for (times, way) in row.times.iter().zip(WAYS) {
+            let milliseconds = times.library / 1e6;
+            let verdict = score.judge(milliseconds, ONE_BUCKET);
+            println!("{}, {way}: {milliseconds:.1} ms  {verdict}", row.name);
+        }
+    }
+}
+
 fn time_rows(rows: Vec<Row>) {
     let mut memory = Memory::new();
     let mut score = Score::default();
@@ -698,12 +855,13 @@ fn time_rows(rows: Vec<Row>) {
         });
         timed.push(Timed {
             name: case.row.name,
-            octets: case.octets() as f64 / case.streams.len() as f64,
+            octets: case.octets() as f64 / case.streams() as f64,
             times: both,
         });
     }
     print_growth(&timed, &mut score);
     print_one_tag(&timed, &mut score);
+    print_one_bucket(&timed, &mut score);
     println!("{} of {} goals missed", score.missed, score.goals);
 }
 
