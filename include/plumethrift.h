@@ -143,7 +143,7 @@ enum plumethrift_refusal {
   PLUMETHRIFT_ENDED = 5,     /* the input ends inside the header or a field */
   PLUMETHRIFT_CODE = 6,      /* an event code part names no production */
   PLUMETHRIFT_NUMBER = 7,    /* an Unsigned Integer not in fewest octets, over 5, or over 2^31-1 */
-  PLUMETHRIFT_CHARACTER = 8, /* no XML 1.0 Char; a comment with -- or - at its end; ?> in a text */
+  PLUMETHRIFT_CHARACTER = 8, /* no XML 1.0 Char; comment with -- or ending in -; instruction with ?> */
   PLUMETHRIFT_REFERENCE = 9, /* a URI, name or value number names no entry */
   PLUMETHRIFT_LOOSE = 10,    /* a literal, hit or production where the strict form has another */
   PLUMETHRIFT_NAME = 11,     /* no NCName; target xml; attribute nil or type of XMLSchema-instance */
@@ -204,8 +204,9 @@ plumethrift_read_reply plumethrift_read(plumethrift_settings settings,
  * drop are not allowed.
  *
  * Its strings have only XML 1.0 Chars. Local names are NCNames of Namespaces in XML 1.0, and so are
- * targets, but not xml in any case: else NAME. A comment has no two hyphens in a row and none at
- * its end, the text of an instruction no ?>: else CHARACTER. URIs and values are free of this.
+ * targets, but not xml in any case; no attribute is nil or type of XMLSchema-instance: else NAME. A
+ * comment has no two hyphens in a row and none at its end, the text of an instruction no ?>: else
+ * CHARACTER. URIs and values are free of this.
  */
 plumethrift_write_reply plumethrift_write(plumethrift_settings settings,
                                           uint8_t *stream, size_t stream_octets,

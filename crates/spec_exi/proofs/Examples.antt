@@ -27,7 +27,7 @@ use Rattle.spec_exi.specs.Examples.Attributes.{thenOctets, equalRead, th
 use Rattle.spec_exi.specs.Examples.Attributes.{equalWritten}
 use Rattle.spec_exi.specs.Examples.Names.{InitialNames, afterComment, afterInstruction}
 use Rattle.spec_exi.specs.Examples.Names.{before, namesRead, textsRead, element, keeping}
-use Rattle.spec_exi.specs.Examples.Names.{namesWritten}
+use Rattle.spec_exi.specs.Examples.Names.{namesWritten, namesInOrder}
 use Rattle.spec_exi.specs.Examples.Pieces.{Tell, pieces}
 use Rattle.spec_exi.specs.Examples.All.{WorkedExamples}
 use Rattle.spec_exi.proofs.Definitions.{definitions}
@@ -144,6 +144,10 @@ names-written : Written namesWritten
 unfolding definitions at inUri named writtenFor listed element keeping namesWritten
 names-written = record { answers = refl }
 
+names-in-order : WrittenUnder namesInOrder
+unfolding definitions sizesAs only at keeping namesInOrder
+names-in-order = record { answers = refl }
+
 pieces-told : Tell pieces
 unfolding definitions pieces
 pieces-told = record { replies = refl }
@@ -173,5 +177,6 @@ worked-examples =
       names-read = names-read;
       texts-read = texts-read;
       names-written = names-written;
+      names-in-order = names-in-order;
       pieces-told = pieces-told;
     }

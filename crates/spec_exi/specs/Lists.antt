@@ -57,7 +57,7 @@ pub data Document (s : Settings) : List (Event Text) → Type 0 where
       (startDocument ∷ (before ++ startElement q ∷ (inner ++ endElement
       ∷ (behind ++ endDocument ∷ []))))
 
--- The event has no name that row 11 refuses (scope, "Refusal numbers").
+-- The event has no name that row 11 refuses (scope, "Refusal numbers"; P6).
 unfoldable pub namesAllowed : Event Text → Bool
 namesAllowed startDocument = true
 namesAllowed endDocument = true

@@ -1,5 +1,5 @@
 -- Names (02, P6): NCName of Namespaces in XML 1.0, that is Name of XML 1.0, Fifth Edition, without
--- the colon; and the pairs of code points that end a comment or an instruction.
+-- the colon; and what may not stand in a comment or an instruction's text.
 use Prim.Native.Nat.{ℕ, _+_}
 use mathlib.Core.Bool.{Bool, true, false, _&&_, _||_}
 use mathlib.Core.List.{List, [], _∷_}

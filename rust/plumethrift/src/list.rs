@@ -15,10 +15,11 @@ const NO_PREFIX: [u32; 2] = [0, 0];
 /// in their element, and no two of one start tag have the same URI and local name. Kinds that the
 /// settings drop are not allowed.
 ///
-/// Strings have only XML 1.0 Chars. Local names are NCNames of Namespaces in XML 1.0: a letter or
-/// `_` first, then letters, digits, `-`, `.` and `_`, no colon, in any script. Targets are NCNames,
-/// too, but not `xml` in any case. A comment has no two hyphens in a row and none at its end, the
-/// text of an instruction no `?>`. URIs and values are free of this.
+/// Strings have only XML 1.0 Chars. Local names are NCNames of Namespaces in XML 1.0: no colon; of
+/// ASCII a letter or `_` first, then also digits, `-` and `.`; beyond ASCII most code points that are
+/// letters or marks of some script. No attribute is `nil` or `type` in the XMLSchema-instance URI.
+/// Targets are NCNames, too, but not `xml` in any case. A comment has no two hyphens in a row and
+/// none at its end, the text of an instruction no `?>`. URIs and values are free of this.
 ///
 /// The list takes any events with any strings in any order; it is the
 /// [`Writer`](crate::Writer) that judges them, as [`Shape`](crate::Refusal::Shape),
@@ -107,7 +108,8 @@ impl EventList {
         self.add(kind::COMMENT, &strings)
     }
 
-    /// Adds a processing instruction: the target an NCName other than `xml`, no `?>` in the text.
+    /// Adds a processing instruction: the target an NCName other than `xml` in any case,
+    /// no `?>` in the text.
     pub fn instruction(&mut self, target: &str, text: &str) -> &mut Self {
         let strings = [target, text].map(|string| self.lay_str(string));
         self.add(kind::INSTRUCTION, &strings)

@@ -12,7 +12,7 @@ use Rattle.spec_exi.specs.Examples.Written.{Written, WriteReplied, write
 use Rattle.spec_exi.specs.Examples.Written.{WrittenUnder, writesInOrder, atSizes}
 use Rattle.spec_exi.specs.Examples.Attributes.{equalRead, equalWritten}
 use Rattle.spec_exi.specs.Examples.Names.{InitialNames, namesRead, textsRead}
-use Rattle.spec_exi.specs.Examples.Names.{namesWritten}
+use Rattle.spec_exi.specs.Examples.Names.{namesWritten, namesInOrder}
 use Rattle.spec_exi.specs.Examples.Pieces.{Tell, pieces}
 
 -- Each holds.
@@ -38,4 +38,5 @@ pub record WorkedExamples : Type 0 where
   pub names-read : Hold namesRead
   pub texts-read : Hold textsRead
   pub names-written : Written namesWritten
+  pub names-in-order : WrittenUnder namesInOrder
   pub pieces-told : Tell pieces

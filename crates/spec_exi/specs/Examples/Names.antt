@@ -7,11 +7,13 @@ use Rattle.text.specs.Text.{Span, Text, text}
 use Rattle.spec_exi.specs.Event.{Event, startDocument, startElement, attribute, comment}
 use Rattle.spec_exi.specs.Event.{instruction}
 use Rattle.spec_exi.specs.Settings.{Settings}
+use Rattle.spec_exi.specs.Sizes.{Sizes}
 use Rattle.spec_exi.specs.Tables.{nameAllowed, initialEntries}
 use Rattle.spec_exi.specs.Lists.{every}
 use Rattle.spec_exi.specs.Examples.{Example, numbers, inOctets, example, twoLines, begin}
-use Rattle.spec_exi.specs.Examples.{attr, remark, instruct, end, whole}
+use Rattle.spec_exi.specs.Examples.{beginIn, attr, chars, remark, instruct, end, whole}
 use Rattle.spec_exi.specs.Examples.Places.{at, named}
+use Rattle.spec_exi.specs.Examples.Bounds.{only}
 use Rattle.spec_exi.specs.Examples.Written.{WriteExample, listed}
 
 -- No initial entry is refused (EXI D.1, D.3), so that a hit can only be NAME as an attribute's: nil
@@ -51,7 +53,12 @@ namesRead =
     ∷ example inOctets "80 01 04 78 6D 6C 00" (whole (begin "xml" ∷ end ∷ []))
     ∷ example inOctets "80 01 02 61 01 01 06 78 6D 6C 6E 73 03 78 01 00"
     (whole (begin "a" ∷ attr "xmlns" "x" ∷ end ∷ []))
-    ∷ example inOctets "80 01 02 61 01 01 02 3A" (refused name 2) ∷ []
+    ∷ example inOctets "80 01 02 61 01 01 02 3A" (refused name 2)
+    -- Hyphens end a name, a URI, characters; and ?> does: <a-->, {-}a, <a>--</a>, <a>?></a>.
+    ∷ example inOctets "80 01 04 61 2D 2D 00" (whole (begin "a--" ∷ end ∷ []))
+    ∷ example inOctets "80 00 01 2D 02 61 00" (whole (beginIn "-" "a" ∷ end ∷ []))
+    ∷ example inOctets "80 01 02 61 03 04 2D 2D 00" (whole (begin "a" ∷ chars "--" ∷ end ∷ []))
+    ∷ example inOctets "80 01 02 61 03 04 3F 3E 00" (whole (begin "a" ∷ chars "?>" ∷ end ∷ [])) ∷ []
 
 -- Comments, targets and instructions' texts.
 unfoldable pub textsRead : List Example
@@ -129,3 +136,7 @@ namesWritten =
     ∷ keeping (instruction (at 0 1) (at 1 2)) (text "t?>") character 1
     ∷ keeping (instruction (at 0 1) (at 1 1)) (text "t?") shape 2
     ∷ keeping (instruction (at 0 1) (at 1 2)) (text "t--") shape 2 ∷ []
+
+-- Under small sizes: the store's limit, before CHARACTER for a hyphen.
+unfoldable pub namesInOrder : List (Sizes × WriteExample)
+namesInOrder = (only 9 99, keeping (comment (at 0 1)) (text "-") limit 1) ∷ []

@@ -86,7 +86,8 @@ writeReplies =
 
 -- A list under these sizes, and the answer for each.
 pub record WrittenUnder (xs : List (Sizes × WriteExample)) : Type 0 where
-  pub answers : map (λ x. writeList (x .0) (settingsOf inOctets) (x .1 .events) (x .1 .store)) xs
+  pub answers : map
+      (λ x. writeList (x .0) (settingsOf (x .1 .numbers)) (x .1 .events) (x .1 .store)) xs
       ≡ map (λ x. x .1 .answer) xs
 
 -- The scope's order ("Refusal numbers").
