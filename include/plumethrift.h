@@ -143,7 +143,7 @@ enum plumethrift_refusal {
   PLUMETHRIFT_ENDED = 5,     /* the input ends inside the header or a field */
   PLUMETHRIFT_CODE = 6,      /* an event code part names no production */
   PLUMETHRIFT_NUMBER = 7,    /* an Unsigned Integer not in fewest octets, over 5, or over 2^31-1 */
-  PLUMETHRIFT_CHARACTER = 8, /* no XML 1.0 Char; comment with -- or ending in -; instruction with ?> */
+  PLUMETHRIFT_CHARACTER = 8, /* no XML Char; comment with -- or a last -; instruction with ?> */
   PLUMETHRIFT_REFERENCE = 9, /* a URI, name or value number names no entry */
   PLUMETHRIFT_LOOSE = 10,    /* a literal, hit or production where the strict form has another */
   PLUMETHRIFT_NAME = 11,     /* no NCName; target xml; attribute nil or type of XMLSchema-instance */

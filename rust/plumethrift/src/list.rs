@@ -16,8 +16,8 @@ const NO_PREFIX: [u32; 2] = [0, 0];
 /// settings drop are not allowed.
 ///
 /// Strings have only XML 1.0 Chars. Local names are NCNames of Namespaces in XML 1.0: no colon; of
-/// ASCII a letter or `_` first, then also digits, `-` and `.`; beyond ASCII most code points that are
-/// letters or marks of some script. No attribute is `nil` or `type` in the XMLSchema-instance URI.
+/// ASCII a letter or `_` first, then also digits, `-` and `.`; beyond ASCII most letters and marks
+/// of any script. No attribute is `nil` or `type` in the XMLSchema-instance URI.
 /// Targets are NCNames, too, but not `xml` in any case. A comment has no two hyphens in a row and
 /// none at its end, the text of an instruction no `?>`. URIs and values are free of this.
 ///
