@@ -146,7 +146,7 @@ enum plumethrift_refusal {
   PLUMETHRIFT_CHARACTER = 8, /* no XML Char; comment with -- or a last -; instruction with ?> */
   PLUMETHRIFT_REFERENCE = 9, /* a URI, name or value number names no entry */
   PLUMETHRIFT_LOOSE = 10,    /* a literal, hit or production where the strict form has another */
-  PLUMETHRIFT_NAME = 11,     /* no NCName; target xml; attribute nil or type of XMLSchema-instance */
+  PLUMETHRIFT_NAME = 11,     /* no NCName; target xml; nil or type of XMLSchema-instance */
   PLUMETHRIFT_LIMIT = 12,    /* one of the sizes above would be passed */
   PLUMETHRIFT_TAIL = 13,     /* a pad bit is 1, or octets follow the end */
   PLUMETHRIFT_SHAPE = 14,    /* two equal attributes in a start tag; writer: no well-formed list */
