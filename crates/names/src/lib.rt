@@ -1,6 +1,11 @@
-// Which names are refused: an empty local name or target; attribute nil or type in the XMLSchema-instance URI.
+// Which names are refused: what is no NCName; a target `xml`; attribute nil or type in the
+// XMLSchema-instance URI. Which comments and instructions' texts are refused (02, P6).
 ghost use mathlib.Core.Path.{_≡_};
-ghost use Rattle.spec_exi.specs.Tables.{nameAllowed, local, target};
+ghost use mathlib.Core.Bool.{_&&_};
+ghost use lib.Dec.{eqb};
+ghost use Rattle.text.specs.Names.{hasPair, endsIn};
+ghost use Rattle.spec_exi.specs.Tables.{nameAllowed, textAllowed, local, target};
+ghost use Rattle.spec_exi.specs.Tables.{commentText, instructionText};
 ghost use Rattle.names.specs.Names.{isReserved};
 
 // "http://www.w3.org/2001/XMLSchema-instance"
@@ -54,26 +59,7 @@ const NIL: [u32; 3] = [110, 105, 108];
 // "type"
 const TYPE: [u32; 4] = [116, 121, 112, 101];
 
-// Whether a local name is allowed: an attribute's where attr, an element's otherwise. The strings may be parts that start anywhere in a store.
-pub fn local_allowed(attr: bool, uri: &[u32], name: &[u32]) -> bool
-    ensures { λ r. ⌜ r ≡ nameAllowed (local attr (now (uri .entry))) (now (name .entry)) ⌝ }
-{
-    if name.len() == 0 {
-        return false;
-    }
-    if !attr {
-        return true;
-    }
-    if !text::same_text(uri, &INSTANCE) {
-        return true;
-    }
-    if text::same_text(name, &NIL) {
-        return false;
-    }
-    !text::same_text(name, &TYPE)
-}
-
-// Whether no attribute may have this name; that it is not empty is known.
+// Tells a name that no attribute may have; that it is an NCName is known.
 pub fn is_reserved(uri: &[u32], local: &[u32]) -> bool
     ensures { λ r. ⌜ r ≡ isReserved (now (uri .entry)) (now (local .entry)) ⌝ }
 {
@@ -86,8 +72,73 @@ pub fn is_reserved(uri: &[u32], local: &[u32]) -> bool
     false
 }
 
+// Tells whether a local name is allowed: an attribute's where attr, an element's otherwise. The
+// strings may be parts that start anywhere in a store.
+pub fn local_allowed(attr: bool, uri: &[u32], name: &[u32]) -> bool
+    ensures { λ r. ⌜ r ≡ nameAllowed (local attr (now (uri .entry))) (now (name .entry)) ⌝ }
+{
+    if !name_chars::is_ncname(name) {
+        return false;
+    }
+    if !attr {
+        return true;
+    }
+    !is_reserved(uri, name)
+}
+
 pub fn target_allowed(name: &[u32]) -> bool
     ensures { λ r. ⌜ r ≡ nameAllowed target (now (name .entry)) ⌝ }
 {
-    name.len() != 0
+    if !name_chars::is_ncname(name) {
+        return false;
+    }
+    !name_chars::is_xml(name)
+}
+
+fn is_pair(p: u32, q: u32, a: u32, b: u32) -> bool
+    ensures { λ r. ⌜ r ≡ (eqb p a && eqb q b) ⌝ }
+{
+    if p != a {
+        return false;
+    }
+    q == b
+}
+
+fn has_pair(x: &[u32], a: u32, b: u32) -> bool
+    ensures { λ r. ⌜ r ≡ hasPair a b (now (x .entry)) ⌝ }
+{
+    let mut i = 0;
+    while i + 1 < x.len() {
+        if is_pair(x[i], x[i + 1], a, b) {
+            return true;
+        }
+        i += 1;
+    }
+    false
+}
+
+fn ends_in(x: &[u32], a: u32) -> bool
+    ensures { λ r. ⌜ r ≡ endsIn a (now (x .entry)) ⌝ }
+{
+    if x.len() == 0 {
+        return false;
+    }
+    x[x.len() - 1] == a
+}
+
+// Refuses two hyphens in a row, and one at the end (XML 1.0, production 15).
+pub fn comment_allowed(x: &[u32]) -> bool
+    ensures { λ r. ⌜ r ≡ textAllowed commentText (now (x .entry)) ⌝ }
+{
+    if has_pair(x, 0x2D, 0x2D) {
+        return false;
+    }
+    !ends_in(x, 0x2D)
+}
+
+// Refuses `?>` (XML 1.0, production 16).
+pub fn instruction_allowed(x: &[u32]) -> bool
+    ensures { λ r. ⌜ r ≡ textAllowed instructionText (now (x .entry)) ⌝ }
+{
+    !has_pair(x, 0x3F, 0x3E)
 }

@@ -1,60 +1,34 @@
 -- `local_allowed` meets its contract: each return is one law.
-use denote.Ref.{now}
-use Rattle.names.proofs.Laws.{an-empty-name, an-element, another-uri, named-nil, another-name}
-use Rattle.text.specs.Text.{text}
-use Rattle.spec_exi.specs.Tables.{xsiUri}
+use Rattle.names.proofs.Laws.{no-local, an-element, an-attribute}
+use borrow.Author.Tests.{not-true, not-false}
+use mathlib.Core.Bool.{not}
+use mathlib.Core.Path.{sym, ap, _∙_}
 use borrow.Author.Needs.{needs}
 use Rattle.names.proofs.local_allowed.Statement.{statement}
 use Rattle.names.proofs.local_allowed.Tie as tie
 
+is-ncname-requires : tie.Need-is-ncname-requires
+is-ncname-requires c κs = search needs
+
 returns : tie.Need-returns
-returns c = an-empty-name (c .before .before .before .args .attr) (now (c .before .before .before .args .uri)) (now (c .before .before .before .args .name)) (c .if1 .taken)
+returns c = no-local _ _ _ (sym (c .before .is-ncname .ensures) ∙ not-true _ (c .if1 .taken))
 
 returns-2 : tie.Need-returns-2
-returns-2 c = an-element (c .before .before .before .before .args .attr) (now (c .before .before .before .before .args .uri)) (now (c .before .before .before .before .args .name)) (c .before .if1 .left) (c .if2 .taken)
+returns-2 c =
+    let name = sym (c .before .before .is-ncname .ensures) ∙ not-false _ (c .before .if1 .left) in
+    an-element _ _ _ name (not-true _ (c .if2 .taken))
 
-slice-aggregate-same-text : tie.Need-slice-aggregate-same-text
-slice-aggregate-same-text c = search needs
-
-same-text-requires : tie.Need-same-text-requires
-same-text-requires c κs = search needs
+is-reserved-requires : tie.Need-is-reserved-requires
+is-reserved-requires c κs = search needs
 
 returns-3 : tie.Need-returns-3
-unfolding xsiUri text
-returns-3 c = another-uri (c .before .before .before .before .before .before .before .args .attr) (now (c .before .before .before .before .before .before .before .args .uri)) (now (c .before .before .before .before .before .before .before .args .name)) (c .before .before .before .before .if1 .left) (c .before .same-text .result) (c .before .before .before .if2 .left) (c .before .same-text .ensures) (c .if3 .taken)
-
-slice-aggregate-same-text-2 : tie.Need-slice-aggregate-same-text-2
-slice-aggregate-same-text-2 c = search needs
-
-same-text-requires-2 : tie.Need-same-text-requires-2
-same-text-requires-2 c κs = search needs
-
-returns-4 : tie.Need-returns-4
-unfolding xsiUri text
-returns-4 c = named-nil (c .before .before .before .before .before .before .before .before .before .before .args .attr) (now (c .before .before .before .before .before .before .before .before .before .before .args .uri)) (now (c .before .before .before .before .before .before .before .before .before .before .args .name)) (c .before .before .before .before .before .before .before .if1 .left) (c .before .before .before .before .same-text .result) (c .before .same-text2 .result) (c .before .before .before .before .before .before .if2 .left) (c .before .before .before .before .same-text .ensures) (c .before .before .before .if3 .left) (c .before .same-text2 .ensures) (c .if4 .taken)
-
-slice-aggregate-same-text-3 : tie.Need-slice-aggregate-same-text-3
-slice-aggregate-same-text-3 c = search needs
-
-same-text-requires-3 : tie.Need-same-text-requires-3
-same-text-requires-3 c κs = search needs
-
-returns-5 : tie.Need-returns-5
-unfolding xsiUri text
-returns-5 c = another-name (c .before .before .before .before .before .before .before .before .before .before .before .before .args .attr) (now (c .before .before .before .before .before .before .before .before .before .before .before .before .args .uri)) (now (c .before .before .before .before .before .before .before .before .before .before .before .before .args .name)) (c .before .before .before .before .before .before .before .before .before .if1 .left) (c .before .before .before .before .before .before .same-text .result) (c .before .before .before .same-text2 .result) (c .same-text3 .result) (c .before .before .before .before .before .before .before .before .if2 .left) (c .before .before .before .before .before .before .same-text .ensures) (c .before .before .before .before .before .if3 .left) (c .before .before .before .same-text2 .ensures) (c .before .before .if4 .left) (c .same-text3 .ensures)
+returns-3 c =
+    let is-ncname = c .before .before .before .is-ncname in
+    let if1 = c .before .before .if1 in
+    let if2 = c .before .if2 in
+    let name = sym (is-ncname .ensures) ∙ not-false _ (if1 .left) in
+    ap not (c .is-reserved .ensures) ∙ an-attribute _ _ _ name (not-false _ (if2 .left))
 
 pub local-allowed-spec : {M : Type 1} → statement M
 local-allowed-spec =
-    tie.close
-    (tie.spec
-    returns
-    returns-2
-    slice-aggregate-same-text
-    same-text-requires
-    returns-3
-    slice-aggregate-same-text-2
-    same-text-requires-2
-    returns-4
-    slice-aggregate-same-text-3
-    same-text-requires-3
-    returns-5)
+    tie.close (tie.spec is-ncname-requires returns returns-2 is-reserved-requires returns-3)
