@@ -7,6 +7,9 @@ ghost use Rattle.text.specs.Names.{hasPair, endsIn};
 ghost use Rattle.spec_exi.specs.Tables.{nameAllowed, textAllowed, local, target};
 ghost use Rattle.spec_exi.specs.Tables.{commentText, instructionText};
 ghost use Rattle.names.specs.Names.{isReserved};
+ghost use Rattle.names.specs.Texts.{roleOf, faultOf};
+use refusal::CHARACTER;
+use refusal::NAME;
 
 // "http://www.w3.org/2001/XMLSchema-instance"
 const INSTANCE: [u32; 41] = [
@@ -141,4 +144,35 @@ pub fn instruction_allowed(x: &[u32]) -> bool
     ensures { λ r. ⌜ r ≡ textAllowed instructionText (now (x .entry)) ⌝ }
 {
     !has_pair(x, 0x3F, 0x3E)
+}
+
+// ---- strings by no table
+
+// Their roles.
+pub const TARGET: u32 = 0;
+
+pub const COMMENT: u32 = 1;
+
+pub const INSTRUCTION: u32 = 2;
+
+// What refuses such a string once its code points have passed, or 0 (02, P6).
+pub fn text_fault(role: u32, x: &[u32]) -> u32
+    ensures { λ r. ⌜ r ≡ faultOf (roleOf role) (now (x .entry)) ⌝ }
+{
+    if role == TARGET {
+        if target_allowed(x) {
+            return 0;
+        }
+        return NAME;
+    }
+    if role == COMMENT {
+        if comment_allowed(x) {
+            return 0;
+        }
+        return CHARACTER;
+    }
+    if instruction_allowed(x) {
+        return 0;
+    }
+    CHARACTER
 }

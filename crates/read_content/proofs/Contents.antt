@@ -14,7 +14,7 @@ use Rattle.spec_exi.specs.Event.{QName, Event, startDocument, endDocument, endE
 use Rattle.spec_exi.specs.Event.{startElement, attribute, characters, comment, instruction}
 use Rattle.spec_exi.specs.Event.{Kind, SD, ED, SE, AT, EE, CH, CM, PI, kindOf, nameOf, mapEvent}
 use Rattle.spec_exi.specs.Event.{mapName}
-use Rattle.spec_exi.specs.Tables.{Placed, nameText, spanOf, Tables, Role, value, target, plain}
+use Rattle.spec_exi.specs.Tables.{Placed, nameText, spanOf, Tables, Role, value}
 use Rattle.spec_exi.specs.Grammar.{State, kindNumber}
 use Rattle.spec_exi.specs.Context.{characterRole}
 use Rattle.spec_exi.specs.Reader.{readString, readName, readContent}

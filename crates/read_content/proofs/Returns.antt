@@ -14,7 +14,8 @@ use Rattle.spec_exi.specs.Event.{QName, Event, startDocument, endDocument, endE
 use Rattle.spec_exi.specs.Event.{startElement, attribute, characters, comment, instruction}
 use Rattle.spec_exi.specs.Event.{Kind, SD, ED, SE, AT, EE, CH, CM, PI, kindOf, nameOf, mapEvent}
 use Rattle.spec_exi.specs.Event.{mapName}
-use Rattle.spec_exi.specs.Tables.{Placed, nameText, spanOf, Tables, Role, value, target, plain}
+use Rattle.spec_exi.specs.Tables.{Placed, nameText, spanOf, Tables, Role, value, target}
+use Rattle.spec_exi.specs.Tables.{commentText, instructionText}
 use Rattle.spec_exi.specs.Grammar.{State, kindNumber}
 use Rattle.spec_exi.specs.Context.{characterRole}
 use Rattle.spec_exi.specs.Reader.{readString, readName, readContent}
@@ -484,16 +485,16 @@ module _ {stream : List ℕ} {at : ℕ} {text work : List ℕ} {c : Core} {p : P
   few-of q = few-rows (pre .pair .bounded) (q .counts)
 
   module _ {text₁ : List ℕ} {x : StringRead}
-      (post : TextPost (asString plain) stream at text (c .stored) text₁ x)
+      (post : TextPost (asString commentText) stream at text (c .stored) text₁ x)
       (i : kindAt (p .kind) ≡ CM) where
     pub comment-refused : {a : Alignment} → 0 < x .number → ContentPost a stream at text work c p
         text₁ (stoppedAs (x .number) (x .next) (x .left) (x .stored))
     unfolding readContent
     comment-refused h =
         content-refused pre (x .number) (x .next) (x .left) (x .stored) h
-        (post bitPacked .inside) (plain-text plain room stored-few post) CM i
+        (post bitPacked .inside) (plain-text commentText room stored-few post) CM i
         (λ s b w st q r.
-        declined-then _ (plain-outcome plain room stored-few post s (q .valid) (few-of q) .refused h))
+        declined-then _ (plain-outcome commentText room stored-few post s (q .valid) (few-of q) .refused h))
 
     pub comment-read : {a : Alignment} → x .number ≡ 0 → ContentPost a stream at text work c p text₁
         (plainAs (Comment (partOf x)) (x .next) (x .stored))
@@ -502,14 +503,14 @@ module _ {stream : List ℕ} {at : ℕ} {text work : List ℕ} {c : Core} {p : P
         content-read pre (plainAs (Comment (partOf x)) (x .next) (x .stored)) refl
         (post bitPacked .inside)
         (subst (λ k. TextRead text (c .stored) text₁ k (x .stored)) z
-        (plain-text plain room stored-few post))
+        (plain-text commentText room stored-few post))
         no-bounds CM i
         (λ s b w st q r.
-        subst (λ k. Outcome (readString sizes s (tablesAt text (c .stored) w) plain
+        subst (λ k. Outcome (readString sizes s (tablesAt text (c .stored) w) commentText
         >>= λ v. return (comment (v .0), v .1)) stream at k (x .next)
         (ContentMeans (p .kind) text₁ w (plainAs (Comment (partOf x)) (x .next) (x .stored)))) z
         (outcome-map (λ v. (comment (v .0), v .1))
-        (plain-outcome plain room stored-few post s (q .valid) (few-of q))
+        (plain-outcome commentText room stored-few post s (q .valid) (few-of q))
         (λ _ v k. record {
           rows = w;
           joins = none-join (inStore text₁ (x .stored)) (q .valid);
@@ -553,14 +554,14 @@ module _ {stream : List ℕ} {at : ℕ} {text work : List ℕ} {c : Core} {p : P
           }
 
       module _ {text₂ : List ℕ} {x : StringRead}
-          (post₂ : TextPost (asString plain) stream (t .next) text₁ (t .stored) text₂ x) where
+          (post₂ : TextPost (asString instructionText) stream (t .next) text₁ (t .stored) text₂ x) where
         abbrev instructionAs : Content
         instructionAs = plainAs (Instruction (partOf t) (partOf x)) (x .next) (x .stored)
 
         instruction-text : TextRead text (c .stored) text₂ (x .number) (x .stored)
         instruction-text =
             text-then room z (plain-text target room stored-few post)
-            (plain-text plain room-after few-after post₂)
+            (plain-text instructionText room-after few-after post₂)
 
         instruction-outcome : (s : Settings) (w : Rows) (st : State) → Prepared work text c w
             → (r : Content) → (x .number ≡ 0 → r ≡ instructionAs)
@@ -575,11 +576,11 @@ module _ {stream : List ℕ} {at : ℕ} {text work : List ℕ} {c : Core} {p : P
             outcome-then _ g
             (subst
             (λ (y : Tables). Outcome
-            (readString sizes s y plain
+            (readString sizes s y instructionText
             >>= λ v. return (instruction (g .value .0) (v .0), v .1)) stream (t .next)
             (x .number) (x .next) (ContentMeans (p .kind) text₂ w r)) (sym (m .tables))
             (outcome-map (λ v. (instruction (g .value .0) (v .0), v .1))
-            (plain-outcome plain room-after few-after post₂ s (q .valid) (few-of q))
+            (plain-outcome instructionText room-after few-after post₂ s (q .valid) (few-of q))
             (λ y v k.
             subst (λ (d : Content). ContentMeans (p .kind) text₂ w d
             (instruction (g .value .0) (v .0), v .1)) (sym (is y))

@@ -20,6 +20,9 @@ use event_code::SD;
 use event_code::SE;
 use mem_state::Core;
 use mem_state::Strings;
+use names::COMMENT;
+use names::INSTRUCTION;
+use names::TARGET;
 use read_production::ProductionRead;
 
 // The number of a refusal or 0; the position after the content or where it stopped, and how many code
@@ -192,7 +195,7 @@ fn read_comment(
         ((a : Alignment) → ContentPost a (now (stream .entry)) at (now (text .entry))
         (now (work .entry)) c p (now (text .exit)) r) ⌝ }
 {
-    let x = read_values::read_plain(stream, at, c.stored, text);
+    let x = read_values::read_text(COMMENT, stream, at, c.stored, text);
     if x.number != 0 {
         return stopped(x.number, x.next, x.left, x.stored);
     }
@@ -215,11 +218,11 @@ fn read_instruction(
         ((a : Alignment) → ContentPost a (now (stream .entry)) at (now (text .entry))
         (now (work .entry)) c p (now (text .exit)) r) ⌝ }
 {
-    let t = read_values::read_target(stream, at, c.stored, text);
+    let t = read_values::read_text(TARGET, stream, at, c.stored, text);
     if t.number != 0 {
         return stopped(t.number, t.next, t.left, t.stored);
     }
-    let x = read_values::read_plain(stream, t.next, t.stored, text);
+    let x = read_values::read_text(INSTRUCTION, stream, t.next, t.stored, text);
     if x.number != 0 {
         return stopped(x.number, x.next, x.left, x.stored);
     }

@@ -18,7 +18,7 @@ use Rattle.text.specs.Text.{Text}
 use Rattle.spec_exi.specs.Settings.{Settings}
 use Rattle.spec_exi.specs.Sizes.{sizes, maxStore}
 use Rattle.spec_exi.specs.Tables.{Placed, Slot, Tables, uri, partitionsOf, hit, eqForm, formOf}
-use Rattle.spec_exi.specs.Tables.{tablesAfter, nameAllowed}
+use Rattle.spec_exi.specs.Tables.{tablesAfter, nameAllowed, textAllowed}
 use Rattle.spec_exi.specs.Lists.{withinTables}
 use Rattle.spec_exi.specs.Reader.{readCharacter, readIn, readByLiterals, readEntry, readForm}
 use Rattle.spec_exi.specs.Reader.{readString}
@@ -89,11 +89,11 @@ same-form j i = rw (eq-eqb j j refl, eq-eqb i i refl)
 entry-got : (t : Tables) (i : ℕ) (x : Placed)
     → formOf (partitionsOf t uri) (x .text) ≡ hit 0 i → nameAllowed uri (x .text) ≡ true
     → withinTables sizes t ≡ true → (bs : Bits) → judge t uri (hit 0 i, x) bs ≡ got (x, t) bs
-unfolding tablesAfter
+unfolding tablesAfter textAllowed
 entry-got t i x f n w bs =
     let e : eqForm (hit 0 i) (formOf (partitionsOf t uri) (x .text)) ≡ true =
     rw f (same-form 0 i) in
-    judge-got t uri (hit 0 i, x) e n w bs
+    judge-got t uri (hit 0 i, x) refl e n w bs
 
 abbrev entry-gotten : {p : Parser (Placed × Tables)} {t : Tables} {stream : List ℕ} {at next : ℕ}
     {text : List ℕ} {i place size : ℕ} (e : EntryRead p t stream at next text i place size)

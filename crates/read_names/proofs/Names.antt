@@ -14,7 +14,7 @@ use Rattle.text.specs.Text.{Text, part}
 use Rattle.spec_exi.specs.Settings.{Settings}
 use Rattle.spec_exi.specs.Sizes.{maxNames}
 use Rattle.spec_exi.specs.Tables.{Placed, Slot, Tables, Role, partitionsOf, hit, eqForm, formOf}
-use Rattle.spec_exi.specs.Tables.{nameAllowed}
+use Rattle.spec_exi.specs.Tables.{nameAllowed, textAllowed}
 use Rattle.spec_exi.specs.Reader.{readHit}
 use Rattle.mem_entries.specs.Texts.{throughout}
 use Rattle.mem_entries.specs.Entries.{entryAt, textAt}
@@ -60,6 +60,7 @@ NameAnswer a attr read stream at text stored work names uri place size text′ r
 record Forbidden (t : Tables) (r : Role) (j : ℕ) (es : List Slot) (i : ℕ) : Type 0 where
   x : Placed
   slot : getElem? es i ≡ some (some x)
+  whole : textAllowed r (x .text) ≡ true
   strict : formOf (partitionsOf t r) (x .text) ≡ hit j i
   forbidden : nameAllowed r (x .text) ≡ false
 
@@ -71,7 +72,8 @@ unfolding readHit present return _>>=_ andThen
 hit-forbidden {a} s b t r j es {stream} {at} {q} g h =
     let e : eqForm (hit j (g .value)) (formOf (partitionsOf t r) (h .x .text)) ≡ true =
     rw (h .strict) (same-form j (g .value)) in
-    let d = judge-name t r (hit j (g .value), h .x) {stream = stream} {at = q} e (h .forbidden) in
+    let d = judge-name t r (hit j (g .value), h .x) {stream = stream} {at = q} (h .whole) e
+    (h .forbidden) in
     let c = choice-gotten a reference es g (h .slot) in
     record { refusal = d .refusal; result = rw (b, c .result) (d .result); is = d .is }
 
@@ -128,7 +130,7 @@ module _ (a : Alignment) {stream : List ℕ} {at : ℕ} {text : List ℕ} {store
         pub own-reserved : b ≡ true
             → NameAnswer a attr asOwn stream at text stored work names uri place size text
             (refusedAs (numberOf name) q 0 stored)
-        unfolding numberOf
+        unfolding numberOf textAllowed
         own-reserved taken = (
           post-refused (numberOf name) q (omega arith)
               (number-gotten stream at (fit .literal .place) a (width among) (sym answer ∙ z)
@@ -142,6 +144,7 @@ module _ (a : Alignment) {stream : List ℕ} {at : ℕ} {text : List ℕ} {store
               (record {
                 x = entryAt (w .names) (r - 1) .string;
                 slot = own-there t p n row-of;
+                whole = refl;
                 strict = own-strict t p n row-of attr;
                 forbidden = own-allowed t p ∙ ap not taken;
               })),
@@ -151,7 +154,7 @@ module _ (a : Alignment) {stream : List ℕ} {at : ℕ} {text : List ℕ} {store
         pub own-found : b ≡ false
             → NameAnswer a attr asOwn stream at text stored work names uri place size text
             (foundAs q (v .place) (v .size) (r - 1) stored)
-        unfolding maxNames
+        unfolding maxNames textAllowed
         own-found e = (
           post-chosen (nameRole attr uri) 0 (ownNames uri) text (fit .literal .place)
               (fit .literal .few) answer counted z (v .place) (v .size) (r - 1)
@@ -160,6 +163,7 @@ module _ (a : Alignment) {stream : List ℕ} {at : ℕ} {text : List ℕ} {store
               record {
                 x = entryAt (w .names) (r - 1) .string;
                 slot = own-there t p n row-of;
+                whole = refl;
                 strict = own-strict t p n row-of attr;
                 allowed = own-allowed t p ∙ ap not e;
                 place-is = is-name (p .hold) l h .place;

@@ -13,7 +13,7 @@ use Rattle.spec_fields.specs.Field.{Alignment}
 use Rattle.text.specs.Text.{Text, part}
 use Rattle.spec_exi.specs.Sizes.{sizes, maxNames}
 use Rattle.spec_exi.specs.Tables.{local, partitionsOf, literal, eqForm, hitOr, formOf, laid, added}
-use Rattle.spec_exi.specs.Tables.{tablesAfter, nameAllowed}
+use Rattle.spec_exi.specs.Tables.{tablesAfter, nameAllowed, textAllowed}
 use Rattle.spec_exi.specs.Lists.{withinTables}
 use Rattle.mem_chain.specs.Chain.{firstThat}
 use Rattle.mem_layout.specs.Layout.{openingNames}
@@ -98,9 +98,10 @@ module _ {text : List ℕ} {stored : ℕ} {w : Rows} {store : Text} (t : Tabled 
 
     new-passes : row ≡ 0 → nameAllowed (nameRole attr uri w) x ≡ true → names < maxNames
         → Passes (λ w y. withName w uri y) (nameRole attr uri w) w store x true
-    unfolding laid tablesOf
+    unfolding textAllowed laid tablesOf
     new-passes z ok h =
         record {
+          whole = refl;
           strict = absent-strict z;
           allowed = ok;
           within = within-is ∙ lt-ltb names maxNames h;
@@ -130,13 +131,14 @@ module _ {stream : List ℕ} {at : ℕ} {text : List ℕ} {stored : ℕ} {work :
         → text″ ≡ laidAt text′ stored (replicate n 0) → {a : Alignment}
         → NamePost a attr (asNewName n) stream at text stored work names uri place size text″
         (refusedAs (numberOf loose) (l .next) 0 stored)
-    unfolding laid numberOf
+    unfolding laid numberOf textAllowed
     new-loose ne c =
         literal-judged (nameRole attr uri) r z (fit .literal .room) (numberOf loose)
         (omega arith) c
         (λ w store t p x e f.
         let d = text-laid (fit .literal) r z x e f in
-        judge-loose _ _ _ (present-loose t p d attr (r .hashed .is z) s ne))
+        judge-loose (tablesOf w store) (nameRole attr uri w) (literal, laid (tablesOf w store) x) refl
+        (present-loose t p d attr (r .hashed .is z) s ne))
 
     module _ (absent : row ≡ 0) {b : Bool}
         (tested : b ≡ nameAllowed (local attr (part text′ (record { place = place; size = size })))
@@ -145,14 +147,15 @@ module _ {stream : List ℕ} {at : ℕ} {text : List ℕ} {stored : ℕ} {work :
           → text″ ≡ laidAt text′ stored (replicate n 0) → {a : Alignment}
           → NamePost a attr (asNewName n) stream at text stored work names uri place size text″
           (refusedAs (numberOf name) (l .next) 0 stored)
-      unfolding laid numberOf
+      unfolding laid numberOf textAllowed
       new-forbidden not-ok c =
           literal-judged (nameRole attr uri) r z (fit .literal .room) (numberOf name)
           (omega arith) c
           (λ w store t p x e f.
           let d = text-laid (fit .literal) r z x e f in
           judge-name (tablesOf w store) (nameRole attr uri w)
-          (literal, laid (tablesOf w store) x) (absent-strict t p d attr (r .hashed .is z) s absent)
+          (literal, laid (tablesOf w store) x) refl
+          (absent-strict t p d attr (r .hashed .is z) s absent)
           (sym (allowed-is t p d attr) ∙ sym tested ∙ not-ok))
 
       module _ (ok : b ≡ true) where
@@ -160,14 +163,14 @@ module _ {stream : List ℕ} {at : ℕ} {text : List ℕ} {stored : ℕ} {work :
             → text″ ≡ laidAt text′ stored (replicate n 0) → {a : Alignment}
             → NamePost a attr (asNewName n) stream at text stored work names uri place size text″
             (refusedAs (numberOf limit) (l .next) 0 stored)
-        unfolding laid numberOf tablesAfter
+        unfolding laid numberOf textAllowed tablesAfter
         new-full h c =
             literal-judged (nameRole attr uri) r z (fit .literal .room) (numberOf limit)
             (omega arith) c
             (λ w store t p x e f.
             let d = text-laid (fit .literal) r z x e f in
             judge-limit (tablesOf w store) (nameRole attr uri w)
-            (literal, laid (tablesOf w store) x)
+            (literal, laid (tablesOf w store) x) refl
             (absent-strict t p d attr (r .hashed .is z) s absent)
             (sym (allowed-is t p d attr) ∙ sym tested ∙ ok)
             (within-is t p d attr ∙ le-ltb names maxNames h))

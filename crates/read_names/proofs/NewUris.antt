@@ -12,7 +12,7 @@ use Rattle.spec_fields.specs.Field.{Alignment}
 use Rattle.text.specs.Text.{Text, part}
 use Rattle.spec_exi.specs.Sizes.{sizes, maxUris}
 use Rattle.spec_exi.specs.Tables.{uri, partitionsOf, literal, eqForm, hitOr, formOf, laid, added}
-use Rattle.spec_exi.specs.Tables.{tablesAfter, nameAllowed}
+use Rattle.spec_exi.specs.Tables.{tablesAfter, nameAllowed, textAllowed}
 use Rattle.spec_exi.specs.Lists.{withinTables}
 use Rattle.mem_chain.specs.Chain.{firstThat}
 use Rattle.mem_layout.specs.Layout.{openingUris}
@@ -72,9 +72,10 @@ module _ {text : List ℕ} {stored : ℕ} {w : Rows} {store : Text} (t : Tabled 
       ∙ ap (λ m. ltb m maxUris) (count-is t p)
 
   new-passes : q ≡ 0 → uris < maxUris → Passes (λ w y. withUri w y) uri w store x true
-  unfolding nameAllowed laid tablesOf
+  unfolding nameAllowed textAllowed laid tablesOf
   new-passes z h =
       record {
+        whole = refl;
         strict = absent-strict z;
         allowed = refl;
         within = within-is ∙ lt-ltb uris maxUris h;
@@ -101,23 +102,24 @@ module _ {stream : List ℕ} {at : ℕ} {text : List ℕ} {stored : ℕ} {work :
         → text″ ≡ laidAt text′ stored (replicate n 0) → {a : Alignment}
         → UriPost a (asNewUri n) stream at text stored work uris text″
         (refusedAs (numberOf loose) (l .next) 0 stored)
-    unfolding laid numberOf
+    unfolding laid numberOf textAllowed
     new-loose ne c =
         literal-judged (λ w. uri) r z (fit .literal .room) (numberOf loose) (omega arith) c
         (λ w store t p x e f.
-        judge-loose _ _ _ (present-loose t p (text-laid (fit .literal) r z x e f) s ne))
+        judge-loose (tablesOf w store) uri (literal, laid (tablesOf w store) x) refl
+        (present-loose t p (text-laid (fit .literal) r z x e f) s ne))
 
     module _ (absent : q ≡ 0) where
       pub new-full : maxUris ≤ uris → {text″ : List ℕ}
           → text″ ≡ laidAt text′ stored (replicate n 0) → {a : Alignment}
           → UriPost a (asNewUri n) stream at text stored work uris text″
           (refusedAs (numberOf limit) (l .next) 0 stored)
-      unfolding laid numberOf nameAllowed tablesAfter
+      unfolding laid numberOf nameAllowed textAllowed tablesAfter
       new-full h c =
           literal-judged (λ w. uri) r z (fit .literal .room) (numberOf limit) (omega arith) c
           (λ w store t p x e f.
           let d = text-laid (fit .literal) r z x e f in
-          judge-limit (tablesOf w store) uri (literal, laid (tablesOf w store) x)
+          judge-limit (tablesOf w store) uri (literal, laid (tablesOf w store) x) refl
           (absent-strict t p d s absent) refl (within-is t p d s ∙ le-ltb uris maxUris h))
 
       pub new-joins : uris < maxUris → {a : Alignment}

@@ -13,7 +13,7 @@ use Rattle.text.specs.Text.{Text, part}
 use Rattle.text.proofs.Equal.{eqText-no}
 use Rattle.spec_exi.specs.Sizes.{maxUris}
 use Rattle.spec_exi.specs.Tables.{Placed, spanOf, uri, partitionsOf, literal, hitOr}
-use Rattle.spec_exi.specs.Tables.{formOf, nameAllowed}
+use Rattle.spec_exi.specs.Tables.{formOf, nameAllowed, textAllowed}
 use Rattle.mem_chain.specs.Chain.{firstThat}
 use Rattle.mem_chain.proofs.First.{first-found, first-zero}
 use Rattle.mem_entries.specs.Texts.{Names, throughout}
@@ -90,12 +90,13 @@ module _ {text : List ℕ} {stored : ℕ} {w : Rows} {store : Text} (t : Tabled 
     uri-chosen : {u : Uri} → UriAt work i u
         → Chosen (tablesOf w store) uri 0 (map some (tablesOf w store .uris)) i text (u .place)
         (u .size)
-    unfolding tablesOf nameAllowed rowOf hitOr
+    unfolding tablesOf nameAllowed textAllowed rowOf hitOr
     uri-chosen a =
         record {
           x = uriAt (w .uris) i;
           slot = at-map some (w .uris) i
               ∙ ap (Option·map some) (uri-nth (w .uris) i (omega (arith, count-is)));
+          whole = refl;
           strict = form-of (uriText (w .uris) i) (suc i) first-of;
           allowed = refl;
           place-is = is-uri (p .hold) h a .place;

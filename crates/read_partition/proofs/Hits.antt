@@ -14,7 +14,7 @@ use Rattle.text.specs.Text.{Text, part}
 use Rattle.spec_exi.specs.Settings.{Settings}
 use Rattle.spec_exi.specs.Sizes.{maxStore}
 use Rattle.spec_exi.specs.Tables.{Placed, Slot, Tables, Role, partitionsOf, hit, eqForm, formOf}
-use Rattle.spec_exi.specs.Tables.{nameAllowed}
+use Rattle.spec_exi.specs.Tables.{nameAllowed, textAllowed}
 use Rattle.spec_exi.specs.Reader.{readHit}
 use Rattle.mem_rows.specs.Rows.{Rows, tablesOf}
 use Rattle.read_field.specs.declared.Field.{Field}
@@ -35,6 +35,7 @@ pub record Chosen (t : Tables) (r : Role) (j : ℕ) (es : List Slot) (i : ℕ) (
     (place size : ℕ) : Type 0 where
   pub x : Placed
   pub slot : getElem? es i ≡ some (some x)
+  pub whole : textAllowed r (x .text) ≡ true
   pub strict : formOf (partitionsOf t r) (x .text) ≡ hit j i
   pub allowed : nameAllowed r (x .text) ≡ true
   pub place-is : place ≡ x .place
@@ -45,6 +46,7 @@ pub record Chosen (t : Tables) (r : Role) (j : ℕ) (es : List Slot) (i : ℕ) (
 pub record Loose (t : Tables) (r : Role) (j : ℕ) (es : List Slot) (i : ℕ) : Type 0 where
   pub x : Placed
   pub slot : getElem? es i ≡ some (some x)
+  pub whole : textAllowed r (x .text) ≡ true
   pub other : eqForm (hit j i) (formOf (partitionsOf t r) (x .text)) ≡ false
 
 module _ {a : Alignment} (s : Settings) (b : s .alignment ≡ a) (t : Tables) (r : Role) (j : ℕ)
@@ -70,7 +72,8 @@ module _ {a : Alignment} (s : Settings) (b : s .alignment ≡ a) (t : Tables) (r
     hit-loose : Loose t r j es (g .value) → Declined (asHit r j es s t) stream at (numberOf loose)
     unfolding readHit present return _>>=_ andThen
     hit-loose h =
-        let d = judge-loose t r (hit j (g .value), h .x) {stream = stream} {at = q} (h .other) in
+        let d = judge-loose t r (hit j (g .value), h .x) {stream = stream} {at = q}
+        (h .whole) (h .other) in
         let c = choice-gotten a reference es g (h .slot) in
         record { refusal = d .refusal; result = rw (b, c .result) (d .result); is = d .is }
 
@@ -160,6 +163,7 @@ module _ {a : Alignment} {Premise : Rows → Type 0} (role : Rows → Role) (j :
               (number-read a stream at answer (es w store) (count w store t p) z l) (c .slot);
           x = c .x;
           slot = refl;
+          whole = c .whole;
           strict = c .strict;
           allowed = c .allowed;
           place-is = c .place-is;

@@ -17,6 +17,7 @@ use Rattle.spec_exi.specs.Settings.{Settings}
 use Rattle.spec_exi.specs.Sizes.{sizes, maxStore}
 use Rattle.spec_exi.specs.Tables.{Placed, Slot, Tables, Role, literals, partitionsOf, Form, hit, literal}
 use Rattle.spec_exi.specs.Tables.{eqForm, formOf, laid, added, tablesAfter, nameAllowed}
+use Rattle.spec_exi.specs.Tables.{textAllowed}
 use Rattle.spec_exi.specs.Lists.{withinTables}
 use Rattle.spec_exi.specs.Reader.{readCharacter, readHit, readLiteral, readString}
 use Rattle.mem_rows.specs.Rows.{Rows, tablesOf}
@@ -64,6 +65,7 @@ pub record HitRead (a : Alignment) (t : Tables) (r : Role) (j : ℕ) (es : List 
   pub chosen : Gotten (choice a reference es) stream at next
   pub x : Placed
   pub slot : chosen .value .1 ≡ some x
+  pub whole : textAllowed r (x .text) ≡ true
   pub strict : formOf (partitionsOf t r) (x .text) ≡ hit j (chosen .value .0)
   pub allowed : nameAllowed r (x .text) ≡ true
   pub place-is : place ≡ x .place
@@ -83,7 +85,7 @@ module _ (s : Settings) {t : Tables} {r : Role} {j : ℕ} {es : List Slot} {stre
   hit-gotten h w =
       let i = h .chosen .value .0 in
       let f : eqForm (hit j i) (formOf (partitionsOf t r) (h .x .text)) ≡ true = rw (h .strict) (same-form j i) in
-      let m = judge-got t r (hit j i, h .x) f (h .allowed) w (drop next (unpack stream)) in (
+      let m = judge-got t r (hit j i, h .x) (h .whole) f (h .allowed) w (drop next (unpack stream)) in (
         record { value = (h .x, t); result = rw (h .chosen .result, h .slot) m; after = h .chosen .after; inside = h .chosen .inside },
         h .x,
         refl,
@@ -162,6 +164,7 @@ literal-is {stream = stream} {l = l} r z s t e =
 
 -- What is judged after a literal, and what it leaves: it joins its table, or is laid alone.
 pub record Passes (join : Rows → Placed → Rows) (role : Role) (w : Rows) (store x : Text) (joins : Bool) : Type 0 where
+  pub whole : textAllowed role x ≡ true
   pub strict : eqForm literal (formOf (partitionsOf (tablesOf w store) role) x) ≡ true
   pub allowed : nameAllowed role x ≡ true
   pub within : withinTables sizes (added (tablesOf w store) role x) ≡ true
@@ -203,7 +206,9 @@ literal-result : {join : Rows → Placed → Rows} {n : ℕ} {stream : List ℕ}
     ≡ got (laid (tablesOf w store) (q .x), added (tablesOf w store) role (q .x)) (drop next (unpack stream))
 unfolding _>>=_ andThen tablesAfter laid
 literal-result {stream = stream} {next = next} role w store s q v =
-    rw (q .result) (judge-got (tablesOf w store) role (literal, laid (tablesOf w store) (q .x)) (v .strict) (v .allowed) (v .within) (drop next (unpack stream)))
+    rw (q .result)
+    (judge-got (tablesOf w store) role (literal, laid (tablesOf w store) (q .x)) (v .whole) (v .strict) (v .allowed)
+    (v .within) (drop next (unpack stream)))
 
 abbrev literal-gotten : {join : Rows → Placed → Rows} {n : ℕ} {stream : List ℕ} {at next : ℕ} {text : List ℕ} {stored : ℕ} {text′ : List ℕ} {joins : Bool}
     (role : Role) (w : Rows) (store : Text) (s : Settings) (q : LiteralIs s (tablesOf w store) n stream at next text stored text′)

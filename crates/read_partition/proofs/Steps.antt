@@ -1,4 +1,4 @@
--- A string of the definitions, step by step: its form, then LOOSE, NAME and its table's limit.
+-- A string of the definitions, step by step: its form, then CHARACTER, LOOSE, NAME and its table's limit.
 use Prim.Native.Nat.{ℕ, zero, suc, _*_, _-_, _≤_, _<_}
 use native.Mathlib.Omega.{arith}
 use native.Mathlib.Nat.{le-refl, le-trans}
@@ -8,7 +8,7 @@ use mathlib.Core.List.{List, [], _∷_, _++_, map}
 use mathlib.Core.Option.{Option, none, some}
 use lib.ListN.{length, drop, getElem?}
 use Rattle.spec_fields.specs.Bits.{Bits, unpack}
-use Rattle.spec_fields.specs.Refusal.{Refusal, numberOf, reference, loose, name, limit}
+use Rattle.spec_fields.specs.Refusal.{Refusal, numberOf, character, reference, loose, name, limit}
 use Rattle.spec_fields.specs.Parser.{Result, bad, got, Parser, return, present, need, andThen, _>>=_, _>>_}
 use Rattle.spec_fields.specs.Field.{Alignment, unsigned, choice}
 use Rattle.spec_fields.proofs.Steady.{steady-unsigned, steady-choice, steady-then, Steady}
@@ -16,6 +16,7 @@ use Rattle.spec_exi.specs.Settings.{Settings}
 use Rattle.spec_exi.specs.Sizes.{sizes}
 use Rattle.spec_exi.specs.Tables.{Placed, Slot, Tables, Role, Partitions, compact, literals, partitionsOf}
 use Rattle.spec_exi.specs.Tables.{Form, hit, literal, eqForm, formOf, laid, added, tablesAfter, nameAllowed}
+use Rattle.spec_exi.specs.Tables.{textAllowed}
 use Rattle.spec_exi.specs.Lists.{withinTables}
 use Rattle.spec_exi.specs.Reader.{readCharacter, readLiteral, readHit, readIn, readByLiterals, readEntry}
 use Rattle.spec_exi.specs.Reader.{readForm, readString}
@@ -28,36 +29,48 @@ use Rattle.read_literal.proofs.Awaits.{awaits-then, awaits-behind}
 
 -- ---- after the form
 
-pub judge-got : (t : Tables) (r : Role) (v : Form × Placed) → eqForm (v .0) (formOf (partitionsOf t r) (v .1 .text)) ≡ true
+pub judge-got : (t : Tables) (r : Role) (v : Form × Placed) → textAllowed r (v .1 .text) ≡ true
+    → eqForm (v .0) (formOf (partitionsOf t r) (v .1 .text)) ≡ true
     → nameAllowed r (v .1 .text) ≡ true → withinTables sizes (tablesAfter t r (v .0) (v .1 .text)) ≡ true
     → (bs : Bits) → judge t r v bs ≡ got (v .1, tablesAfter t r (v .0) (v .1 .text)) bs
 unfolding judge return
-judge-got t r v a b c bs = need-true _ loose _ _ a ∙ need-true _ name _ _ b ∙ need-true _ limit _ _ c
+judge-got t r v x a b c bs =
+    need-true _ character _ _ x ∙ need-true _ loose _ _ a ∙ need-true _ name _ _ b ∙ need-true _ limit _ _ c
 
 module _ (t : Tables) (r : Role) (v : Form × Placed) {stream : List ℕ} {at : ℕ} where
-  pub judge-loose : eqForm (v .0) (formOf (partitionsOf t r) (v .1 .text)) ≡ false → Declined (judge t r v) stream at (numberOf loose)
+  pub judge-character : textAllowed r (v .1 .text) ≡ false → Declined (judge t r v) stream at (numberOf character)
   unfolding judge
-  judge-loose e = need-declined _ loose _ e
+  judge-character e = need-declined _ character _ e
 
-  module _ (strict : eqForm (v .0) (formOf (partitionsOf t r) (v .1 .text)) ≡ true) where
-    pub judge-name : nameAllowed r (v .1 .text) ≡ false → Declined (judge t r v) stream at (numberOf name)
+  module _ (whole : textAllowed r (v .1 .text) ≡ true) where
+    pub judge-loose : eqForm (v .0) (formOf (partitionsOf t r) (v .1 .text)) ≡ false
+        → Declined (judge t r v) stream at (numberOf loose)
     unfolding judge
-    judge-name e = declined-as (need-true _ loose _ _ strict) (need-declined _ name _ e)
+    judge-loose e = declined-as (need-true _ character _ _ whole) (need-declined _ loose _ e)
 
-    module _ (named : nameAllowed r (v .1 .text) ≡ true) where
-      pub judge-limit : withinTables sizes (tablesAfter t r (v .0) (v .1 .text)) ≡ false → Declined (judge t r v) stream at (numberOf limit)
+    module _ (strict : eqForm (v .0) (formOf (partitionsOf t r) (v .1 .text)) ≡ true) where
+      pub judge-name : nameAllowed r (v .1 .text) ≡ false → Declined (judge t r v) stream at (numberOf name)
       unfolding judge
-      judge-limit e = declined-as (need-true _ loose _ _ strict ∙ need-true _ name _ _ named) (need-declined _ limit _ e)
+      judge-name e =
+          declined-as (need-true _ character _ _ whole ∙ need-true _ loose _ _ strict) (need-declined _ name _ e)
 
-      abbrev pub judge-gotten : withinTables sizes (tablesAfter t r (v .0) (v .1 .text)) ≡ true → at ≤ 8 * length stream
-          → Gotten (judge t r v) stream at at
-      judge-gotten e l =
-          record {
-            value = (v .1, tablesAfter t r (v .0) (v .1 .text));
-            result = judge-got t r v strict named e (drop at (unpack stream));
-            after = le-refl at;
-            inside = l;
-          }
+      module _ (named : nameAllowed r (v .1 .text) ≡ true) where
+        pub judge-limit : withinTables sizes (tablesAfter t r (v .0) (v .1 .text)) ≡ false
+            → Declined (judge t r v) stream at (numberOf limit)
+        unfolding judge
+        judge-limit e =
+            declined-as (need-true _ character _ _ whole ∙ need-true _ loose _ _ strict ∙ need-true _ name _ _ named)
+            (need-declined _ limit _ e)
+
+        abbrev pub judge-gotten : withinTables sizes (tablesAfter t r (v .0) (v .1 .text)) ≡ true
+            → at ≤ 8 * length stream → Gotten (judge t r v) stream at at
+        judge-gotten e l =
+            record {
+              value = (v .1, tablesAfter t r (v .0) (v .1 .text));
+              result = judge-got t r v whole strict named e (drop at (unpack stream));
+              after = le-refl at;
+              inside = l;
+            }
 
 -- ---- a parser that comes to another further on
 

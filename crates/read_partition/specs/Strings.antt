@@ -6,14 +6,14 @@ use mathlib.Core.Path.{_≡_}
 use mathlib.Core.Bool.{Bool, true, false}
 use mathlib.Core.List.{List, [], _++_}
 use lib.ListN.{length, take, replicate}
-use Rattle.spec_fields.specs.Refusal.{loose, name, limit}
+use Rattle.spec_fields.specs.Refusal.{character, loose, name, limit}
 use Rattle.spec_fields.specs.Parser.{Parser, return, need, _>>=_, _>>_}
 use Rattle.spec_fields.specs.Field.{Alignment}
 use Rattle.text.specs.Text.{Text, part}
 use Rattle.spec_exi.specs.Settings.{Settings}
 use Rattle.spec_exi.specs.Sizes.{sizes, maxStore}
 use Rattle.spec_exi.specs.Tables.{Placed, Slot, Tables, Role, partitionsOf, Form, eqForm, formOf}
-use Rattle.spec_exi.specs.Tables.{tablesAfter, nameAllowed}
+use Rattle.spec_exi.specs.Tables.{tablesAfter, nameAllowed, textAllowed}
 use Rattle.spec_exi.specs.Lists.{withinTables}
 use Rattle.spec_exi.specs.Reader.{readCharacter, readLiteral, readHit, readString}
 use Rattle.mem_entries.specs.Texts.{hashOf}
@@ -113,9 +113,11 @@ pub record Means (join : Rows → Placed → Rows) (w : Rows) (store : Text) (te
   pub new : r .joins ≡ true → (v .0 .text ≡ laid .x) × (v .1 ≡ tablesOf (join w (v .0)) (store ++ laid .x))
   pub valid : r .joins ≡ true → Valid (join w (v .0))
 
--- What stands after a string's form v: LOOSE, NAME, then its table's limit (`readString`).
+-- What stands after a string's form v: CHARACTER for a comment or an instruction's text, LOOSE,
+-- NAME, then its table's limit (`readString`).
 unfoldable pub judge : Tables → Role → Form × Placed → Parser (Placed × Tables)
 judge t r v = do
+  need (textAllowed r (v .1 .text)) character
   need (eqForm (v .0) (formOf (partitionsOf t r) (v .1 .text))) loose
   need (nameAllowed r (v .1 .text)) name
   need (withinTables sizes (tablesAfter t r (v .0) (v .1 .text))) limit

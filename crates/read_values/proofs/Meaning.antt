@@ -11,7 +11,7 @@ use borrow.Author.Tests.{eq-eqb, ne-eqb}
 use Rattle.text.specs.Text.{Text, part}
 use Rattle.spec_exi.specs.Tables.{Placed, Slot, spanOf, valuesOf, allValues, value}
 use Rattle.spec_exi.specs.Tables.{partitionsOf, hit}
-use Rattle.spec_exi.specs.Tables.{eqForm, formOf, nameAllowed}
+use Rattle.spec_exi.specs.Tables.{eqForm, formOf, nameAllowed, textAllowed}
 use Rattle.mem_chain.specs.Chain.{lastThat, since}
 use Rattle.mem_chain.proofs.Last.{last-is, last-only, since-all}
 use Rattle.mem_index.specs.Index.{isNumbered}
@@ -105,11 +105,12 @@ module _ {text : List ℕ} {stored : ℕ} {w : Rows} {store : Text} (t : Tabled 
         → getElem? es i ≡ some (some (entryAt (w .values) g .string))
         → valueForm none (w .values) owner (suc g) ≡ hit j i
         → Chosen (tablesOf w store) (valueRole owner w) j es i text (v .place) (v .size)
-    unfolding nameAllowed
+    unfolding nameAllowed textAllowed
     value-chosen j i s f =
         record {
           x = entryAt (w .values) g .string;
           slot = s;
+          whole = refl;
           strict = form-at g h ∙ f;
           allowed = refl;
           place-is = is-value .place;
@@ -159,11 +160,12 @@ module _ {text : List ℕ} {stored : ℕ} {w : Rows} {store : Text} (t : Tabled 
 
     pub any-loose : v .owner ≡ owner
         → Loose (tablesOf w store) (valueRole owner w) 1 (allValues (tablesOf w store)) i
-    unfolding valueForm eqForm
+    unfolding valueForm eqForm textAllowed
     any-loose e =
         record {
           x = entryAt (w .values) i .string;
           slot = any-slot;
+          whole = refl;
           other = rw (
             form-at i h,
             eq-eqb owner (keyAt (w .values) i)

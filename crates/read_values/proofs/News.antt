@@ -17,7 +17,7 @@ use Rattle.spec_exi.specs.Sizes.{sizes, maxStore, maxValues}
 use Rattle.spec_exi.specs.Tables.{value, partitionsOf, literal, eqForm}
 use Rattle.spec_exi.specs.Tables.{formOf}
 use Rattle.spec_exi.specs.Tables.{newUri, newName, newValue, newEntry, laid, added, tablesAfter}
-use Rattle.spec_exi.specs.Tables.{nameAllowed}
+use Rattle.spec_exi.specs.Tables.{nameAllowed, textAllowed}
 use Rattle.spec_exi.specs.Lists.{withinTables}
 use Rattle.mem_chain.specs.Chain.{lastThat, since}
 use Rattle.mem_entries.specs.Texts.{hashOf, Grown}
@@ -31,7 +31,7 @@ use Rattle.mem_rows.proofs.Joins.{value-joins, nothing-joins}
 use Rattle.mem_rows.proofs.Grown.{value-grows}
 use Rattle.mem_rows.proofs.Within.{values-count, within-value, within-none}
 use Rattle.read_literal.specs.declared.Literal as declared
-use Rattle.read_literal.specs.Literal.{laidAt, LiteralRead}
+use Rattle.read_literal.specs.Literal.{laidAt, LiteralFit, LiteralRead}
 use Rattle.read_literal.proofs.Store.{laid-part, laid-size, laid-before}
 use Rattle.read_partition.specs.Strings.{refusedAs, literalAs, Tabled}
 use Rattle.read_partition.proofs.Steps.{judge-loose, judge-limit}
@@ -46,7 +46,7 @@ unfolding isEmpty
 empty-is [] e = refl
 empty-is (c ∷ x) e = absurd (omega arith)
 
-pub full-is : (x : Text) → 0 < length x → isEmpty x ≡ false
+full-is : (x : Text) → 0 < length x → isEmpty x ≡ false
 unfolding isEmpty
 full-is [] h = absurd (omega arith)
 full-is (c ∷ x) h = refl
@@ -65,15 +65,15 @@ present-form es owner zero ne = absurd (ne refl)
 present-form es owner (suc g) ne = split (eqb owner (keyAt es g)) (λ e. rw e) (λ e. rw e)
 
 -- The text after the store.
-record TextLaid (text : List ℕ) (stored n : ℕ) (text′ : List ℕ) (x : Text) : Type 0 where
-  size : length x ≡ n
-  text-is : text′ ≡ laidAt text stored x
-  ends : stored + n ≤ maxStore
-  room : maxStore ≤ length text
+pub record TextLaid (text : List ℕ) (stored n : ℕ) (text′ : List ℕ) (x : Text) : Type 0 where
+  pub size : length x ≡ n
+  pub text-is : text′ ≡ laidAt text stored x
+  pub ends : stored + n ≤ maxStore
+  pub room : maxStore ≤ length text
 
 module _ {text : List ℕ} {stored n : ℕ} {text′ : List ℕ} {x : Text}
     (d : TextLaid text stored n text′ x) where
-  laid-found : part text′ (record { place = stored; size = n }) ≡ x
+  pub laid-found : part text′ (record { place = stored; size = n }) ≡ x
   laid-found =
       ap (λ m. part text′ (record { place = stored; size = m })) (sym (d .size))
       ∙ ap (λ u. part u (record { place = stored; size = length x })) (d .text-is)
@@ -122,10 +122,11 @@ module _ {text : List ℕ} {stored : ℕ} {w : Rows} {store : Text} (t : Tabled 
     -- An empty value joins no table.
     empty-passes : row ≡ 0 → n ≡ 0
         → Passes (λ w y. withValue w owner y) (valueRole owner w) w store x false
-    unfolding newUri newName newValue newEntry laid nameAllowed
+    unfolding newUri newName newValue newEntry laid nameAllowed textAllowed
     empty-passes z e =
         let i : isEmpty x ≡ true = empty-is x (omega (arith, d .size)) in
         record {
+          whole = refl;
           strict = absent-strict z;
           allowed = refl;
           within = within-none (tablesOf w store) x (t .within) store-fits
@@ -145,12 +146,13 @@ module _ {text : List ℕ} {stored : ℕ} {w : Rows} {store : Text} (t : Tabled 
 
       new-passes : row ≡ 0 → values < maxValues
           → Passes (λ w y. withValue w owner y) (valueRole owner w) w store x true
-      unfolding nameAllowed laid tablesOf
+      unfolding nameAllowed textAllowed laid tablesOf
       new-passes z h =
           let absent : 0 ≡ since 0 (lastThat (hasTextAt (w .values) x) (length (w .values))) =
           sym z ∙ row-is
           ∙ ap (λ m. since 0 (lastThat (hasTextAt (w .values) x) m)) (sym (count-is t p)) in
           record {
+            whole = refl;
             strict = absent-strict z;
             allowed = refl;
             within = within-is ∙ lt-ltb values maxValues h;
@@ -164,6 +166,15 @@ module _ {text : List ℕ} {stored : ℕ} {w : Rows} {store : Text} (t : Tabled 
 
 -- ---- by what `read_literal` and `seek` answer
 
+-- The cells that it laid are there to be cleared.
+pub new-room : {stream : List ℕ} {at : ℕ} {text : List ℕ} {stored n : ℕ} {text′ : List ℕ}
+    {l : declared.Literal} → LiteralFit stream at text stored
+    → LiteralRead stream at text stored n text′ l → l .number ≡ 0 → stored + n ≤ length text′
+new-room {text = text} {stored = stored} fit r z =
+    let b = r .behind z in
+    let h : stored + length (b .x) ≤ length text = omega (arith, r .ends z, fit .room) in
+    omega (arith, ap length (b .text-is), laid-size text stored (b .x) h)
+
 module _ {stream : List ℕ} {at : ℕ} {text : List ℕ} {stored : ℕ} {work : List ℕ} {values n : ℕ}
     {text′ : List ℕ}
     {l : declared.Literal} (fit : NewPre stream at text stored work values)
@@ -173,23 +184,18 @@ module _ {stream : List ℕ} {at : ℕ} {text : List ℕ} {stored : ℕ} {work :
       → TextLaid text stored n text′ x
   text-laid x e f = record { size = e; text-is = f; ends = r .ends z; room = fit .literal .room }
 
-  pub new-room : stored + n ≤ length text′
-  new-room =
-      let b = r .behind z in
-      let h : stored + length (b .x) ≤ length text = omega (arith, r .ends z, fit .literal .room) in
-      omega (arith, ap length (b .text-is), laid-size text stored (b .x) h)
-
   module _ {row : ℕ} (s : FoundText work text′
       (part text′ (record { place = stored; size = n })) (l .hash) values 0 row) where
     pub new-loose : (row ≡ 0 → ⊥) → {text″ : List ℕ}
         → text″ ≡ laidAt text′ stored (replicate n 0) → {a : Alignment} {owner : ℕ}
         → ValuePost a (asNew n) stream at text stored work values owner text″
         (refusedAs (numberOf loose) (l .next) 0 stored)
-    unfolding laid numberOf
+    unfolding laid numberOf textAllowed
     new-loose ne c {owner = owner} =
         literal-judged (valueRole owner) r z (fit .literal .room) (numberOf loose) (omega arith) c
         (λ w store t p x e f.
-        judge-loose _ _ _ (present-loose t p (text-laid x e f) (r .hashed .is z) s ne))
+        judge-loose (tablesOf w store) (valueRole owner w) (literal, laid (tablesOf w store) x) refl
+        (present-loose t p (text-laid x e f) (r .hashed .is z) s ne))
 
     module _ (absent : row ≡ 0) where
       pub new-empty : n ≡ 0 → {a : Alignment} {owner : ℕ}
@@ -204,13 +210,13 @@ module _ {stream : List ℕ} {at : ℕ} {text : List ℕ} {stored : ℕ} {work :
             → text″ ≡ laidAt text′ stored (replicate n 0) → {a : Alignment} {owner : ℕ}
             → ValuePost a (asNew n) stream at text stored work values owner text″
             (refusedAs (numberOf limit) (l .next) 0 stored)
-        unfolding laid numberOf nameAllowed tablesAfter
+        unfolding laid numberOf nameAllowed textAllowed tablesAfter
         new-full h c {owner = owner} =
             literal-judged (valueRole owner) r z (fit .literal .room) (numberOf limit)
             (omega arith) c
             (λ w store t p x e f.
             let d = text-laid x e f in
-            judge-limit (tablesOf w store) (valueRole owner w) (literal, laid (tablesOf w store) x)
+            judge-limit (tablesOf w store) (valueRole owner w) (literal, laid (tablesOf w store) x) refl
             (absent-strict t p d (r .hashed .is z) s absent) refl
             (within-is t p d (r .hashed .is z) s some ∙ le-ltb values maxValues h))
 

@@ -1,25 +1,25 @@
-// Values, read by the values of their name and by all values (EXI 7.3.3), and Strings by no table.
+// Values, read by the values of their name and by all values (EXI 7.3.3), and strings by no table.
 // Work memory is not written: a value that is a literal is judged here, and joins its table once
 // the whole event is accepted. What the functions ask and leave is in specs/.
 ghost use mathlib.Core.Path.{_≡_};
 ghost use mathlib.Core.Bool.{false};
 ghost use mathlib.Core.List.{List};
-ghost use Prim.Native.Nat.{ℕ};
+ghost use Prim.Native.Nat.{ℕ, _≤_};
 ghost use Rattle.spec_fields.specs.Field.{Alignment};
 ghost use Rattle.text.specs.Text.{part};
-ghost use Rattle.spec_exi.specs.Tables.{Role, target, plain};
+ghost use Rattle.spec_exi.specs.Sizes.{maxStore};
+ghost use Rattle.names.specs.Texts.{roleOf, faultOf};
 ghost use Rattle.mem_values.specs.Hold.{FoundText};
 ghost use Rattle.read_field.specs.View.{alignmentOf};
 ghost use Rattle.read_literal.specs.Literal.{LiteralFit};
 ghost use Rattle.read_partition.specs.Strings.{asString, asLiteral};
 ghost use Rattle.read_values.specs.Values.{HitPre, NewPre, ValuePre, SoughtPre, asValue};
 ghost use Rattle.read_values.specs.Values.{asOwn, asAny, asNew, ValuePost, JoinsWithin};
-ghost use Rattle.read_values.specs.Texts.{Textual, TextPost};
+ghost use Rattle.read_values.specs.Texts.{TextPost};
 use read_field::Field;
 use read_partition::StringRead;
 use refusal::LIMIT;
 use refusal::LOOSE;
-use refusal::NAME;
 use refusal::REFERENCE;
 use sizes::MAX_VALUES;
 
@@ -162,52 +162,55 @@ pub fn read_value(
     }
 }
 
-// ---- Strings by no table
+// ---- strings by no table
 
-// A literal of n code points that joins no table.
-fn new_text(stream: &[u8], at: usize, n: u32, stored: usize, text: &mut [u32]) -> StringRead
+// What refuses the n code points after the store in this role, or 0.
+fn fault(text: &[u32], role: u32, stored: usize, n: u32) -> u32
+    requires { ⌜ stored ≤ maxStore ⌝ }
+    ensures { λ r. ⌜
+        r ≡ faultOf (roleOf role)
+        (part (now (text .entry)) (record { place = stored; size = n })) ⌝ }
+{
+    let x = text::look_up(text, stored as u32, n);
+    names::text_fault(role, x)
+}
+
+// A literal of n code points that joins no table, judged once they are laid.
+fn new_text(
+    role: u32,
+    stream: &[u8],
+    at: usize,
+    n: u32,
+    stored: usize,
+    text: &mut [u32],
+) -> StringRead
     requires { ⌜ LiteralFit (now stream) at (now text) stored ⌝ }
     ensures { λ r. ⌜
-        ((role : Role) → Textual role n → TextPost (asLiteral role n) (now (stream .entry)) at
-        (now (text .entry)) stored (now (text .exit)) r) ⌝ }
+        TextPost (asLiteral (roleOf role) n) (now (stream .entry)) at (now (text .entry)) stored
+        (now (text .exit)) r ⌝ }
     ensures { λ r. ⌜ r .joins ≡ false ⌝ }
 {
     let read = read_literal::read_literal(stream, at, text, stored, n);
     if read.number != 0 {
         return read_partition::refused(read.number, read.next, read.left, stored);
     }
+    let number = fault(text, role, stored, n);
+    if number != 0 {
+        return read_partition::dropped(number, read.next, n, stored, text);
+    }
     read_partition::laid(read.next, stored, n, 0, false, 0)
 }
 
-// A comment, or an instruction's text.
-pub fn read_plain(stream: &[u8], at: usize, stored: usize, text: &mut [u32]) -> StringRead
+// A target, a comment or an instruction's text, by the number of its role.
+pub fn read_text(role: u32, stream: &[u8], at: usize, stored: usize, text: &mut [u32]) -> StringRead
     requires { ⌜ LiteralFit (now stream) at (now text) stored ⌝ }
     ensures { λ r. ⌜
-        TextPost (asString plain) (now (stream .entry)) at (now (text .entry)) stored
+        TextPost (asString (roleOf role)) (now (stream .entry)) at (now (text .entry)) stored
         (now (text .exit)) r ⌝ }
     ensures { λ r. ⌜ r .joins ≡ false ⌝ }
 {
     match read_field::unsigned(stream, at) {
         Field::Refused(k) => read_partition::refused(k as u32, at, 0, stored),
-        Field::Value { value, next } => new_text(stream, next, value, stored, text),
-    }
-}
-
-// An instruction's target; NAME where it is empty.
-pub fn read_target(stream: &[u8], at: usize, stored: usize, text: &mut [u32]) -> StringRead
-    requires { ⌜ LiteralFit (now stream) at (now text) stored ⌝ }
-    ensures { λ r. ⌜
-        TextPost (asString target) (now (stream .entry)) at (now (text .entry)) stored
-        (now (text .exit)) r ⌝ }
-    ensures { λ r. ⌜ r .joins ≡ false ⌝ }
-{
-    match read_field::unsigned(stream, at) {
-        Field::Refused(k) => read_partition::refused(k as u32, at, 0, stored),
-        Field::Value { value, next } => {
-            if value == 0 {
-                return read_partition::refused(NAME, next, 0, stored);
-            }
-            new_text(stream, next, value, stored, text)
-        }
+        Field::Value { value, next } => new_text(role, stream, next, value, stored, text),
     }
 }

@@ -11,7 +11,7 @@ use Rattle.spec_fields.specs.Field.{Alignment}
 use Rattle.text.specs.Text.{Text, inside, part}
 use Rattle.spec_exi.specs.Sizes.{sizes, maxStore}
 use Rattle.spec_exi.specs.Event.{kindOf, mapEvent, stringsOf}
-use Rattle.spec_exi.specs.Tables.{Role, value, target, plain, stringBits}
+use Rattle.spec_exi.specs.Tables.{Role, value, target, commentText, instructionText, stringBits}
 use Rattle.spec_exi.specs.Grammar.{State}
 use Rattle.spec_exi.specs.Context.{Item, item, characterRole}
 use Rattle.spec_exi.specs.Lists.{every}
@@ -194,7 +194,7 @@ module _ {opening text work : List ℕ} {c : Core} (pre : ContentPre work c) whe
       one-item (post .meant w (p .valid) (p .writable) (few-rows (pre .bounded) (p .counts)))
 
   module _ (x : Part) {y : Text} (look : y ≡ part text (record { place = x .place; size = x .size }))
-      {r : StringJudged} (given : TextPost plain y (c .stored) r) where
+      {r : StringJudged} (given : TextPost commentText y (c .stored) r) where
     pub comment-refused : 0 < r .number
         → ContentPost opening text (Comment x) c work (stoppedAs (r .number) (c .stored))
     unfolding meaning mapEvent itemsAs
@@ -219,14 +219,14 @@ module _ {opening text work : List ℕ} {c : Core} (pre : ContentPre work c) whe
     target-refused h =
         plain-refused pre (Instruction t x) (λ written st. refl) h
         (λ w p. items-first (text-items (text-at text t look given) p) h
-        (item plain (partAt text x) ∷ []) {u = tablesIn w (c .stored)} {bits₁ = λ a. []} .fault)
+        (item instructionText (partAt text x) ∷ []) {u = tablesIn w (c .stored)} {bits₁ = λ a. []} .fault)
 
     module _ (z : r .number ≡ 0) {v : Text}
         (look₂ : v ≡ part text (record { place = x .place; size = x .size })) {q : StringJudged}
-        (given₂ : TextPost plain v (r .stored) q) where
+        (given₂ : TextPost instructionText v (r .stored) q) where
       both-items : {w : Rows} → Prepared opening text work c w
           → ItemsMean (tablesIn w (c .stored))
-          (item target (partAt text t) ∷ item plain (partAt text x) ∷ []) (q .number)
+          (item target (partAt text t) ∷ item instructionText (partAt text x) ∷ []) (q .number)
           (tablesIn w (q .stored))
           (λ a. stringBits 0 (partAt text t) ++ stringBits 0 (partAt text x))
       both-items p =

@@ -11,7 +11,7 @@ use Rattle.spec_exi.specs.Sizes.{sizes, maxStore, maxUris, maxNames, maxValues}
 use Rattle.spec_exi.specs.Event.{Event, CH, startDocument, endDocument, endElement}
 use Rattle.spec_exi.specs.Event.{startElement, attribute, characters, comment, instruction}
 use Rattle.spec_exi.specs.Event.{kindOf, nameOf, mapEvent, stringsOf}
-use Rattle.spec_exi.specs.Tables.{Tables, value, target, plain}
+use Rattle.spec_exi.specs.Tables.{Tables, value, target, commentText, instructionText}
 use Rattle.spec_exi.specs.Grammar.{State}
 use Rattle.spec_exi.specs.Context.{Item, item, characterRole, afterItems}
 use Rattle.spec_exi.specs.Strict.{itemsBits}
@@ -68,8 +68,8 @@ itemsAs written st endElement = []
 itemsAs written st (startElement q) = nameAs written false q
 itemsAs written st (attribute q v) = nameAs written true q ++ (item (value q) v ∷ [])
 itemsAs written st (characters v) = item (characterRole st) v ∷ []
-itemsAs written st (comment x) = item plain x ∷ []
-itemsAs written st (instruction x y) = item target x ∷ item plain y ∷ []
+itemsAs written st (comment x) = item commentText x ∷ []
+itemsAs written st (instruction x y) = item target x ∷ item instructionText y ∷ []
 
 -- The event's name is in its tables.
 unfoldable pub NamedHits : Tables → Event Text → Type 0

@@ -17,6 +17,9 @@ use event::Event;
 use event::Part;
 use mem_state::Core;
 use mem_state::Strings;
+use names::COMMENT;
+use names::INSTRUCTION;
+use names::TARGET;
 use write_qname::NameJudged;
 use write_values::NEITHER;
 use write_values::ValueJudged;
@@ -143,7 +146,7 @@ fn judge_comment(opening: &[u32], text: &[u32], value: Part, c: Core, work: &[u3
         (now (work .entry)) r ⌝ }
 {
     let x = text::look_up(text, value.place, value.size);
-    let v = write_values::judge_plain(x, c.stored);
+    let v = write_values::judge_text(COMMENT, x, c.stored);
     if v.number != 0 {
         return stopped(v.number, c.stored);
     }
@@ -166,12 +169,12 @@ fn judge_instruction(
         (now (work .entry)) r ⌝ }
 {
     let y = text::look_up(text, target.place, target.size);
-    let t = write_values::judge_target(y, c.stored);
+    let t = write_values::judge_text(TARGET, y, c.stored);
     if t.number != 0 {
         return stopped(t.number, c.stored);
     }
     let x = text::look_up(text, value.place, value.size);
-    let v = write_values::judge_plain(x, t.stored);
+    let v = write_values::judge_text(INSTRUCTION, x, t.stored);
     if v.number != 0 {
         return stopped(v.number, c.stored);
     }

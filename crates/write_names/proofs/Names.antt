@@ -14,7 +14,7 @@ use Rattle.spec_fields.proofs.Tests.{split}
 use Rattle.text.specs.Text.{Text}
 use Rattle.spec_exi.specs.Sizes.{sizes, maxString, maxStore, maxNames}
 use Rattle.spec_exi.specs.Tables.{Placed, Entry, Role, local, namesOf, partitionsOf, hit, literal, hitOr}
-use Rattle.spec_exi.specs.Tables.{formOf, formBits, added, nameAllowed}
+use Rattle.spec_exi.specs.Tables.{formOf, formBits, added, nameAllowed, textAllowed}
 use Rattle.spec_exi.specs.Context.{item}
 use Rattle.spec_exi.specs.Lists.{withinTables}
 use Rattle.spec_exi.specs.Writer.{Test, firstFailed, stringTests}
@@ -187,10 +187,10 @@ module _ (attr : Bool) (w : Rows) (u : ℕ) (x : Text) (names stored : ℕ) (val
         (own-count valid u inside (replicate stored 0) ∙ sym among-is) id-among)
 
     found-means : attr && isReserved (uriText (w .uris) u) x ≡ false → Means false (foundAs g stored)
-    unfolding nameAdded
+    unfolding nameAdded textAllowed
     found-means free =
         record {
-          string = hit-means role w stored x found-form few low found-written (found-allowed ∙ ap not free) valid
+          string = hit-means role w stored x found-form few low found-written refl (found-allowed ∙ ap not free) valid
               writable found-bits;
           row = λ _. found-inside;
           key = λ _. found-key;
@@ -199,9 +199,10 @@ module _ (attr : Bool) (w : Rows) (u : ℕ) (x : Text) (names stored : ℕ) (val
         }
 
     reserved-means : attr && isReserved (uriText (w .uris) u) x ≡ true → Means false (refusedAs 11 stored)
+    unfolding textAllowed
     reserved-means taken =
         record {
-          string = hit-refused role w stored x found-form few low found-written (found-allowed ∙ ap not taken);
+          string = hit-refused role w stored x found-form few low found-written refl (found-allowed ∙ ap not taken);
           row = λ z. absurd (omega (arith, z));
           key = λ z. absurd (omega (arith, z));
           text = λ z. absurd (omega (arith, z));
@@ -232,7 +233,8 @@ module _ (attr : Bool) (w : Rows) (u : ℕ) (x : Text) (names stored : ℕ) (val
 
     absent-fault : {number : ℕ} → number ≡ faultNumber (firstFailed tests)
         → number ≡ faultNumber (firstFailed (stringTests sizes (tablesIn w stored) (item role x)))
-    absent-fault f = literal-fault role w stored x absent-form short (ltb names maxNames) row-left f
+    unfolding textAllowed
+    absent-fault f = literal-fault role w stored x absent-form short refl (ltb names maxNames) row-left f
 
     abbrev entry : Entry ℕ
     entry = record { key = u; string = new }

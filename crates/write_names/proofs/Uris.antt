@@ -14,7 +14,7 @@ use Rattle.spec_fields.proofs.Tests.{split}
 use Rattle.text.specs.Text.{Text}
 use Rattle.spec_exi.specs.Sizes.{sizes, maxString, maxStore, maxUris}
 use Rattle.spec_exi.specs.Tables.{Placed, uri, partitionsOf, hit, literal, hitOr, formOf, formBits}
-use Rattle.spec_exi.specs.Tables.{added, nameAllowed}
+use Rattle.spec_exi.specs.Tables.{added, nameAllowed, textAllowed}
 use Rattle.spec_exi.specs.Context.{item}
 use Rattle.spec_exi.specs.Lists.{withinTables}
 use Rattle.spec_exi.specs.Writer.{Test, firstFailed, stringTests}
@@ -114,11 +114,11 @@ module _ (w : Rows) (x : Text) (uris stored : ℕ) (valid : Valid w) (writable :
     found-bits a = rw entries
 
     found-means : UriMeans w (uriAdded false w new) uris stored x (foundAs g stored)
-    unfolding uriAdded nameAllowed
+    unfolding uriAdded nameAllowed textAllowed
     found-means =
         record {
           string = hit-means uri w stored x found-form few low
-              (subst Written found-text (writable .uris g found-inside)) refl valid writable found-bits;
+              (subst Written found-text (writable .uris g found-inside)) refl refl valid writable found-bits;
           row = λ _. found-inside;
           text = λ _. found-text;
           hit = λ _ _. record { id = g; form = found-form };
@@ -144,9 +144,9 @@ module _ (w : Rows) (x : Text) (uris stored : ℕ) (valid : Valid w) (writable :
     absent-fault : {number : ℕ}
         → number ≡ faultNumber (firstFailed (literalTests x stored ++ left uris))
         → number ≡ faultNumber (firstFailed (stringTests sizes (tablesIn w stored) (item uri x)))
-    unfolding nameAllowed
+    unfolding nameAllowed textAllowed
     absent-fault f =
-        literal-fault uri w stored x absent-form short (ltb uris maxUris) row-left
+        literal-fault uri w stored x absent-form short refl (ltb uris maxUris) row-left
         (f ∙ ap faultNumber (sym (passed-test (literalTests x stored) (left uris) true name refl)))
 
     row-more : uris < length (withUri w new .uris)

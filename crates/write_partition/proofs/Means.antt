@@ -7,11 +7,11 @@ use mathlib.Core.List.{[], _∷_, _++_}
 use lib.ListN.{length, replicate, length-append}
 use Rattle.spec_fields.specs.Bits.{Bits}
 use Rattle.spec_fields.specs.Field.{Alignment}
-use Rattle.spec_fields.specs.Refusal.{numberOf, name, limit}
+use Rattle.spec_fields.specs.Refusal.{numberOf, character, name, limit}
 use Rattle.text.specs.Text.{Text}
 use Rattle.spec_exi.specs.Sizes.{sizes, maxString, maxStore}
 use Rattle.spec_exi.specs.Tables.{Role, partitionsOf, hit, literal, formOf, formBits, added}
-use Rattle.spec_exi.specs.Tables.{nameAllowed}
+use Rattle.spec_exi.specs.Tables.{nameAllowed, textAllowed}
 use Rattle.spec_exi.specs.Context.{item}
 use Rattle.spec_exi.specs.Lists.{withinTables}
 use Rattle.spec_exi.specs.Writer.{firstFailed, stringTests}
@@ -22,6 +22,7 @@ use Rattle.mem_rows.specs.Valid.{Valid}
 use Rattle.mem_rows.proofs.Alike.{rows-tables}
 use Rattle.write_partition.specs.Writable.{Written, Writable, Few, tablesIn}
 use Rattle.write_partition.specs.Judged.{faultNumber, literalTests, StringMeans}
+use Rattle.write_partition.proofs.Tests.{passed-test}
 use Rattle.write_partition.proofs.Strings.{long-tests, hit-after, hit-bits, hit-tests}
 use Rattle.write_partition.proofs.Strings.{literal-after, literal-bits, literal-tests}
 use Rattle.write_partition.proofs.Rows.{zeros, store-count, few-within}
@@ -51,10 +52,10 @@ module _ (role : Role) (w : Rows) (stored : ℕ) (x : Text) where
   -- ---- a hit
 
   module _ {j i : ℕ} (e : formOf (partitionsOf (tablesIn w stored) role) x ≡ hit j i) (few : Few w)
-      (low : stored ≤ maxStore) (judged : Written x) where
+      (low : stored ≤ maxStore) (judged : Written x) (whole : textAllowed role x ≡ true) where
     tests-are : firstFailed (stringTests sizes (tablesIn w stored) (item role x))
         ≡ firstFailed ((nameAllowed role x, name) ∷ [])
-    tests-are = hit-tests (tablesIn w stored) role x e judged (few-within few low)
+    tests-are = hit-tests (tablesIn w stored) role x e judged whole (few-within few low)
 
     pub hit-refused : nameAllowed role x ≡ false → {v : Rows} {stored′ : ℕ} {bits : Alignment → Bits}
         → StringMeans role w v stored x 11 stored′ bits
@@ -79,15 +80,16 @@ module _ (role : Role) (w : Rows) (stored : ℕ) (x : Text) where
   -- ---- a literal
 
   module _ (e : formOf (partitionsOf (tablesIn w stored) role) x ≡ literal) where
-    pub literal-fault : length x ≤ maxString → (left : Bool)
+    pub literal-fault : length x ≤ maxString → textAllowed role x ≡ true → (left : Bool)
         → (stored + length x ≤ maxStore → withinTables sizes (added (tablesIn w stored) role x) ≡ left)
         → {number : ℕ}
         → number ≡ faultNumber
         (firstFailed (literalTests x stored ++ ((nameAllowed role x, name) ∷ (left, limit) ∷ [])))
         → number ≡ faultNumber (firstFailed (stringTests sizes (tablesIn w stored) (item role x)))
-    literal-fault s left within f =
+    literal-fault s whole left within f =
         f ∙ ap faultNumber
-        (sym (literal-tests (tablesIn w stored) role x e (store-count w stored) s left within))
+        (sym (passed-test (literalTests x stored) _ (textAllowed role x) character whole)
+        ∙ sym (literal-tests (tablesIn w stored) role x e (store-count w stored) s left within))
 
     -- Of the store its length counts alone.
     pub literal-means : {v : Rows} {bits : Alignment → Bits}

@@ -10,12 +10,12 @@ use lib.Dec.{leb}
 use borrow.Author.Tests.{leb-true, le-leb, lt-leb}
 use Rattle.spec_fields.specs.Bits.{each}
 use Rattle.spec_fields.specs.Field.{Alignment, unsignedBits}
-use Rattle.spec_fields.specs.Refusal.{name, limit}
+use Rattle.spec_fields.specs.Refusal.{character, name, limit}
 use Rattle.spec_fields.proofs.Tests.{split, is-T, T-is, right}
 use Rattle.text.specs.Text.{Text}
 use Rattle.spec_exi.specs.Sizes.{sizes, maxUris, maxNames, maxValues, maxString, maxStore}
 use Rattle.spec_exi.specs.Tables.{Tables, Role, partitionsOf, hit, literal, formOf, stringBits}
-use Rattle.spec_exi.specs.Tables.{formBits, added, tablesAfter, nameAllowed}
+use Rattle.spec_exi.specs.Tables.{formBits, added, tablesAfter, nameAllowed, textAllowed}
 use Rattle.spec_exi.specs.Context.{Item, item, afterItem, afterItems}
 use Rattle.spec_exi.specs.Strict.{itemBits, itemsBits}
 use Rattle.spec_exi.specs.Lists.{short, withinTables}
@@ -104,16 +104,17 @@ module _ (t : Tables) (role : Role) (x : Text) {j i : ℕ}
   hit-bits a = rw e
 
   -- Of a text that was judged, NAME is left to be tested.
-  pub hit-tests : Written x → withinTables sizes t ≡ true
+  pub hit-tests : Written x → textAllowed role x ≡ true → withinTables sizes t ≡ true
       → firstFailed (stringTests sizes t (item role x))
       ≡ firstFailed ((nameAllowed role x, name) ∷ [])
   unfolding stringTests firstFailed short item
-  hit-tests w f =
+  hit-tests w b f =
       rw (
         hit-after,
         le-leb (length x) maxString (w .short),
         within-store t f,
         w .chars,
+        b,
         f,
       )
 
@@ -143,7 +144,8 @@ module _ (t : Tables) (role : Role) (x : Text) (e : formOf (partitionsOf t role)
   pub literal-tests : {stored : ℕ} → length (t .store) ≡ stored → length x ≤ maxString → (left : Bool)
       → (stored + length x ≤ maxStore → withinTables sizes (added t role x) ≡ left)
       → firstFailed (stringTests sizes t (item role x))
-      ≡ firstFailed (literalTests x stored ++ ((nameAllowed role x, name) ∷ (left, limit) ∷ []))
+      ≡ firstFailed (literalTests x stored
+      ++ ((textAllowed role x, character) ∷ (nameAllowed role x, name) ∷ (left, limit) ∷ []))
   unfolding stringTests firstFailed literalTests short item
   literal-tests {stored} l s left h =
       split (leb (stored + length x) maxStore)

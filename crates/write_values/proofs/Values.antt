@@ -15,6 +15,7 @@ use Rattle.text.specs.Text.{Text, isEmpty, allChars}
 use Rattle.spec_exi.specs.Sizes.{sizes, maxString, maxStore, maxValues}
 use Rattle.spec_exi.specs.Tables.{Placed, value, hit, literal, partitionsOf, formOf, formBits}
 use Rattle.spec_exi.specs.Tables.{newUri, newName, newEntry, newValue, laid, nameAllowed}
+use Rattle.spec_exi.specs.Tables.{textAllowed}
 use Rattle.spec_exi.specs.Context.{item}
 use Rattle.spec_exi.specs.Lists.{withinTables}
 use Rattle.spec_exi.specs.Writer.{firstFailed, stringTests}
@@ -135,7 +136,7 @@ module _ {text : List ℕ} {x : Text} {owner values stored : ℕ} {work : List �
         → formBits a (partitionsOf (tablesIn w stored) (value (nameAt w owner))) (hit j i) x
         ≡ valueBits work j i owner values x a)
         → ValuePost text x owner values stored work (foundAs j i stored)
-    unfolding nameAllowed valueAdded
+    unfolding nameAllowed textAllowed valueAdded
     value-found {j} {i} e l bits =
         record {
           refused = λ m. absurd (omega arith);
@@ -153,7 +154,7 @@ module _ {text : List ℕ} {x : Text} {owner values stored : ℕ} {work : List �
               let s : Standing work text owner values w =
               record { valid = valid; writable = writable; few = few; stand = stand; row = row } in
               hit-means (value (nameAt w owner)) w stored x (form-is s stored b f ∙ e) few (ask .store)
-              (hit-written s stored b f e) refl valid writable (bits w s);
+              (hit-written s stored b f e) refl refl valid writable (bits w s);
         }
 
     pub value-own : {i : ℕ} → r ≡ Local i
@@ -189,12 +190,13 @@ module _ {text : List ℕ} {x : Text} {owner values stored : ℕ} {work : List �
         empty-means : length x ≡ 0
             → StringMeans (value (nameAt w owner)) w w stored x 0 (stored + length x)
             (valueBits work neither 0 owner values x)
-        unfolding nameAllowed literalTests firstFailed faultNumber newUri newName newValue newEntry laid maxString
+        unfolding nameAllowed textAllowed literalTests firstFailed faultNumber newUri newName newValue newEntry laid
+            maxString
         empty-means z =
             let i : isEmpty x ≡ true = is-empty x ∙ eq-eqb (length x) 0 z in
             let fits : stored + length x ≤ maxStore = omega (arith, z, ask .store) in
             literal-means (value (nameAt w owner)) w stored x form
-            (literal-fault (value (nameAt w owner)) w stored x form (omega (arith, z)) true
+            (literal-fault (value (nameAt w owner)) w stored x form (omega (arith, z)) refl true
             (λ l. within-none (tablesIn w stored) x within (store-fits l) (value (nameAt w owner)) refl refl (rw i))
             (rw (le-leb (stored + length x) maxStore fits, empty-chars x z)))
             (literal-bits s stored x)
@@ -211,9 +213,9 @@ module _ {text : List ℕ} {x : Text} {owner values stored : ℕ} {work : List �
               (firstFailed (literalTests x stored ++ ((ltb values maxValues, limit) ∷ [])))
               → number ≡ faultNumber
               (firstFailed (stringTests sizes (tablesIn w stored) (item (value (nameAt w owner)) x)))
-          unfolding nameAllowed
+          unfolding nameAllowed textAllowed
           new-tests l e =
-              literal-fault (value (nameAt w owner)) w stored x form l (ltb values maxValues)
+              literal-fault (value (nameAt w owner)) w stored x form l refl (ltb values maxValues)
               (λ m.
               within-value (tablesIn w stored) x within (store-fits m) (nameAt w owner) full
               ∙ ap (λ n. ltb n maxValues) (values-count w (replicate stored 0) ∙ s .stand .holds .count))

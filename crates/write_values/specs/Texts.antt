@@ -4,10 +4,10 @@ use mathlib.Core.Path.{_≡_}
 use mathlib.Core.Bool.{false}
 use mathlib.Core.List.{List, [], _∷_, _++_}
 use lib.ListN.{length}
-use Rattle.spec_fields.specs.Refusal.{name, limit}
+use Rattle.spec_fields.specs.Refusal.{character, name, limit}
 use Rattle.text.specs.Text.{Text}
 use Rattle.spec_exi.specs.Sizes.{sizes, maxStore}
-use Rattle.spec_exi.specs.Tables.{Role, nameAllowed, stringBits}
+use Rattle.spec_exi.specs.Tables.{Role, nameAllowed, textAllowed, stringBits}
 use Rattle.spec_exi.specs.Lists.{short}
 use Rattle.spec_exi.specs.Writer.{Test, firstFailed}
 use Rattle.mem_rows.specs.Rows.{Rows}
@@ -20,10 +20,12 @@ use Rattle.write_partition.specs.Judged.{StringMeans}
 pub record TextPre (stored : ℕ) : Type 0 where
   pub store : stored ≤ maxStore
 
--- Its length, the store, its characters, and the name of a target (scope, "Refusal numbers").
+-- Its length, the store, its characters, what a comment or an instruction's text may not have, and
+-- the name of a target (scope, "Refusal numbers"; P6).
 unfoldable pub textTests : Role → Text → ℕ → List Test
 textTests role x stored =
-    ((short sizes x, limit) ∷ literalTests x stored) ++ ((nameAllowed role x, name) ∷ [])
+    ((short sizes x, limit) ∷ literalTests x stored)
+    ++ ((textAllowed role x, character) ∷ (nameAllowed role x, name) ∷ [])
 
 -- It is laid each time and joins no table, so the rows stay.
 pub record TextPost (role : Role) (x : Text) (stored : ℕ) (r : StringJudged) : Type 0 where

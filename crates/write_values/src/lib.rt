@@ -4,7 +4,7 @@
 ghost use mathlib.Core.Path.{_≡_};
 ghost use Prim.Native.Nat.{_+_, _≤_};
 ghost use Rattle.spec_exi.specs.Sizes.{maxStore};
-ghost use Rattle.spec_exi.specs.Tables.{target, plain};
+ghost use Rattle.names.specs.Texts.{roleOf};
 ghost use Rattle.read_field.specs.View.{alignmentOf};
 ghost use Rattle.write_field.specs.Written.{Put};
 ghost use Rattle.write_values.specs.Texts.{TextPre, TextPost};
@@ -14,7 +14,6 @@ ghost use Rattle.write_values.specs.Values.{valueBits, PutValuePre};
 use mem_values::Form;
 use refusal::CHARACTER;
 use refusal::LIMIT;
-use refusal::NAME;
 use sizes::MAX_STORE;
 use sizes::MAX_STRING;
 use sizes::MAX_VALUES;
@@ -22,10 +21,10 @@ use write_partition::StringJudged;
 
 // ---- strings by no table
 
-// Judges a comment, or an instruction's text.
-pub fn judge_plain(x: &[u32], stored: usize) -> StringJudged
+// Judges a target, a comment or an instruction's text, by the number of its role.
+pub fn judge_text(role: u32, x: &[u32], stored: usize) -> StringJudged
     requires { ⌜ TextPre stored ⌝ }
-    ensures { λ r. ⌜ TextPost plain (now (x .entry)) stored r ⌝ }
+    ensures { λ r. ⌜ TextPost (roleOf role) (now (x .entry)) stored r ⌝ }
 {
     if MAX_STRING < x.len() {
         return write_partition::refused(LIMIT, stored);
@@ -34,22 +33,11 @@ pub fn judge_plain(x: &[u32], stored: usize) -> StringJudged
     if fault != 0 {
         return write_partition::refused(fault, stored);
     }
+    let number = names::text_fault(role, x);
+    if number != 0 {
+        return write_partition::refused(number, stored);
+    }
     write_partition::literal(0, stored, x.len(), false, 0)
-}
-
-// Judges an instruction's target.
-pub fn judge_target(x: &[u32], stored: usize) -> StringJudged
-    requires { ⌜ TextPre stored ⌝ }
-    ensures { λ r. ⌜ TextPost target (now (x .entry)) stored r ⌝ }
-{
-    let r = judge_plain(x, stored);
-    if r.number != 0 {
-        return r;
-    }
-    if !names::target_allowed(x) {
-        return write_partition::refused(NAME, stored);
-    }
-    r
 }
 
 // ---- values

@@ -1,11 +1,13 @@
-use Rattle.read_values.proofs.Texts.{text-refused, text-laid}
+-- `new_text` meets its contract: each return is one law.
 use mathlib.Core.Path.{refl}
+use Rattle.read_values.proofs.News.{new-room}
+use Rattle.read_values.proofs.Texts.{text-cut, text-refused, text-laid}
 use borrow.Author.Needs.{needs}
 use Rattle.read_values.proofs.new_text.Statement.{statement}
 use Rattle.read_values.proofs.new_text.Tie as tie
 
 read-literal-requires : tie.Need-read-literal-requires
-read-literal-requires c κs = (c .before .before .before .pre)
+read-literal-requires c κs = c .before .before .before .pre
 
 refused-requires : tie.Need-refused-requires
 refused-requires c κs = search needs
@@ -14,27 +16,61 @@ same-length : tie.Need-same-length
 same-length c = search needs
 
 returns : tie.Need-returns
-returns c = rw (c .refused .ensures) (
-  (λ role k. text-refused
-      (c .before .before .before .before .before .before .before .before .before .pre)
-      (c .before .before .before .before .before .read-literal .ensures) role
-      (c .before .if1 .taken)),
-  refl,
-)
+returns c =
+    let read = c .before .before .before .before .before in
+    let pre = read .before .before .before .before .pre in
+    rw (c .refused .ensures) (
+      text-cut pre (read .read-literal .ensures) _ (c .before .if1 .taken),
+      refl,
+    )
 
-laid-requires : tie.Need-laid-requires
-laid-requires c κs = (c .before .before .before .before .read-literal .ensures) .ends (c .if1 .left)
+fault-requires : tie.Need-fault-requires
+fault-requires c κs = search needs
+
+dropped-requires : tie.Need-dropped-requires
+dropped-requires c κs =
+    let read = c .before .before .before .before .before .before .before .before in
+    let pre = read .before .before .before .before .pre in
+    let if1 = c .before .before .before .before .if1 in
+    new-room pre (read .read-literal .ensures) (if1 .left)
 
 same-length-2 : tie.Need-same-length-2
 same-length-2 c = search needs
 
 returns-2 : tie.Need-returns-2
-returns-2 c = rw (c .laid .ensures) (
-  (λ role k. text-laid (c .before .before .before .before .before .before .before .before .before
-      .pre) (c .before .before .before .before .before .read-literal .ensures) role
-      (c .before .if1 .left) k),
-  refl,
-)
+returns-2 c =
+    let dropped = c .before .before in
+    let if2 = dropped .before .before .if2 in
+    let fault = dropped .before .before .before in
+    let if1 = fault .before .before .if1 in
+    let read = fault .before .before .before .before .before .before in
+    let pre = read .before .before .before .before .pre in
+    rw (dropped .dropped .ensures .is) (
+      text-refused pre (read .read-literal .ensures) _ (if1 .left) (fault .fault .ensures)
+          (if2 .taken) (dropped .dropped .ensures .text-is),
+      refl,
+    )
+
+laid-requires : tie.Need-laid-requires
+laid-requires c κs =
+    let read = c .before .before .before .before .before .before .before in
+    let if1 = c .before .before .before .if1 in
+    read .read-literal .ensures .ends (if1 .left)
+
+same-length-3 : tie.Need-same-length-3
+same-length-3 c = search needs
+
+returns-3 : tie.Need-returns-3
+returns-3 c =
+    let fault = c .before .before in
+    let if1 = fault .before .before .if1 in
+    let read = fault .before .before .before .before .before .before in
+    let pre = read .before .before .before .before .pre in
+    rw (c .laid .ensures) (
+      text-laid pre (read .read-literal .ensures) _ (if1 .left) (fault .fault .ensures)
+          (c .before .if2 .left),
+      refl,
+    )
 
 pub new-text-spec : {M : Type 1} → statement M
 new-text-spec =
@@ -44,6 +80,10 @@ new-text-spec =
     refused-requires
     same-length
     returns
-    laid-requires
+    fault-requires
+    dropped-requires
     same-length-2
-    returns-2)
+    returns-2
+    laid-requires
+    same-length-3
+    returns-3)

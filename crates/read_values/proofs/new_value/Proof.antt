@@ -36,7 +36,7 @@ seek-requires c κs =
 dropped-requires : tie.Need-dropped-requires
 dropped-requires c κs = new-room
     (c .before .before .before .before .before .before .before .before .before .before
-    .before .before .before .pre)
+    .before .before .before .pre .literal)
     (c .before .before .before .before .before .before .before .before .read-literal
     .ensures) (c .before .before .before .before .if1 .left)
 
@@ -79,7 +79,7 @@ returns-3 c = rw (c .laid .ensures) (
 dropped-requires-2 : tie.Need-dropped-requires-2
 dropped-requires-2 c κs =
     new-room (c .before .before .before .before .before .before .before .before .before
-    .before .before .before .before .before .before .pre)
+    .before .before .before .before .before .before .pre .literal)
     (c .before .before .before .before .before .before .before .before .before .before
     .read-literal .ensures) (c .before .before .before .before .before .before .if1 .left)
 

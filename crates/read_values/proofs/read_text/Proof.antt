@@ -1,11 +1,9 @@
-use Rattle.read_values.proofs.Texts.{plain-parted, number-refused, number-read}
+use Rattle.read_values.proofs.Texts.{number-refused, number-read}
 use Rattle.read_values.proofs.Bounds.{in-stream, number-fits}
-use Rattle.read_values.specs.Texts.{isPlain}
-use Rattle.spec_exi.specs.Tables.{plain}
 use mathlib.Core.Path.{refl}
 use borrow.Author.Needs.{needs}
-use Rattle.read_values.proofs.read_plain.Statement.{statement}
-use Rattle.read_values.proofs.read_plain.Tie as tie
+use Rattle.read_values.proofs.read_text.Statement.{statement}
+use Rattle.read_values.proofs.read_text.Tie as tie
 
 unsigned-requires : tie.Need-unsigned-requires
 unsigned-requires c κs = in-stream (c .before .before .pre)
@@ -30,8 +28,8 @@ new-text-requires c κs =
 returns : tie.Need-returns
 returns c = rw (c .refused .ensures) (
   number-refused (c .before .before .before .before .before .before .before .pre)
-      (c .before .before .before .before .unsigned .ensures) plain
-      plain-parted (c .before .before .k .given .1),
+      (c .before .before .before .before .unsigned .ensures) _
+      (c .before .before .k .given .1),
   refl,
 )
 
@@ -42,15 +40,14 @@ returns-2 : tie.Need-returns-2
 returns-2 c = (
   number-read
       (c .before .before .before .before .before .before .before .before .before .before .pre)
-      (c .before .before .before .before .before .before .before .unsigned .ensures) plain
-      plain-parted (c .before .before .before .before .before .value .given .1)
-      (c .before .before .new-text .ensures .0 plain isPlain),
-  c .before .before .new-text .ensures
-      .1,
+      (c .before .before .before .before .before .before .before .unsigned .ensures) _
+      (c .before .before .before .before .before .value .given .1)
+      (c .before .before .new-text .ensures .0),
+  c .before .before .new-text .ensures .1,
 )
 
-pub read-plain-spec : {M : Type 1} → statement M
-read-plain-spec =
+pub read-text-spec : {M : Type 1} → statement M
+read-text-spec =
     tie.close
     (tie.spec
     unsigned-requires
