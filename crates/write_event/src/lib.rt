@@ -64,7 +64,8 @@ fn kind_of(e: Event) -> u32
     }
 }
 
-fn is_inside(text: &[u32], x: Part) -> bool
+// Whether a string of the list lies inside its store.
+pub fn is_inside(text: &[u32], x: Part) -> bool
     ensures { λ r. ⌜ r ≡ inside (now (text .entry)) (asSpan x) ⌝ }
 {
     text::is_inside(text, x.place, x.size)

@@ -1,12 +1,65 @@
-// One event of a list, written: quickly where a learned production fits it, else by the general
-// path. What a step asks and leaves is in specs of `write_event`.
+// One event of a list, written: quickly where its production is learned or it is an end tag, else by
+// the general path. What a step asks and leaves is in specs of `write_event`.
 ghost use Rattle.settings.specs.Meant.{settingsFrom};
 ghost use Rattle.event.specs.Cells.{meaning};
+ghost use Rattle.event.specs.declared.Event.the-variants.{EndElement, Characters};
 ghost use Rattle.write_event.specs.Step.{StepPre, StepPost};
 use event::Event;
+use event::Part;
+use event_code::CH;
+use event_code::EE;
 use mem_state::Core;
+use mem_state::IN_ELEMENT;
 use settings::Settings;
 use stepped::Stepped;
+
+fn characters(
+    o: Settings,
+    stream: &mut [u8],
+    opening: &[u32],
+    text: &[u32],
+    value: Part,
+    n: usize,
+    c: Core,
+    work: &mut [u32],
+) -> Stepped
+    requires { ⌜ StepPre (now stream) (now work) c n ⌝ }
+    ensures { λ r. ⌜
+        StepPost (settingsFrom o) (now (opening .entry)) (now (text .entry))
+        (meaning (Characters value)) (now (stream .entry)) (now (work .entry)) c n
+        (now (stream .exit)) (now (work .exit)) r ⌝ }
+{
+    let row = grammar_match::find_learned(c.mode, c.top, CH, 0, c.learned, work);
+    if row == 0 {
+        let e = Event::Characters(value);
+        return write_event::write_event(o, stream, opening, text, e, n, c, work);
+    }
+    write_known::known_characters(o.aligned, stream, text, value, row, n, c, work)
+}
+
+fn end_element(
+    o: Settings,
+    stream: &mut [u8],
+    opening: &[u32],
+    text: &[u32],
+    n: usize,
+    c: Core,
+    work: &mut [u32],
+) -> Stepped
+    requires { ⌜ StepPre (now stream) (now work) c n ⌝ }
+    ensures { λ r. ⌜
+        StepPost (settingsFrom o) (now (opening .entry)) (now (text .entry)) (meaning EndElement)
+        (now (stream .entry)) (now (work .entry)) c n (now (stream .exit)) (now (work .exit)) r ⌝ }
+{
+    let row = grammar_match::find_learned(c.mode, c.top, EE, 0, c.learned, work);
+    if row != 0 {
+        return write_tags::known_end(o.aligned, stream, row, n, c, work);
+    }
+    if c.mode == IN_ELEMENT {
+        return write_tags::end_tag(o.aligned, stream, n, c, work);
+    }
+    write_event::write_event(o, stream, opening, text, Event::EndElement, n, c, work)
+}
 
 // Writes one event, before which n have come, after the core's position.
 pub fn step(
@@ -24,5 +77,9 @@ pub fn step(
         StepPost (settingsFrom o) (now (opening .entry)) (now (text .entry)) (meaning e)
         (now (stream .entry)) (now (work .entry)) c n (now (stream .exit)) (now (work .exit)) r ⌝ }
 {
-    write_event::write_event(o, stream, opening, text, e, n, c, work)
+    match e {
+        Event::EndElement => end_element(o, stream, opening, text, n, c, work),
+        Event::Characters(value) => characters(o, stream, opening, text, value, n, c, work),
+        _ => write_event::write_event(o, stream, opening, text, e, n, c, work),
+    }
 }
