@@ -4,10 +4,11 @@ use mathlib.Core.Path.{_≡_}
 use mathlib.Core.Bool.{Bool, true, false, cond}
 use mathlib.Core.List.{List}
 use lib.ListN.{length, drop}
-use lib.Dec.{T}
+use lib.Dec.{T, eqb}
 use Rattle.spec_fields.specs.Bits.{Bits}
-use Rattle.spec_fields.specs.Field.{choiceBits}
+use Rattle.spec_fields.specs.Field.{Alignment, choiceBits}
 use Rattle.spec_exi.specs.Settings.{Settings}
+use Rattle.event_code.specs.Numbers.{inElement}
 use Rattle.mem_chain.specs.Chain.{below}
 use Rattle.grammar_codes.specs.declared.Place.{Place}
 use Rattle.grammar_codes.specs.Table.{tableOf, levelAt, valuesAt, fixedBits}
@@ -33,6 +34,13 @@ codeBitsAs s mode p code =
     let among = code .count + valuesAt (s .comments) (s .instructions) mode 0 in
     cond (code .learned) (choiceBits (s .alignment) among (below among (code .part)))
     (placedBits s mode p (code .count))
+
+-- In an element, a code of one part: v among the learned productions and the state's own values.
+unfoldable pub ownValues : ℕ → ℕ
+ownValues mode = cond (eqb mode inElement) 2 1
+
+unfoldable pub firstBits : Alignment → ℕ → ℕ → ℕ → Bits
+firstBits a mode count v = choiceBits a (count + ownValues mode) v
 
 -- ---- what is asked
 
@@ -60,3 +68,9 @@ pub record CodePre (s : Settings) (stream : List ℕ) (at mode : ℕ) (p : Place
   pub near : at + 48 ≤ farthest
   pub few : code .count ≤ 4096
   pub place : InTable s mode p
+
+pub record FirstPre (stream : List ℕ) (at count v : ℕ) : Type 0 where
+  pub blank : T (blankFrom stream at)
+  pub near : at ≤ farthest
+  pub few : count ≤ 4096
+  pub low : v ≤ count

@@ -1,9 +1,13 @@
 // The event code of an event (EXI 6.2, 8.4.3), written. What the functions ask and leave is in
 // specs/Codes.antt.
+ghost use mathlib.Core.Path.{_≡_};
 ghost use Rattle.settings.specs.Meant.{settingsFrom};
+ghost use Rattle.read_field.specs.View.{alignmentOf};
 ghost use Rattle.write_field.specs.Written.{Put};
 ghost use Rattle.write_production.specs.Codes.{FixedPre, placedBits, LowerPre, lowerBits};
-ghost use Rattle.write_production.specs.Codes.{CodePre, codeBitsAs};
+ghost use Rattle.write_production.specs.Codes.{CodePre, codeBitsAs, ownValues, FirstPre};
+ghost use Rattle.write_production.specs.Codes.{firstBits};
+use event_code::IN_ELEMENT;
 use grammar_codes::Place;
 use settings::Settings;
 
@@ -61,4 +65,34 @@ pub fn put_code(o: Settings, stream: &mut [u8], at: usize, mode: u32, p: Place, 
         return write_field::put_choice(o.aligned, stream, at, among, part);
     }
     put_fixed(o, stream, at, mode, p, code.count)
+}
+
+// ---- in an element
+
+// How many values the first part of a code has beside the learned productions'.
+fn own_values(mode: u32) -> u32
+    ensures { λ r. ⌜ r ≡ ownValues mode ⌝ }
+{
+    if mode == IN_ELEMENT {
+        return 2;
+    }
+    1
+}
+
+// Writes a code of one part in an element: a learned production's, or the end tag's in its content.
+pub fn put_first(
+    aligned: bool,
+    stream: &mut [u8],
+    at: usize,
+    mode: u32,
+    count: u32,
+    v: u32,
+) -> usize
+    requires { ⌜ FirstPre (now stream) at count v ⌝ }
+    ensures { λ r. ⌜
+        Put (now (stream .entry)) at (firstBits (alignmentOf aligned) mode count v)
+        (now (stream .exit)) r ⌝ }
+{
+    let among = count + own_values(mode);
+    write_field::put_choice(aligned, stream, at, among, v)
 }

@@ -39,9 +39,10 @@ use Rattle.open_elements.proofs.Over.{context-over, context-going}
 use Rattle.write_field.proofs.Written.{put-then, put-blank, put-nothing}
 use Rattle.write_partition.proofs.Tests.{fault-none}
 use Rattle.write_qname.specs.Premise.{contextIn}
-use Rattle.write_step.specs.declared.Stepped.{Stepped}
-use Rattle.write_step.specs.Step.{maxListBits, StepPre, StepPut, Stands}
-use Rattle.write_step.specs.Step.{StepLeaves, StepMeans, StepPost}
+use Rattle.stepped.specs.declared.Stepped.{Stepped}
+use Rattle.stepped.specs.Stepped.{coreOf}
+use Rattle.write_event.specs.Step.{maxListBits, StepPre, StepPut, Stands}
+use Rattle.write_event.specs.Step.{StepLeaves, StepMeans, StepPost}
 use Rattle.write_run.specs.declared.Run.{Run}
 use Rattle.write_run.specs.Events.{Steps, none-written}
 use Rattle.write_run.specs.Run.{stoppedAs, RunPre, Joins, none-joined, one-joined, Running}
@@ -292,14 +293,14 @@ module _ {s : Settings} {opening cells : List ℕ} {text : Text} {stream₀ work
       (p : StepPost s opening text e stream work (t .core) n stream′ work′ r) where
     -- These cells of the array are the open elements after the event.
     abbrev pub KeptAfter : List ℕ → Type 0
-    KeptAfter rows = Kept (t .core) (r .core) (openedIn t) rows
+    KeptAfter rows = Kept (t .core) (coreOf r) (openedIn t) rows
 
-    pub turn-stored : t .core .depth < r .core .depth
-        → KeptAfter (set (t .opened) (t .core .depth) (r .core .top))
-    turn-stored = stored-row t (r .core) (i .so-far .array) (p .bounded .depth)
+    pub turn-stored : t .core .depth < r .depth
+        → KeptAfter (set (t .opened) (t .core .depth) (r .top))
+    turn-stored = stored-row t (coreOf r) (i .so-far .array) (p .bounded .depth)
 
-    pub turn-same : r .core .depth ≤ t .core .depth → KeptAfter (t .opened)
-    turn-same = same-rows t (r .core) (i .so-far .array)
+    pub turn-same : r .depth ≤ t .core .depth → KeptAfter (t .opened)
+    turn-same = same-rows t (coreOf r) (i .so-far .array)
 
     module _ (h : Next cells n cell e) where
       abbrev later-events : List Stored
@@ -326,12 +327,12 @@ module _ {s : Settings} {opening cells : List ℕ} {text : Text} {stream₀ work
       -- ---- one event more
 
       module _ (z : r .number ≡ 0) {rows : List ℕ} (kept : KeptAfter rows) {top : ℕ}
-          (inner : top ≡ innermostIn rows (r .core .depth)) where
+          (inner : top ≡ innermostIn rows (r .depth)) where
         abbrev written : StepPut stream work (t .core) n stream′ work′ r
         written = p .put z
 
         abbrev later : State
-        later = record { core = withTop (r .core) top; opened = rows }
+        later = record { core = withTop (coreOf r) top; opened = rows }
 
         module _ (w : Rows) (a : Stands opening text work₀ (st .core) w (openedIn st))
             (b : Topped (st .core) (openedIn st)) where
@@ -351,7 +352,7 @@ module _ {s : Settings} {opening cells : List ℕ} {text : Text} {stream₀ work
               (i .so-far .late)
 
           abbrev leaves : StepLeaves s opening text event (t .core) (before .rows) (openedIn t)
-              (written .bits) work′ (r .core)
+              (written .bits) work′ (coreOf r)
           leaves = means .leaves z
 
           -- By the definitions' context: it has the event's fault and bits, for they are the same
@@ -367,13 +368,13 @@ module _ {s : Settings} {opening cells : List ℕ} {text : Text} {stream₀ work
           opened-is : openedIn later ≡ leaves .opened′
           opened-is = kept .is (leaves .opened′) (leaves .turned)
 
-          stands : Stands opening text work′ (r .core) (leaves .rows) (openedIn later)
+          stands : Stands opening text work′ (coreOf r) (leaves .rows) (openedIn later)
           stands =
-              subst (Stands opening text work′ (r .core) (leaves .rows)) (sym opened-is)
+              subst (Stands opening text work′ (coreOf r) (leaves .rows)) (sym opened-is)
               (leaves .after)
 
           -- The innermost is a row of a name.
-          row-low : 0 < r .core .depth → getD rows (r .core .depth - 1) 0 < nameRows
+          row-low : 0 < r .depth → getD rows (r .depth - 1) 0 < nameRows
           unfolding maxNames
           row-low d =
               let m = stands .represents in
@@ -381,17 +382,17 @@ module _ {s : Settings} {opening cells : List ℕ} {text : Text} {stream₀ work
               omega (
                 arith,
                 o,
-                last-top (r .core .depth) rows d,
+                last-top (r .depth) rows d,
                 m .counts .names,
                 p .bounded .names,
               )
 
           -- The definitions' next context and that of the rows differ at most in places.
           context-after : Alike (next s (before .reached) event)
-              (contextIn (r .core) (leaves .rows) (openedIn later))
+              (contextIn (coreOf r) (leaves .rows) (openedIn later))
           context-after =
               alike-then (next-alike (before .context) s event)
-              (subst (λ o. Alike (next s context event) (contextIn (r .core) (leaves .rows) o))
+              (subst (λ o. Alike (next s context event) (contextIn (coreOf r) (leaves .rows) o))
               (sym opened-is) (leaves .context))
 
           taken-is : take (n + 1) (eventsOf cells) ≡ take n (eventsOf cells) ++ (some e ∷ [])
@@ -425,27 +426,27 @@ module _ {s : Settings} {opening cells : List ℕ} {text : Text} {stream₀ work
                     };
                 topped =
                     record {
-                      is = λ d. last-top (r .core .depth) rows d
-                          ∙ sym (inner ∙ innermost-is rows (r .core .depth) d (row-low d));
+                      is = λ d. last-top (r .depth) rows d
+                          ∙ sym (inner ∙ innermost-is rows (r .depth) d (row-low d));
                     };
                 context = context-after;
               }
 
         -- The event's rows are all that joined.
-        joins-after : Joins (st .core) work₀ (n + 1) (withTop (r .core) top) work′
+        joins-after : Joins (st .core) work₀ (n + 1) (withTop (coreOf r) top) work′
         joins-after =
             subst (λ (d : Core). Joins (st .core) work₀ (n + 1) (withTop d top) work′)
             (sym (written .core-is))
             (subst (Joins (st .core) work₀ (n + 1) _) (sym (written .work-is))
-            (one-joined (written .strings) (written .growth) (r .core .at) (r .core .stored) top
+            (one-joined (written .strings) (written .growth) (r .at) (r .stored) top
             (i .so-far .joins) (i .so-far .bounded) (written .rows)))
 
-        late-after : r .core .tag ≤ n + 2
+        late-after : r .tag ≤ n + 2
         late-after =
             omega (
               arith,
               ap (λ (d : Core). d .tag) (written .core-is),
-              after-late (t .core) (r .core .at) (r .core .stored) (written .strings)
+              after-late (t .core) (r .at) (r .stored) (written .strings)
                   (written .growth) n (i .so-far .late),
             )
 
@@ -464,7 +465,7 @@ module _ {s : Settings} {opening cells : List ℕ} {text : Text} {stream₀ work
                     put = put-then (i .so-far .put) (written .put);
                     near = omega (arith, i .so-far .near, written .near);
                     bounded = bounded-top top
-                        (omega (arith, inner, innermost-small rows (r .core .depth))) (p .bounded);
+                        (omega (arith, inner, innermost-small rows (r .depth))) (p .bounded);
                     array = kept .size;
                     few = omega (arith, one-less (h .more), i .so-far .few);
                     listed =

@@ -24,7 +24,7 @@ use Rattle.open_elements.specs.declared.State.{State}
 use Rattle.open_elements.specs.Opened.{openedIn, withTop}
 use Rattle.write_field.specs.Written.{blankFrom, Put}
 use Rattle.write_qname.specs.Premise.{contextIn}
-use Rattle.write_step.specs.Step.{maxEventBits, RowBounds, Stands}
+use Rattle.write_event.specs.Step.{maxEventBits, RowBounds, Stands}
 use Rattle.write_run.specs.declared.Run.{Run}
 use Rattle.write_run.specs.Events.{Steps}
 

@@ -5,6 +5,7 @@ ghost use Rattle.settings.specs.Meant.{settingsFrom};
 ghost use Rattle.event.specs.Cells.{eventsOf};
 ghost use Rattle.write_run.specs.Run.{stoppedAs, RunPre, RunPost};
 use event::Loaded;
+use mem_state::Core;
 use mem_state::IS_OVER;
 use open_elements::State;
 use refusal::LIMIT;
@@ -63,13 +64,25 @@ pub fn put_events(
                 if r.number != 0 {
                     return stopped(r.number, n, c.at);
                 }
-                let mut d = r.core;
                 let before = c.depth;
-                let after = d.depth;
+                let after = r.depth;
                 if before < after {
-                    t.opened[before] = d.top as u16;
+                    t.opened[before] = r.top as u16;
                 }
-                d.top = open_elements::innermost(&t.opened, after);
+                let top = open_elements::innermost(&t.opened, after);
+                let d = Core {
+                    at: r.at,
+                    stored: r.stored,
+                    uris: r.uris,
+                    names: r.names,
+                    values: r.values,
+                    learned: r.learned,
+                    grammars: r.grammars,
+                    mode: r.mode,
+                    top,
+                    depth: after,
+                    tag: r.tag,
+                };
                 t.core = d;
             }
         }

@@ -36,7 +36,7 @@ use Rattle.write_field.proofs.Written.{put-blank}
 use Rattle.write_header.specs.Header.{HeaderPut}
 use Rattle.write_partition.specs.Writable.{Written, Writable, sourceOf}
 use Rattle.write_qname.specs.Premise.{Begun, contextIn}
-use Rattle.write_step.specs.Step.{Stands}
+use Rattle.write_event.specs.Step.{Stands}
 use Rattle.write_run.specs.declared.Run.{Run}
 use Rattle.write_run.specs.Run.{RunPre, RunPost}
 use Rattle.write_run.proofs.Turns.{progress-near, index-few}

@@ -16,7 +16,7 @@ use Rattle.settings.specs.Meant.{numbersOf}
 use Rattle.settings.specs.declared.SettingNumbers.{SettingNumbers}
 use Rattle.event.specs.Cells.{eventsOf}
 use Rattle.write_field.specs.Written.{blankFrom, Put}
-use Rattle.write_step.specs.Step.{maxListBits}
+use Rattle.write_event.specs.Step.{maxListBits}
 use Rattle.write_run.specs.declared.Run.{Run}
 use Rattle.write_run.specs.Run.{RunMeans}
 use Rattle.writer.specs.declared.WriteReply as declared

@@ -142,32 +142,32 @@ returns-4 c =
 
 cast-t : tie.Need-cast-t Inv-loop μ-loop
 cast-t c =
-    let step = c .before .before .before .before .before .before .before .before .before in
+    let step = c .before .before .before .before .before .before .before .before in
     omega (arith, (step .step .ensures) .bounded .top)
 
 mul-t : tie.Need-mul-t Inv-loop μ-loop
 unfolding maxOpen
 mul-t c =
     let if4 = c .before in
-    let step = if4 .before .before .before .before .before .before .before .before in
+    let step = if4 .before .before .before .before .before .before .before in
     omega (arith, (step .step .ensures) .bounded .depth, if4 .if4 .taken)
 
 element-write-t : tie.Need-element-write-t Inv-loop μ-loop
 unfolding maxOpen
 element-write-t c =
     let if4 = c .before in
-    let step = if4 .before .before .before .before .before .before .before .before in
+    let step = if4 .before .before .before .before .before .before .before in
     omega (arith, (step .step .ensures) .bounded .depth, if4 .if4 .taken)
 
 innermost-requires : tie.Need-innermost-requires Inv-loop μ-loop
 innermost-requires c κs =
-    let step = c .before .before .before .before .before .before .before .before .before .before in
+    let step = c .before .before .before .before .before .before .before .before .before in
     (step .step .ensures) .bounded .depth
 
 add-n : tie.Need-add-n Inv-loop μ-loop
 unfolding maxEvents
 add-n c =
-    let loop = c .before .before .before .before .before .before .before .before .before .before
+    let loop = c .before .before .before .before .before .before .before .before .before
     .before .before .before .before .before .before .before .before .before .before .before .before
     in
     omega (arith, (loop .loop .inv) .so-far .few)
@@ -175,14 +175,14 @@ add-n c =
 add-cell : tie.Need-add-cell Inv-loop μ-loop
 unfolding maxEvents
 add-cell c =
-    let loop = c .before .before .before .before .before .before .before .before .before .before
+    let loop = c .before .before .before .before .before .before .before .before .before
     .before .before .before .before .before .before .before .before .before .before .before .before
     in
     omega (arith, (loop .loop .inv) .so-far .few, (loop .loop .inv) .place)
 
 loop-less : tie.Need-loop-less Inv-loop μ-loop
 loop-less c =
-    let loop-test = c .before .before .before .before .before .before .before .before .before
+    let loop-test = c .before .before .before .before .before .before .before .before
     .before .before .before .before .before .before .before .before .before .before .before .before
     in
     omega (arith, loop-test .loop-test .taken)
@@ -190,7 +190,7 @@ loop-less c =
 loop-again : tie.Need-loop-again Inv-loop μ-loop
 loop-again c =
     let if4 = c .before .before .before in
-    let if3 = if4 .before .before in
+    let if3 = if4 .before in
     let step = if3 .before .before .before .before .before .before in
     let e = step .before .before .before .before .before in
     let load = e .before .before in

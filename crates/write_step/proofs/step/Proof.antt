@@ -1,64 +1,64 @@
-use Rattle.write_step.proofs.Steps.{step-refused, put-asks, commit-asks, step-done}
-use native.Mathlib.Omega.{arith}
 use borrow.Author.Needs.{needs}
 use Rattle.write_step.proofs.step.Statement.{statement}
 use Rattle.write_step.proofs.step.Tie as tie
 
-judge-event-requires : tie.Need-judge-event-requires
-judge-event-requires c κs = search needs
+enum-told : tie.Need-enum-told
+enum-told c = search needs
+
+end-element-requires : tie.Need-end-element-requires
+end-element-requires c κs = search needs
+
+enum-known-e : tie.Need-enum-known-e
+enum-known-e c = search needs
+
+characters-requires : tie.Need-characters-requires
+characters-requires c κs = search needs
+
+write-event-requires : tie.Need-write-event-requires
+write-event-requires c κs = search needs
 
 same-length : tie.Need-same-length
 same-length c = search needs
 
-returns : tie.Need-returns
-returns c =
-    let pre = c .before .before .before .before .before .before .before .before .pre in
-    let judge-event = c .before .before .judge-event in
-    step-refused pre (judge-event .ensures) (omega (arith, c .if1 .taken))
-
-put-event-requires : tie.Need-put-event-requires
-put-event-requires c κs =
-    let pre = c .before .before .before .before .before .before .before .before .before .before .pre
-    in
-    let judge-event = c .before .before .before .before .judge-event in
-    let if1 = c .before .before .if1 in
-    put-asks pre (judge-event .ensures) (if1 .left)
-
-commit-requires : tie.Need-commit-requires
-commit-requires c κs =
-    let pre = c .before .before .before .before .before .before .before .before .before .before
-    .before .before .before .before .pre in
-    let judge-event = c .before .before .before .before .before .before .before .before .judge-event
-    in
-    let if1 = c .before .before .before .before .before .before .if1 in
-    commit-asks pre (judge-event .ensures) (if1 .left)
-
 same-length-2 : tie.Need-same-length-2
 same-length-2 c = search needs
+
+returns : tie.Need-returns
+returns c = rw (c .before .before .before .before .before .before .before .enum-told .given .1) (c .before .before .before .before .end-element .ensures)
 
 same-length-3 : tie.Need-same-length-3
 same-length-3 c = search needs
 
+same-length-4 : tie.Need-same-length-4
+same-length-4 c = search needs
+
 returns-2 : tie.Need-returns-2
-returns-2 c =
-    let pre = c .before .before .before .before .before .before .before .before .before .before
-    .before .before .before .before .before .before .before .pre in
-    let judge-event = c .before .before .before .before .before .before .before .before .before
-    .before .before .judge-event in
-    let if1 = c .before .before .before .before .before .before .before .before .before .if1 in
-    let put-event = c .before .before .before .before .before .before .put-event in
-    let commit = c .before .before .commit in
-    step-done pre (judge-event .ensures) (if1 .left) (put-event .ensures) (commit .ensures)
+returns-2 c = rw (c .before .before .before .before .before .before .before .before .e .given .1) (c .before .before .before .before .characters .ensures)
+
+same-length-5 : tie.Need-same-length-5
+same-length-5 c = search needs
+
+same-length-6 : tie.Need-same-length-6
+same-length-6 c = search needs
+
+returns-3 : tie.Need-returns-3
+returns-3 c = search needs
 
 pub step-spec : {M : Type 1} → statement M
 step-spec =
     tie.close
     (tie.spec
-    judge-event-requires
+    enum-told
+    end-element-requires
+    enum-known-e
+    characters-requires
+    write-event-requires
     same-length
-    returns
-    put-event-requires
-    commit-requires
     same-length-2
+    returns
     same-length-3
-    returns-2)
+    same-length-4
+    returns-2
+    same-length-5
+    same-length-6
+    returns-3)

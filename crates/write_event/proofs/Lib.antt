@@ -1,0 +1,12 @@
+pub mod Fault
+pub mod Events
+pub mod Places
+pub mod Names
+pub mod Joins
+pub mod Coded
+pub mod Bits
+pub mod Taken
+pub mod Judged
+pub mod Returns
+pub mod Puts
+pub mod Steps

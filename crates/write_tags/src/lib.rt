@@ -1,0 +1,66 @@
+// Quick steps: an event without a value that teaches nothing, as are elements whose production is
+// learned and end tags in an element's content. Work memory is not written. What the functions ask
+// and leave is in specs/Tags.antt.
+ghost use Prim.Native.Nat.{_<_};
+ghost use mathlib.Core.Path.{_≡_};
+ghost use Rattle.spec_exi.specs.Sizes.{maxEvents};
+ghost use Rattle.spec_exi.specs.Event.{EE};
+ghost use Rattle.event.specs.declared.Event.the-variants.{EndElement};
+ghost use Rattle.event_code.specs.Numbers.{inElement};
+ghost use Rattle.mem_state.specs.Holds.{Bounded};
+ghost use Rattle.read_field.specs.View.{alignmentOf};
+ghost use Rattle.grammar_match.specs.Found.{FoundHere};
+ghost use Rattle.stepped.specs.Stepped.{steppedAs};
+ghost use Rattle.write_event.specs.Step.{StepPre};
+ghost use Rattle.write_known.specs.Known.{LearnedPre};
+ghost use Rattle.write_tags.specs.Tags.{endedAt, TagPost};
+use event_code::EE;
+use mem_state::Core;
+use stepped::Stepped;
+
+// ---- an end tag
+
+// The answer after it.
+fn ended(at: usize, n: usize, c: Core) -> Stepped
+    requires { ⌜ Bounded c ⌝ }
+    requires { ⌜ 0 < c .depth ⌝ }
+    requires { ⌜ n < maxEvents ⌝ }
+    ensures { λ r. ⌜ r ≡ steppedAs 0 (endedAt c at n) ⌝ }
+{
+    let mode = mem_state::mode_after(EE, c.mode, c.depth);
+    let tag = stepped::next_tag(n);
+    stepped::moved_on(c, at, c.stored, false, false, mode, c.top, c.depth - 1, tag)
+}
+
+// Writes an end tag whose production is learned, in this row counted from 1.
+pub fn known_end(
+    aligned: bool,
+    stream: &mut [u8],
+    row: u32,
+    n: usize,
+    c: Core,
+    work: &[u32],
+) -> Stepped
+    requires { ⌜ StepPre (now stream) (now work) c n ⌝ }
+    requires { ⌜ LearnedPre EE (now work) c 0 row ⌝ }
+    ensures { λ r. ⌜
+        TagPost (alignmentOf aligned) EndElement (now (stream .entry)) (now (work .entry)) c n
+        (now (stream .exit)) r ⌝ }
+{
+    let at = write_known::put_learned(aligned, stream, c.at, c.mode, c.top, row, work);
+    ended(at, n, c)
+}
+
+// Writes the end tag in an element's content, which is not learned there.
+pub fn end_tag(aligned: bool, stream: &mut [u8], n: usize, c: Core, work: &[u32]) -> Stepped
+    requires { ⌜ StepPre (now stream) (now work) c n ⌝ }
+    requires { ⌜ c .mode ≡ inElement ⌝ }
+    requires { ⌜ FoundHere (now work) (c .mode) (c .top) 4 0 (c .learned) 0 ⌝ }
+    ensures { λ r. ⌜
+        TagPost (alignmentOf aligned) EndElement (now (stream .entry)) (now (work .entry)) c n
+        (now (stream .exit)) r ⌝ }
+{
+    let count = grammar_match::count_here(c.mode, c.top, work);
+    let at = write_production::put_first(aligned, stream, c.at, c.mode, count, count);
+    ended(at, n, c)
+}
