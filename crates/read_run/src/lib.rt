@@ -10,6 +10,7 @@ use refusal::LIMIT;
 use settings::Settings;
 use sizes::CELLS_PER_EVENT;
 use sizes::MAX_EVENTS;
+use sizes::MAX_OPEN;
 
 // The number of the refusal or 0, how many events are read, and the state after them.
 pub struct Advanced {
@@ -18,9 +19,16 @@ pub struct Advanced {
     pub state: State,
 }
 
-fn stopped(number: u32, index: usize, state: State) -> Advanced
-    ensures { λ r. ⌜ r ≡ record { number = number; index = index; state = state } ⌝ }
+fn stopped(number: u32, index: usize, core: Core, opened: [u16; MAX_OPEN]) -> Advanced
+    ensures { λ r. ⌜
+        r
+        ≡ record {
+          number = number;
+          index = index;
+          state = record { core = core; opened = opened };
+        } ⌝ }
 {
+    let state = State { core, opened };
     Advanced {
         number,
         index,
@@ -45,25 +53,25 @@ pub fn advance(
         (now (text .entry)) (now (work .entry)) st first (now (events .exit)) (now (text .exit))
         (now (work .exit)) r ⌝ }
 {
-    let mut t = st;
+    let mut c = st.core;
+    let mut opened = st.opened;
     let mut n = first;
-    while t.core.mode != IS_OVER {
+    while c.mode != IS_OVER {
         if MAX_EVENTS <= n {
-            return stopped(LIMIT, n, t);
+            return stopped(LIMIT, n, c, opened);
         }
-        let c = t.core;
         let cell = CELLS_PER_EVENT * n;
         let r = read_step::step(o, stream, c, cell, n, events, text, work);
         if r.number != 0 {
-            return stopped(r.number, n, t);
+            return stopped(r.number, n, c, opened);
         }
         let before = c.depth;
         let after = r.depth;
         if before < after {
-            t.opened[before] = r.top as u16;
+            opened[before] = r.top as u16;
         }
-        let top = open_elements::innermost(&t.opened, after);
-        let d = Core {
+        let top = open_elements::innermost(&opened, after);
+        c = Core {
             at: r.at,
             stored: r.stored,
             uris: r.uris,
@@ -76,8 +84,7 @@ pub fn advance(
             depth: after,
             tag: r.tag,
         };
-        t.core = d;
         n += 1;
     }
-    stopped(0, n, t)
+    stopped(0, n, c, opened)
 }
