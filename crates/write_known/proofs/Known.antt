@@ -9,7 +9,7 @@ use lib.Dec.{ltb}
 use borrow.Author.Tests.{ltb-false}
 use Rattle.spec_fields.specs.Bits.{Bits}
 use Rattle.spec_fields.specs.Field.{Alignment}
-use Rattle.spec_fields.specs.Refusal.{numberOf, limit, shape, place}
+use Rattle.spec_fields.specs.Refusal.{numberOf, place}
 use Rattle.spec_fields.proofs.Tests.{split}
 use Rattle.text.specs.Text.{inside}
 use Rattle.spec_exi.specs.Event.{kindOf, stringsOf}
@@ -38,7 +38,7 @@ use Rattle.write_production.specs.declared.Code.{Code}
 use Rattle.write_production.specs.Codes.{codeBitsAs, firstBits}
 use Rattle.write_production.proofs.First.{learned-first}
 use Rattle.write_event.specs.Step.{StepPre, StepPost}
-use Rattle.write_event.specs.Judge.{CodeHere, refusedAs, judgedAs, afterContent, JudgePost}
+use Rattle.write_event.specs.Judge.{CodeHere, judgedAs, afterContent, JudgePost}
 use Rattle.write_event.specs.Judge.{judgedBits}
 use Rattle.write_event.proofs.Returns.{place-stops, content-stops, event-judged}
 use Rattle.write_event.proofs.Steps.{judge-asks, step-refused, step-done}
@@ -137,27 +137,8 @@ module _ {stream work : List ℕ} {c : Core} {n : ℕ} (pre : StepPre stream wor
           event-judged opening text s e (judge-asks pre) k (placed .at) other (sym within) refl
           content z (record { code = code; code-is = here; is = refl })
 
-      -- A second attribute of one name.
-      pub quick-equal : allowedIn work (c .tag) kind (x .strings .«name_row») ≡ false
-          → StepPost s opening text (meaning e) stream work c n stream work
-          (steppedAs (numberOf shape) c)
-      unfolding afterContent numberOf
-      quick-equal a =
-          let f : afterContent work c kind (placed .p) x code ≡ refusedAs 14 c = rw a refl in
-          step-refused pre (subst (JudgePost s opening text e work c) f judged) (omega arith)
-
       module _ (allowed : allowedIn work (c .tag) kind (x .strings .«name_row») ≡ true) {g : Growth}
           (growth-is : growthOf work c kind (code .learned) (x .strings) ≡ g) where
-        -- A size that is passed.
-        pub quick-limit : fitsIn c g ≡ false
-            → StepPost s opening text (meaning e) stream work c n stream work
-            (steppedAs (numberOf limit) c)
-        unfolding afterContent numberOf
-        quick-limit f =
-            let h : afterContent work c kind (placed .p) x code ≡ refusedAs 12 c =
-            rw (allowed, growth-is, f) refl in
-            step-refused pre (subst (JudgePost s opening text e work c) h judged) (omega arith)
-
         accepted : fitsIn c g ≡ true → JudgePost s opening text e work c (judgedAs (placed .p) code x g)
         unfolding afterContent
         accepted f =

@@ -1,2 +1,4 @@
 pub mod Known
+pub mod Names
 pub mod Values
+pub mod Attributes

@@ -96,7 +96,7 @@ module _ {stream work : List ℕ} {c : Core} {n : ℕ} (pre : StepPre stream wor
       }
 
 -- The value's bits, by its part of the store and in the settings' alignment.
-kept-put : (text : List ℕ) {p : Part} {y : Text}
+pub kept-put : (text : List ℕ) {p : Part} {y : Text}
     → y ≡ part text (record { place = p .place; size = p .size }) → {a b : Alignment} → b ≡ a
     → {mid : List ℕ} {next : ℕ} {v : ValueJudged} {owner values : ℕ} {work stream′ work′ : List ℕ}
     {at : ℕ} → ValueKept a mid next y p v owner values work stream′ work′ at

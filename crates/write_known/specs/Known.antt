@@ -2,18 +2,20 @@
 -- (crates/write_event/specs/Step.antt).
 use Prim.Native.Nat.{ℕ, _≤_, _<_}
 use mathlib.Core.Path.{_≡_}
+use mathlib.Core.Bool.{true}
 use mathlib.Core.List.{List}
 use lib.ListN.{length}
 use lib.Dec.{T}
 use Rattle.spec_fields.specs.Field.{Alignment}
-use Rattle.text.specs.Text.{Text}
+use Rattle.text.specs.Text.{Text, inside}
 use Rattle.spec_exi.specs.Settings.{Settings}
-use Rattle.spec_exi.specs.Sizes.{maxLearned}
+use Rattle.spec_exi.specs.Sizes.{maxEvents, maxLearned}
 use Rattle.spec_exi.specs.Event.{Kind}
 use Rattle.spec_exi.specs.Grammar.{kindNumber}
 use Rattle.event.specs.declared.Part.{Part}
 use Rattle.event.specs.declared.Event as declared
-use Rattle.event.specs.Cells.{meaning}
+use Rattle.event.specs.declared.Event.the-variants.{Attribute}
+use Rattle.event.specs.Cells.{asSpan, meaning}
 use Rattle.mem_layout.specs.Layout.{nameRows, workCells}
 use Rattle.mem_state.specs.declared.Core.{Core}
 use Rattle.mem_state.specs.Commit as commit
@@ -27,6 +29,7 @@ use Rattle.write_values.specs.Values.{PutValuePre, valueBits}
 use Rattle.write_qname.specs.Qnames.{joiningOf}
 use Rattle.write_production.specs.Codes.{firstBits}
 use Rattle.write_event.specs.Step.{StepPost}
+use Rattle.write_known.specs.Names.{Named}
 
 -- ---- the code
 
@@ -73,3 +76,11 @@ pub record KnownPost (a : Alignment) (text : List ℕ) (e : declared.Event) (str
     (c : Core) (n : ℕ) (stream′ work′ : List ℕ) (r : Stepped) : Type 0 where
   pub steps : (s : Settings) → s .alignment ≡ a → (opening : List ℕ)
       → StepPost s opening text (meaning e) stream work c n stream′ work′ r
+
+-- The same of an attribute, whatever its number: it leaves the mark.
+pub record AttributePost (a : Alignment) (text : List ℕ) (value : Part) (name : ℕ)
+    (stream work : List ℕ) (c : Core) (stream′ work′ : List ℕ) (r : Stepped) : Type 0 where
+  pub steps : (n : ℕ) → n < maxEvents → (s : Settings) → s .alignment ≡ a → (opening : List ℕ)
+      (uri local : Part) → inside text (asSpan uri) ≡ true → inside text (asSpan local) ≡ true
+      → Named opening text true uri local c work name
+      → StepPost s opening text (meaning (Attribute uri local value)) stream work c n stream′ work′ r

@@ -2,16 +2,74 @@
 // the general path. What a step asks and leaves is in specs of `write_event`.
 ghost use Rattle.settings.specs.Meant.{settingsFrom};
 ghost use Rattle.event.specs.Cells.{meaning};
+ghost use Rattle.event.specs.declared.Event.the-variants.{StartElement, Attribute};
 ghost use Rattle.event.specs.declared.Event.the-variants.{EndElement, Characters};
 ghost use Rattle.write_event.specs.Step.{StepPre, StepPost};
 use event::Event;
 use event::Part;
+use event_code::AT;
 use event_code::CH;
 use event_code::EE;
+use event_code::SE;
 use mem_state::Core;
 use mem_state::IN_ELEMENT;
+use mem_state::IN_TAG;
 use settings::Settings;
+use sizes::MAX_OPEN;
 use stepped::Stepped;
+
+fn start_element(
+    o: Settings,
+    stream: &mut [u8],
+    opening: &[u32],
+    text: &[u32],
+    uri: Part,
+    local: Part,
+    n: usize,
+    c: Core,
+    work: &mut [u32],
+) -> Stepped
+    requires { ⌜ StepPre (now stream) (now work) c n ⌝ }
+    ensures { λ r. ⌜
+        StepPost (settingsFrom o) (now (opening .entry)) (now (text .entry))
+        (meaning (StartElement uri local)) (now (stream .entry)) (now (work .entry)) c n
+        (now (stream .exit)) (now (work .exit)) r ⌝ }
+{
+    let f = write_known::learned_name(opening, text, SE, uri, local, c, work);
+    let has = mem_learned::has_grammar(work, f.name);
+    if (f.row == 0) | !has | (MAX_OPEN <= c.depth) {
+        let e = Event::StartElement(uri, local);
+        return write_event::write_event(o, stream, opening, text, e, n, c, work);
+    }
+    write_tags::known_element(o.aligned, stream, f.name, f.row, n, c, work)
+}
+
+fn attribute(
+    o: Settings,
+    stream: &mut [u8],
+    opening: &[u32],
+    text: &[u32],
+    uri: Part,
+    local: Part,
+    value: Part,
+    n: usize,
+    c: Core,
+    work: &mut [u32],
+) -> Stepped
+    requires { ⌜ StepPre (now stream) (now work) c n ⌝ }
+    ensures { λ r. ⌜
+        StepPost (settingsFrom o) (now (opening .entry)) (now (text .entry))
+        (meaning (Attribute uri local value)) (now (stream .entry)) (now (work .entry)) c n
+        (now (stream .exit)) (now (work .exit)) r ⌝ }
+{
+    let f = write_known::learned_name(opening, text, AT, uri, local, c, work);
+    let marked = mem_marks::is_marked(work, f.name, c.tag);
+    if (f.row == 0) | marked | (c.mode != IN_TAG) {
+        let e = Event::Attribute(uri, local, value);
+        return write_event::write_event(o, stream, opening, text, e, n, c, work);
+    }
+    write_known::known_attribute(o.aligned, stream, text, value, f.name, f.row, c, work)
+}
 
 fn characters(
     o: Settings,
@@ -78,6 +136,12 @@ pub fn step(
         (now (stream .entry)) (now (work .entry)) c n (now (stream .exit)) (now (work .exit)) r ⌝ }
 {
     match e {
+        Event::StartElement(uri, local) => {
+            start_element(o, stream, opening, text, uri, local, n, c, work)
+        }
+        Event::Attribute(uri, local, value) => {
+            attribute(o, stream, opening, text, uri, local, value, n, c, work)
+        }
         Event::EndElement => end_element(o, stream, opening, text, n, c, work),
         Event::Characters(value) => characters(o, stream, opening, text, value, n, c, work),
         _ => write_event::write_event(o, stream, opening, text, e, n, c, work),

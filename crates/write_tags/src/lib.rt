@@ -3,20 +3,58 @@
 // and leave is in specs/Tags.antt.
 ghost use Prim.Native.Nat.{_<_};
 ghost use mathlib.Core.Path.{_≡_};
-ghost use Rattle.spec_exi.specs.Sizes.{maxEvents};
-ghost use Rattle.spec_exi.specs.Event.{EE};
+ghost use mathlib.Core.Bool.{true};
+ghost use Rattle.spec_exi.specs.Sizes.{maxEvents, maxOpen};
+ghost use Rattle.spec_exi.specs.Event.{SE, EE};
 ghost use Rattle.event.specs.declared.Event.the-variants.{EndElement};
 ghost use Rattle.event_code.specs.Numbers.{inElement};
+ghost use Rattle.mem_learned.specs.Grammars.{flagIn};
 ghost use Rattle.mem_state.specs.Holds.{Bounded};
 ghost use Rattle.read_field.specs.View.{alignmentOf};
 ghost use Rattle.grammar_match.specs.Found.{FoundHere};
 ghost use Rattle.stepped.specs.Stepped.{steppedAs};
 ghost use Rattle.write_event.specs.Step.{StepPre};
 ghost use Rattle.write_known.specs.Known.{LearnedPre};
-ghost use Rattle.write_tags.specs.Tags.{endedAt, TagPost};
+ghost use Rattle.write_tags.specs.Tags.{endedAt, TagPost, ElementPost};
 use event_code::EE;
 use mem_state::Core;
+use mem_state::IN_TAG;
 use stepped::Stepped;
+
+// ---- an element
+
+// Writes a start element whose name has this row and a grammar, where one more may be open.
+pub fn known_element(
+    aligned: bool,
+    stream: &mut [u8],
+    name: u32,
+    row: u32,
+    n: usize,
+    c: Core,
+    work: &[u32],
+) -> Stepped
+    requires { ⌜ StepPre (now stream) (now work) c n ⌝ }
+    requires { ⌜ LearnedPre SE (now work) c name row ⌝ }
+    requires { ⌜ flagIn (now work) name ≡ true ⌝ }
+    requires { ⌜ c .depth < maxOpen ⌝ }
+    ensures { λ r. ⌜
+        ElementPost (alignmentOf aligned) name (now (stream .entry)) (now (work .entry)) c n
+        (now (stream .exit)) r ⌝ }
+{
+    let at = write_known::put_learned(aligned, stream, c.at, c.mode, c.top, row, work);
+    let tag = stepped::next_tag(n);
+    stepped::moved_on(
+        c,
+        at,
+        c.stored,
+        false,
+        false,
+        IN_TAG,
+        name,
+        c.depth + 1,
+        tag,
+    )
+}
 
 // ---- an end tag
 
