@@ -4,7 +4,7 @@ use native.Mathlib.Omega.{arith}
 use mathlib.Core.Logic.{⊎-elim}
 use mathlib.Core.Path.{sym, subst, _∙_}
 use Rattle.settings.specs.Meant.{settingsFrom}
-use Rattle.spec_exi.specs.Sizes.{maxEvents, maxOpen, cellsPerEvent}
+use Rattle.spec_exi.specs.Sizes.{maxEvents, maxOpen}
 use Rattle.open_elements.specs.declared.State.{State}
 use Rattle.read_run.specs.Run.{Progress}
 use Rattle.read_run.proofs.Turns.{progress-start, same-events, same-text, turn-asks}
@@ -19,7 +19,7 @@ Inv-loop o stream first events₀ text₀ work₀ t₀ n₀ events text work t n
     Progress (settingsFrom o) stream events₀ text₀ work₀ t₀ n₀ events text work t n
 
 abbrev μ-loop : tie.MeasureT-loop
-μ-loop o stream first events₀ text₀ work₀ t₀ n₀ events text work t n = 4096 - n
+μ-loop o stream first events₀ text₀ work₀ t₀ n₀ events text work t n = maxEvents - n
 
 loop-holds : tie.Need-loop-holds Inv-loop μ-loop
 loop-holds c = progress-start _ (c .before .before .before .before .pre)
@@ -56,7 +56,7 @@ mul-cell : tie.Need-mul-cell Inv-loop μ-loop
 mul-cell c = omega (arith, c .before .if1 .left)
 
 step-requires : tie.Need-step-requires Inv-loop μ-loop
-unfolding maxEvents cellsPerEvent
+unfolding maxEvents
 step-requires c κs =
     let if1 = c .before .before .before .before in
     let loop = if1 .before .before in
@@ -89,7 +89,7 @@ same-length-6 c =
     work .work .given ∙ (loop .loop .inv) .work-size
 
 returns-2 : tie.Need-returns-2 Inv-loop μ-loop
-unfolding maxEvents cellsPerEvent
+unfolding maxEvents
 returns-2 c =
     let if2 = c .before in
     let step = if2 .before .before .before .before .before .before .before .before in
@@ -135,13 +135,14 @@ add-n c =
     omega (arith, if1 .if1 .left)
 
 loop-less : tie.Need-loop-less Inv-loop μ-loop
+unfolding maxEvents
 loop-less c =
     let if1 = c .before .before .before .before .before .before .before .before .before
     .before .before .before .before .before .before .before .before in
     omega (arith, if1 .if1 .left)
 
 loop-again : tie.Need-loop-again Inv-loop μ-loop
-unfolding maxEvents cellsPerEvent
+unfolding maxEvents
 loop-again c =
     let before = c .before .before .before in
     let if3 = before in
