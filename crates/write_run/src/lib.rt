@@ -5,7 +5,7 @@ ghost use Rattle.settings.specs.Meant.{settingsFrom};
 ghost use Rattle.event.specs.Cells.{eventsOf};
 ghost use Rattle.write_run.specs.Run.{stoppedAs, RunPre, RunPost};
 use event::Loaded;
-use mem_state::IS_OVER;
+use event_code::IS_OVER;
 use open_elements::State;
 use refusal::LIMIT;
 use refusal::SHAPE;

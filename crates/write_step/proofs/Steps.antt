@@ -6,7 +6,7 @@ use mathlib.Core.Bool.{Bool, true, false, not}
 use mathlib.Core.List.{List}
 use lib.ListN.{length}
 use borrow.Author.Tests.{not-true, not-false}
-use Rattle.spec_fields.specs.Refusal.{numberOf}
+use Rattle.spec_fields.specs.Refusal.{numberOf, numberLimit, numberShape}
 use Rattle.text.specs.Text.{part}
 use Rattle.spec_exi.specs.Sizes.{maxUris, maxNames, maxValues, maxLearned}
 use Rattle.spec_exi.specs.Settings.{Settings}
@@ -62,7 +62,7 @@ module _ {work : List ℕ} {c : Core} {kind : ℕ} (p : Place) (x : Content) {co
     (h : CodeHere work c kind (x .strings .«name_row») code) {g : Growth}
     (e : g ≡ growthOf work c kind (code .learned) (x .strings)) {may : Bool}
     (m : may ≡ allowedIn work (c .tag) kind (x .strings .«name_row»)) where
-  pub grammars-equal : not may ≡ true → GrammarsPost work c kind p x (refusedAs 14 c)
+  pub grammars-equal : not may ≡ true → GrammarsPost work c kind p x (refusedAs numberShape c)
   unfolding afterContent numberOf
   grammars-equal n =
       record { code = code; code-is = h; is = rw (sym m, not-true may n) }
@@ -74,7 +74,7 @@ module _ {work : List ℕ} {c : Core} {kind : ℕ} (p : Place) (x : Content) {co
     fits-so : fitsIn c (growthOf work c kind (code .learned) (x .strings)) ≡ fit
     fits-so = ap (fitsIn c) (sym e) ∙ sym f
 
-    pub grammars-limit : not fit ≡ true → GrammarsPost work c kind p x (refusedAs 12 c)
+    pub grammars-limit : not fit ≡ true → GrammarsPost work c kind p x (refusedAs numberLimit c)
     unfolding afterContent numberOf
     grammars-limit n =
         record { code = code; code-is = h; is = rw (allowed, fits-so, not-true fit n) }

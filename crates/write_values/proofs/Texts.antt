@@ -8,7 +8,7 @@ use lib.ListN.{length, replicate}
 use lib.Dec.{leb}
 use borrow.Author.Tests.{leb-true, leb-false, le-leb, lt-leb, not-true, not-false}
 use Rattle.spec_fields.specs.Field.{Alignment}
-use Rattle.spec_fields.specs.Refusal.{numberOf, name, limit}
+use Rattle.spec_fields.specs.Refusal.{numberOf, name, limit, numberName, numberLimit}
 use Rattle.spec_fields.proofs.Tests.{split}
 use Rattle.text.specs.Text.{Text}
 use Rattle.spec_exi.specs.Sizes.{sizes, maxString, maxStore}
@@ -176,7 +176,7 @@ module _ {role : Role} (r : Textual role) {x : Text} {stored : ℕ} (low : store
 -- ---- a comment, or an instruction's text
 
 module _ (x : Text) {stored : ℕ} (low : stored ≤ maxStore) where
-  pub plain-long : maxString < length x → TextPost plain x stored (refusedAs 12 stored)
+  pub plain-long : maxString < length x → TextPost plain x stored (refusedAs numberLimit stored)
   plain-long h =
       text-refused isPlain low (omega arith)
       (first-number plain x stored (omega arith) (long-number x stored h))
@@ -220,7 +220,7 @@ module _ {x : Text} {stored : ℕ} (low : stored ≤ maxStore) {r : StringJudged
     target-fits : stored + length x ≤ maxStore
     target-fits = omega (arith, p .store, ap (λ (q : StringJudged). q .stored) (p .judged z))
 
-    pub target-unnamed : not b ≡ true → TextPost target x stored (refusedAs 11 stored)
+    pub target-unnamed : not b ≡ true → TextPost target x stored (refusedAs numberName stored)
     target-unnamed n =
         text-refused isTarget low (omega arith)
         (number-unnamed target x stored (p .written z) target-fits (sym e ∙ not-true b n))
