@@ -248,7 +248,7 @@ events-stored n l e h =
     rw (
       append-assoc,
       events-append n (take (cellsPerEvent * n) l)
-      (cellsOf e ++ drop (cellsPerEvent * n + cellsPerEvent) l) whole,
+          (cellsOf e ++ drop (cellsPerEvent * n + cellsPerEvent) l) whole,
       events-cells,
     )
 
