@@ -61,7 +61,6 @@ cells-length (comment x) = refl
 cells-length (instruction x y) = refl
 
 pub cells-per-event : (e : Event Span) → length (cellsOf e) ≡ cellsPerEvent
-unfolding cellsPerEvent
 cells-per-event e = cells-length e
 
 -- What was stored is loaded.
@@ -88,20 +87,20 @@ reads-is (suc n) xs at h =
     rw (drop-cons xs at 0 inside) (ap (λ (l : List ℕ). getD xs at 0 ∷ l) (reads-is n xs (suc at) (omega arith)))
 
 -- Nine cells are a row.
-pub row-at : (xs : List ℕ) (at : ℕ) → at + 9 ≤ length xs
+pub row-at : (xs : List ℕ) (at : ℕ) → at + cellsPerEvent ≤ length xs
     → row (getD xs at 0) (spanAt xs (at + 1) (at + 2)) (spanAt xs (at + 3) (at + 4))
     (spanAt xs (at + 5) (at + 6)) (spanAt xs (at + 7) (at + 8))
-    ≡ take 9 (drop at xs)
+    ≡ take cellsPerEvent (drop at xs)
 unfolding row spanAt
 row-at xs at h = simp towards-suc (reads-is 9 xs at h)
 
 -- Nine stores put a row.
-pub row-put : (l : List ℕ) (at k : ℕ) (x y p v : Span) → at + 9 ≤ length l
+pub row-put : (l : List ℕ) (at k : ℕ) (x y p v : Span) → at + cellsPerEvent ≤ length l
     → (let l₂ = set (set (set l at k) (at + 1) (x .place)) (at + 2) (x .size) in
     let l₄ = set (set l₂ (at + 3) (y .place)) (at + 4) (y .size) in
     let l₆ = set (set l₄ (at + 5) (p .place)) (at + 6) (p .size) in
     set (set l₆ (at + 7) (v .place)) (at + 8) (v .size))
-    ≡ take at l ++ row k x y p v ++ drop (at + 9) l
+    ≡ take at l ++ row k x y p v ++ drop (at + cellsPerEvent) l
 unfolding row
 row-put l at k x y p v h =
     simp towards-suc (sets-eq (row k x y p v) l at h)
@@ -165,7 +164,8 @@ zeros-are-none = refl
 
 -- ---- cells as stored events
 
-pub events-whole : (xs : List ℕ) → 9 ≤ length xs → eventsOf xs ≡ loadedFrom (take 9 xs) ∷ eventsOf (drop 9 xs)
+pub events-whole : (xs : List ℕ) → cellsPerEvent ≤ length xs
+    → eventsOf xs ≡ loadedFrom (take cellsPerEvent xs) ∷ eventsOf (drop cellsPerEvent xs)
 unfolding eventsOf
 events-whole [] h = absurd (omega arith)
 events-whole (a ∷ []) h = absurd (omega arith)
@@ -178,7 +178,7 @@ events-whole (a ∷ b ∷ c ∷ d ∷ e ∷ f ∷ g ∷ []) h = absurd (omega ar
 events-whole (a ∷ b ∷ c ∷ d ∷ e ∷ f ∷ g ∷ k ∷ []) h = absurd (omega arith)
 events-whole (a ∷ b ∷ c ∷ d ∷ e ∷ f ∷ g ∷ k ∷ l ∷ xs) h = refl
 
-pub events-short : (xs : List ℕ) → 0 < length xs → length xs < 9 → eventsOf xs ≡ none ∷ []
+pub events-short : (xs : List ℕ) → 0 < length xs → length xs < cellsPerEvent → eventsOf xs ≡ none ∷ []
 unfolding eventsOf
 events-short [] p h = absurd (omega arith)
 events-short (a ∷ []) p h = refl
@@ -193,7 +193,7 @@ events-short (a ∷ b ∷ c ∷ d ∷ e ∷ f ∷ g ∷ k ∷ l ∷ xs) p h = ab
 
 pub events-row : (xs ys : List ℕ) → length xs ≡ 9 → eventsOf (xs ++ ys) ≡ loadedFrom xs ∷ eventsOf ys
 events-row xs ys n =
-    let long : 9 ≤ length (xs ++ ys) = simp length-append (omega arith) in
+    let long : cellsPerEvent ≤ length (xs ++ ys) = simp length-append (omega arith) in
     events-whole (xs ++ ys) long ∙ rw (take-at xs ys 9 n, drop-at xs ys 9 n)
 
 pub events-cells : (e : Event Span) (xs : List ℕ) → eventsOf (cellsOf e ++ xs) ≡ some e ∷ eventsOf xs
@@ -214,7 +214,7 @@ cells-append (e ∷ a) b =
     ap (λ (r : List ℕ). cellsOf (mapEvent spanOf e) ++ r) (cells-append a b)
     ∙ sym (append-assoc (cellsOf (mapEvent spanOf e)) (cellsOfAll a) (cellsOfAll b))
 
-pub cells-size : (es : List (Event Placed)) → length (cellsOfAll es) ≡ 9 * length es
+pub cells-size : (es : List (Event Placed)) → length (cellsOfAll es) ≡ cellsPerEvent * length es
 unfolding cellsOfAll
 cells-size [] = refl
 cells-size (e ∷ es) =
@@ -226,40 +226,49 @@ cells-size (e ∷ es) =
     )
 
 -- The stored events of n rows, and of what comes after them.
-pub events-append : (n : ℕ) (xs ys : List ℕ) → length xs ≡ 9 * n → eventsOf (xs ++ ys) ≡ eventsOf xs ++ eventsOf ys
+pub events-append : (n : ℕ) (xs ys : List ℕ) → length xs ≡ cellsPerEvent * n
+    → eventsOf (xs ++ ys) ≡ eventsOf xs ++ eventsOf ys
 unfolding eventsOf
 events-append zero [] ys h = refl
 events-append zero (x ∷ xs) ys h = absurd (omega arith)
 events-append (suc n) xs ys h =
-    let long : 9 ≤ length xs = omega arith in
-    let more : 9 ≤ length (xs ++ ys) = simp length-append (omega arith) in
-    let rest : length (drop 9 xs) ≡ 9 * n = simp length-drop (omega arith) in
+    let long : cellsPerEvent ≤ length xs = omega arith in
+    let more : cellsPerEvent ≤ length (xs ++ ys) = simp length-append (omega arith) in
+    let rest : length (drop cellsPerEvent xs) ≡ cellsPerEvent * n = simp length-drop (omega arith) in
     rw (events-whole (xs ++ ys) more, events-whole xs long, take-append-le 9 xs ys long, drop-append-le 9 xs ys long)
-    (ap (λ (l : List Stored). loadedFrom (take 9 xs) ∷ l) (events-append n (drop 9 xs) ys rest))
+    (ap (λ (l : List Stored). loadedFrom (take cellsPerEvent xs) ∷ l) (events-append n (drop cellsPerEvent xs) ys rest))
 
 -- Storing an event in row n.
-pub events-stored : (n : ℕ) (l : List ℕ) (e : Event Span) → 9 * n + 9 ≤ length l
-    → eventsOf (take (9 * n) l ++ cellsOf e ++ drop (9 * n + 9) l)
-    ≡ eventsOf (take (9 * n) l) ++ some e ∷ eventsOf (drop (9 * n + 9) l)
+pub events-stored : (n : ℕ) (l : List ℕ) (e : Event Span) → cellsPerEvent * n + cellsPerEvent ≤ length l
+    → eventsOf (take (cellsPerEvent * n) l ++ cellsOf e ++ drop (cellsPerEvent * n + cellsPerEvent) l)
+    ≡ eventsOf (take (cellsPerEvent * n) l) ++ some e ∷ eventsOf (drop (cellsPerEvent * n + cellsPerEvent) l)
 events-stored n l e h =
-    let whole : length (take (9 * n) l) ≡ 9 * n = length-take-le (9 * n) l (omega arith) in
-    rw (append-assoc, events-append n (take (9 * n) l) (cellsOf e ++ drop (9 * n + 9) l) whole, events-cells)
+    let whole : length (take (cellsPerEvent * n) l) ≡ cellsPerEvent * n =
+    length-take-le (cellsPerEvent * n) l (omega arith) in
+    rw (
+      append-assoc,
+      events-append n (take (cellsPerEvent * n) l)
+          (cellsOf e ++ drop (cellsPerEvent * n + cellsPerEvent) l) whole,
+      events-cells,
+    )
 
-pub events-zeros : (n : ℕ) → eventsOf (replicate (9 * n) 0) ≡ replicate n none
+pub events-zeros : (n : ℕ) → eventsOf (replicate (cellsPerEvent * n) 0) ≡ replicate n none
 unfolding eventsOf loadedFrom ofRow
 events-zeros zero = refl
 events-zeros (suc n) =
-    let e : 9 * suc n ≡ suc (suc (suc (suc (suc (suc (suc (suc (suc (9 * n))))))))) = omega arith in
+    let e : cellsPerEvent * suc n ≡ suc (suc (suc (suc (suc (suc (suc (suc (suc (cellsPerEvent * n))))))))) =
+    omega arith in
     rw e (ap (λ (l : List Stored). none ∷ l) (events-zeros n))
 
 -- The stored events from a cell on.
 module _ (xs : List ℕ) (at : ℕ) where
-  pub events-at : at + 9 ≤ length xs → eventsOf (drop at xs) ≡ loadedFrom (take 9 (drop at xs)) ∷ eventsOf (drop (at + 9) xs)
+  pub events-at : at + cellsPerEvent ≤ length xs
+      → eventsOf (drop at xs) ≡ loadedFrom (take cellsPerEvent (drop at xs)) ∷ eventsOf (drop (at + cellsPerEvent) xs)
   events-at h =
-      let long : 9 ≤ length (drop at xs) = simp length-drop (omega arith) in
-      rw (events-whole (drop at xs) long, drop-drop 9 at xs)
+      let long : cellsPerEvent ≤ length (drop at xs) = simp length-drop (omega arith) in
+      rw (events-whole (drop at xs) long, drop-drop cellsPerEvent at xs)
 
-  pub events-cut : at < length xs → length xs < at + 9 → eventsOf (drop at xs) ≡ none ∷ []
+  pub events-cut : at < length xs → length xs < at + cellsPerEvent → eventsOf (drop at xs) ≡ none ∷ []
   events-cut p h = events-short (drop at xs) (simp length-drop (omega arith)) (simp length-drop (omega arith))
 
   pub events-end : length xs ≤ at → eventsOf (drop at xs) ≡ []

@@ -3,6 +3,7 @@ ghost use mathlib.Core.Path.{_≡_};
 ghost use mathlib.Core.List.{_++_};
 ghost use Prim.Native.Nat.{_+_, _≤_};
 ghost use lib.ListN.{length, take, drop};
+ghost use Rattle.spec_exi.specs.Sizes.{cellsPerEvent};
 ghost use Rattle.event.specs.Cells.{asSpan, meaning, judged, judgedAs, cellsOf, rowCells};
 ghost use Rattle.event.specs.Cells.{isZeros, ifZeros, loadedFrom};
 
@@ -33,21 +34,21 @@ pub enum Loaded {
 }
 
 // The kinds, in an event's first cell (docs/MEMORY.md).
-const START_DOCUMENT: u32 = 1;
+pub const START_DOCUMENT: u32 = 1;
 
-const END_DOCUMENT: u32 = 2;
+pub const END_DOCUMENT: u32 = 2;
 
-const START_ELEMENT: u32 = 3;
+pub const START_ELEMENT: u32 = 3;
 
-const ATTRIBUTE: u32 = 4;
+pub const ATTRIBUTE: u32 = 4;
 
-const END_ELEMENT: u32 = 5;
+pub const END_ELEMENT: u32 = 5;
 
-const CHARACTERS: u32 = 6;
+pub const CHARACTERS: u32 = 6;
 
-const COMMENT: u32 = 7;
+pub const COMMENT: u32 = 7;
 
-const INSTRUCTION: u32 = 8;
+pub const INSTRUCTION: u32 = 8;
 
 // A row of the table: the kind, and four strings.
 struct Row(u32, Part, Part, Part, Part);
@@ -69,9 +70,10 @@ fn row_of(e: Event) -> Row
 }
 
 fn put(row: Row, cells: &mut [u32], at: usize)
-    requires { ⌜ at + 9 ≤ length (now cells) ⌝ }
+    requires { ⌜ at + cellsPerEvent ≤ length (now cells) ⌝ }
     ensures { λ r. ⌜ now (cells .exit)
-        ≡ take at (now (cells .entry)) ++ rowCells row ++ drop (at + 9) (now (cells .entry)) ⌝ }
+        ≡ take at (now (cells .entry)) ++ rowCells row
+        ++ drop (at + cellsPerEvent) (now (cells .entry)) ⌝ }
 {
     let x = row.1;
     let y = row.2;
@@ -90,16 +92,17 @@ fn put(row: Row, cells: &mut [u32], at: usize)
 
 // Stores the event in the 9 cells from `at` on.
 pub fn store(e: Event, cells: &mut [u32], at: usize)
-    requires { ⌜ at + 9 ≤ length (now cells) ⌝ }
+    requires { ⌜ at + cellsPerEvent ≤ length (now cells) ⌝ }
     ensures { λ r. ⌜ now (cells .exit)
-        ≡ take at (now (cells .entry)) ++ cellsOf (meaning e) ++ drop (at + 9) (now (cells .entry)) ⌝ }
+        ≡ take at (now (cells .entry)) ++ cellsOf (meaning e)
+        ++ drop (at + cellsPerEvent) (now (cells .entry)) ⌝ }
 {
     put(row_of(e), cells, at);
 }
 
 fn row_at(cells: &[u32], at: usize) -> Row
-    requires { ⌜ at + 9 ≤ length (now cells) ⌝ }
-    ensures { λ r. ⌜ rowCells r ≡ take 9 (drop at (now (cells .entry))) ⌝ }
+    requires { ⌜ at + cellsPerEvent ≤ length (now cells) ⌝ }
+    ensures { λ r. ⌜ rowCells r ≡ take cellsPerEvent (drop at (now (cells .entry))) ⌝ }
 {
     let x = Part {
         place: cells[at + 1],
@@ -162,8 +165,9 @@ fn read_row(row: Row) -> Loaded
 
 // What the 9 cells from `at` on mean.
 pub fn load(cells: &[u32], at: usize) -> Loaded
-    requires { ⌜ at + 9 ≤ length (now cells) ⌝ }
-    ensures { λ r. ⌜ judged r ≡ judgedAs (loadedFrom (take 9 (drop at (now (cells .entry))))) ⌝ }
+    requires { ⌜ at + cellsPerEvent ≤ length (now cells) ⌝ }
+    ensures { λ r. ⌜
+        judged r ≡ judgedAs (loadedFrom (take cellsPerEvent (drop at (now (cells .entry))))) ⌝ }
 {
     read_row(row_at(cells, at))
 }

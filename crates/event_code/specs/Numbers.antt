@@ -50,6 +50,10 @@ numberCM = 6
 abbrev pub numberPI : ℕ
 numberPI = 7
 
+-- So many kinds.
+abbrev pub kinds : ℕ
+kinds = 8
+
 -- The number of each state of the definitions.
 unfoldable pub modeOf : State → ℕ
 modeOf document = inDocument

@@ -12,6 +12,7 @@ use Rattle.spec_fields.specs.Field.{Alignment, choiceBits}
 use Rattle.spec_fields.proofs.Tests.{split}
 use Rattle.spec_exi.specs.Event.{Kind}
 use Rattle.spec_exi.specs.Grammar.{Production, unnamed, allEmpty, choices, atLevel, below, codeBits}
+use Rattle.event_code.specs.Numbers.{inTag, inElement}
 use Rattle.grammar_codes.specs.Table.{tables, tableOf, levelAt, noKinds, valuesOf, valuesAt}
 use Rattle.grammar_codes.specs.Table.{leveled, withLearned, codeAt, raisedBy, afterLearned}
 use Rattle.grammar_codes.specs.Table.{fixedBits}
@@ -119,12 +120,12 @@ module _ (a : Alignment) where
         go (l ∷ ls) z = one-part ps l ls v
 
 -- In an element the table has levels.
-pub element-levels : (c i : Bool) {mode : ℕ} → 4 ≤ mode → mode ≤ 5 → 0 < length (tableOf c i mode)
+pub element-levels : (c i : Bool) {mode : ℕ} → inTag ≤ mode → mode ≤ inElement → 0 < length (tableOf c i mode)
 unfolding tableOf tables
 element-levels c i {mode} l h =
-    split (eqb mode 4)
-    (λ t. let z : mode ≡ 4 = eqb-true mode 4 t in rw z (omega arith))
-    (λ t. let z : mode ≡ 5 = omega (arith, eqb-false mode 4 t) in rw z (omega arith))
+    split (eqb mode inTag)
+    (λ t. let z : mode ≡ inTag = eqb-true mode inTag t in rw z (omega arith))
+    (λ t. let z : mode ≡ inElement = omega (arith, eqb-false mode inTag t) in rw z (omega arith))
 
 -- A level that has a production is one of the table.
 pub level-there : (c i : Bool) (mode level : ℕ) {v : ℕ} → v < length (levelAt c i mode level)

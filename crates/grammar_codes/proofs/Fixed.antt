@@ -10,6 +10,8 @@ use borrow.Author.Tests.{eqb-true, eqb-false, lt-ltb, le-ltb}
 use Rattle.spec_fields.proofs.Tests.{split}
 use Rattle.spec_exi.specs.Event.{Kind, SD, ED, SE, AT, EE, CH}
 use Rattle.spec_exi.specs.Grammar.{kindNumber}
+use Rattle.event_code.specs.Numbers.{inDocument, inDocContent, inDocEnd, inTag, inElement, numberSE, numberAT, numberEE}
+use Rattle.event_code.specs.Numbers.{numberCH}
 use Rattle.grammar_codes.specs.Table.{keptKinds, tables, tableOf, levelAt, noKinds, valuesOf}
 use Rattle.grammar_codes.specs.Table.{leadsOn, fixedLevels, fixedKinds, Stands}
 use Rattle.grammar_codes.proofs.Table.{nth-is, one-kind, beyond, dropped, few-kinds}
@@ -40,7 +42,7 @@ pub kept-stands : (c i : Bool) (mode v : ℕ) → v < length (keptKinds c i)
 unfolding levelAt tableOf tables
 kept-stands c i mode v h =
     let a = kind-stands c i 1 1 v h in
-    let b = kind-stands c i 4 2 v h in
+    let b = kind-stands c i inTag 2 v h in
     record {
       known = a .known;
       outside = λ l. absurd (omega (arith, b .outside l));
@@ -50,17 +52,17 @@ kept-stands c i mode v h =
 -- ---- the main level
 
 module _ (c i : Bool) where
-  pub fixed-outer : {mode : ℕ} → mode < 4 → fixedLevels c i mode ≡ tableOf c i mode
+  pub fixed-outer : {mode : ℕ} → mode < inTag → fixedLevels c i mode ≡ tableOf c i mode
   unfolding fixedLevels
-  fixed-outer {mode} l = rw (lt-ltb mode 4 l)
+  fixed-outer {mode} l = rw (lt-ltb mode inTag l)
 
-  pub fixed-inner : {mode : ℕ} → 4 ≤ mode → fixedLevels c i mode ≡ drop 1 (tableOf c i mode)
+  pub fixed-inner : {mode : ℕ} → inTag ≤ mode → fixedLevels c i mode ≡ drop 1 (tableOf c i mode)
   unfolding fixedLevels
-  fixed-inner {mode} l = rw (le-ltb mode 4 l)
+  fixed-inner {mode} l = rw (le-ltb mode inTag l)
 
   fixed-over : (mode : ℕ) → tableOf c i mode ≡ [] → fixedLevels c i mode ≡ []
   unfolding fixedLevels
-  fixed-over mode e = split (ltb mode 4) (λ t. rw (t, e)) (λ t. rw (t, e))
+  fixed-over mode e = split (ltb mode inTag) (λ t. rw (t, e)) (λ t. rw (t, e))
 
   pub fixed-first : (mode : ℕ) → getD (fixedLevels c i mode) 0 [] ≡ fixedKinds mode
   unfolding fixedLevels fixedKinds tableOf tables
@@ -95,31 +97,33 @@ module _ (c i : Bool) where
       (λ t. absurd (true≢false
       (sym (kept-none c i z) ∙ ap noKinds (sym (fixed-next mode t)) ∙ t)))
 
-  pub leads-over : (mode : ℕ) → (mode ≡ 1 → ⊥) → (mode ≡ 2 → ⊥) → (mode ≡ 4 → ⊥)
-      → (mode ≡ 5 → ⊥) → 0 ≡ leadsOn (drop 1 (fixedLevels c i mode))
+  pub leads-over : (mode : ℕ) → (mode ≡ inDocContent → ⊥) → (mode ≡ inDocEnd → ⊥) → (mode ≡ inTag → ⊥)
+      → (mode ≡ inElement → ⊥) → 0 ≡ leadsOn (drop 1 (fixedLevels c i mode))
   unfolding fixedLevels tableOf tables noKinds
   leads-over mode b d e f =
-      split (eqb mode 0)
-      (λ t. let z : mode ≡ 0 = eqb-true mode 0 t in rw z)
+      split (eqb mode inDocument)
+      (λ t. let z : mode ≡ inDocument = eqb-true mode inDocument t in rw z)
       (λ t.
-      rw (fixed-over mode (beyond c i mode (eqb-false mode 0 t) b d e f)))
+      rw (fixed-over mode (beyond c i mode (eqb-false mode inDocument t) b d e f)))
 
 -- ---- their kinds
 
-pub fixed-none : (mode v : ℕ) → (mode ≡ 1 → ⊥) → (mode ≡ 2 → ⊥) → (mode ≡ 4 → ⊥) → (mode ≡ 5 → ⊥)
+pub fixed-none : (mode v : ℕ) → (mode ≡ inDocContent → ⊥) → (mode ≡ inDocEnd → ⊥) → (mode ≡ inTag → ⊥)
+    → (mode ≡ inElement → ⊥)
     → 0 ≡ kindNumber (getD (fixedKinds mode) v SD)
 unfolding fixedKinds fixedLevels tableOf tables kindNumber
 fixed-none mode v b d e f =
-    split (eqb mode 0)
-    (λ t. let z : mode ≡ 0 = eqb-true mode 0 t in rw z (nothing v))
-    (λ t. rw (fixed-over false false mode (beyond false false mode (eqb-false mode 0 t) b d e f)))
+    split (eqb mode inDocument)
+    (λ t. let z : mode ≡ inDocument = eqb-true mode inDocument t in rw z (nothing v))
+    (λ t. rw (fixed-over false false mode (beyond false false mode (eqb-false mode inDocument t) b d e f)))
   where
     nothing : (n : ℕ) → 0 ≡ kindNumber (getD (SD ∷ []) n SD)
     nothing zero = refl
     nothing (suc n) = refl
 
-pub no-fixed : (mode : ℕ) → (mode ≡ 0 → ⊥) → (mode ≡ 1 → ⊥) → (mode ≡ 2 → ⊥) → (mode ≡ 4 → ⊥)
-    → (mode ≡ 5 → ⊥) → 0 ≡ length (fixedKinds mode)
+pub no-fixed : (mode : ℕ) → (mode ≡ inDocument → ⊥) → (mode ≡ inDocContent → ⊥) → (mode ≡ inDocEnd → ⊥)
+    → (mode ≡ inTag → ⊥)
+    → (mode ≡ inElement → ⊥) → 0 ≡ length (fixedKinds mode)
 unfolding fixedKinds
 no-fixed mode a b d e f = rw (fixed-over false false mode (beyond false false mode a b d e f))
 
@@ -132,13 +136,13 @@ module _ (v : ℕ) where
   unfolding fixedKinds fixedLevels tableOf tables kindNumber
   end-kind = one-kind v ED
 
-  pub tag-kind : getD (4 ∷ 3 ∷ 2 ∷ 5 ∷ []) v 0 ≡ kindNumber (getD (fixedKinds 4) v SD)
+  pub tag-kind : getD (numberEE ∷ numberAT ∷ numberSE ∷ numberCH ∷ []) v 0 ≡ kindNumber (getD (fixedKinds inTag) v SD)
   unfolding fixedKinds fixedLevels tableOf tables kindNumber
   tag-kind =
       nth-is (λ n. kindNumber (getD (EE ∷ AT ∷ SE ∷ CH ∷ []) n SD)) refl refl refl refl (λ n. refl)
       v
 
-  pub element-kind : getD (2 ∷ 5 ∷ 0 ∷ 0 ∷ []) v 0 ≡ kindNumber (getD (fixedKinds 5) v SD)
+  pub element-kind : getD (numberSE ∷ numberCH ∷ 0 ∷ 0 ∷ []) v 0 ≡ kindNumber (getD (fixedKinds inElement) v SD)
   unfolding fixedKinds fixedLevels tableOf tables kindNumber
   element-kind =
       nth-is (λ n. kindNumber (getD (SE ∷ CH ∷ []) n SD)) refl refl refl refl (λ n. refl) v
@@ -146,7 +150,7 @@ module _ (v : ℕ) where
 pub fixed-few : (mode : ℕ) → length (fixedKinds mode) ≤ 4
 unfolding fixedKinds fixedLevels levelAt
 fixed-few mode =
-    let n : ℕ = cond (ltb mode 4) 0 1 in
+    let n : ℕ = cond (ltb mode inTag) 0 1 in
     omega (
       arith,
       few-kinds false false mode n,
@@ -157,36 +161,36 @@ pub fixed-stands : (mode v : ℕ) → v < length (fixedKinds mode)
     → Stands mode (kindNumber (getD (fixedKinds mode) v SD))
 unfolding fixedKinds fixedLevels levelAt
 fixed-stands mode v h =
-    let n : ℕ = cond (ltb mode 4) 0 1 in
+    let n : ℕ = cond (ltb mode inTag) 0 1 in
     let e = dropped (tableOf false false mode) n in
     subst (λ l. v < length l → Stands mode (kindNumber (getD l v SD))) (sym e)
     (kind-stands false false mode n v) h
 
 -- ---- an element's first level
 
-module _ (c i : Bool) {mode : ℕ} (l : 4 ≤ mode) (m : mode ≤ 5) where
-  in-element : (mode ≡ 4 → ⊥) → mode ≡ 5
+module _ (c i : Bool) {mode : ℕ} (l : inTag ≤ mode) (m : mode ≤ inElement) where
+  in-element : (mode ≡ inTag → ⊥) → mode ≡ inElement
   in-element n = omega (arith, n)
 
-  pub own-count : cond (eqb mode 5) 1 0 ≡ length (getD (tableOf c i mode) 0 [])
+  pub own-count : cond (eqb mode inElement) 1 0 ≡ length (getD (tableOf c i mode) 0 [])
   unfolding tableOf tables
   own-count =
-      split (eqb mode 4)
-      (λ t. let z : mode ≡ 4 = eqb-true mode 4 t in rw z)
-      (λ t. let z : mode ≡ 5 = in-element (eqb-false mode 4 t) in rw z)
+      split (eqb mode inTag)
+      (λ t. let z : mode ≡ inTag = eqb-true mode inTag t in rw z)
+      (λ t. let z : mode ≡ inElement = in-element (eqb-false mode inTag t) in rw z)
 
-  pub own-values : cond (eqb mode 5) 1 0 + 1
+  pub own-values : cond (eqb mode inElement) 1 0 + 1
       ≡ valuesOf (getD (tableOf c i mode) 0 []) (drop 1 (tableOf c i mode))
   unfolding tableOf tables noKinds
   own-values =
-      split (eqb mode 4)
-      (λ t. let z : mode ≡ 4 = eqb-true mode 4 t in rw z)
-      (λ t. let z : mode ≡ 5 = in-element (eqb-false mode 4 t) in rw z)
+      split (eqb mode inTag)
+      (λ t. let z : mode ≡ inTag = eqb-true mode inTag t in rw z)
+      (λ t. let z : mode ≡ inElement = in-element (eqb-false mode inTag t) in rw z)
 
-  pub own-kind : 0 < cond (eqb mode 5) 1 0
-      → 4 ≡ kindNumber (getD (getD (tableOf c i mode) 0 []) 0 SD)
+  pub own-kind : 0 < cond (eqb mode inElement) 1 0
+      → numberEE ≡ kindNumber (getD (getD (tableOf c i mode) 0 []) 0 SD)
   unfolding tableOf tables kindNumber
   own-kind h =
-      split (eqb mode 5)
-      (λ t. let z : mode ≡ 5 = eqb-true mode 5 t in rw z)
+      split (eqb mode inElement)
+      (λ t. let z : mode ≡ inElement = eqb-true mode inElement t in rw z)
       (λ t. absurd (omega (arith, rw t at h)))

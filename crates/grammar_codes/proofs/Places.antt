@@ -13,8 +13,10 @@ use Rattle.text.specs.Text.{Text}
 use Rattle.spec_exi.specs.Event.{Event, Kind, SD, kindOf}
 use Rattle.spec_exi.specs.Grammar.{Production, unnamed, kindNumber, fitsName, fits, atLevel}
 use Rattle.spec_exi.specs.Grammar.{below, firstFit, codeOr, codeOf}
+use Rattle.event_code.specs.Numbers.{inDocument, inDocContent, inDocEnd, inTag, inElement, numberSD, numberSE, numberAT}
+use Rattle.event_code.specs.Numbers.{numberEE, numberCH, numberCM, numberPI}
 use Rattle.grammar_codes.specs.declared.Place.{Place}
-use Rattle.grammar_codes.specs.Table.{keptKinds, tables, tableOf, levelAt, numberIn, inLevel}
+use Rattle.grammar_codes.specs.Table.{keptKinds, tables, tableOf, levelAt, numberIn, inLevel, maxLevels}
 use Rattle.grammar_codes.specs.Table.{placeIn, placeAs, keptPlace, leveled, withLearned}
 use Rattle.grammar_codes.specs.Table.{at-level, in-next, FixedCode, codeAt, PlaceAt}
 use Rattle.grammar_codes.proofs.Table.{few-levels, beyond}
@@ -129,30 +131,30 @@ place-none e ps (l ∷ ls) h miss =
 -- ---- by two numbers
 
 -- Level 3 is none.
-place-numbers : (t : List (List Kind)) (k : ℕ) → length t ≤ 3 → placeAs (placeIn t k) .level ≡ 3
+place-numbers : (t : List (List Kind)) (k : ℕ) → length t ≤ maxLevels → placeAs (placeIn t k) .level ≡ maxLevels
     → placeIn t k ≡ none
 unfolding placeAs
 place-numbers t k few e = go (placeIn t k) refl e
   where
-    go : (o : Option (ℕ × ℕ)) → placeIn t k ≡ o → placeAs o .level ≡ 3 → placeIn t k ≡ none
+    go : (o : Option (ℕ × ℕ)) → placeIn t k ≡ o → placeAs o .level ≡ maxLevels → placeIn t k ≡ none
     go none f z = f
     go (some x) f z = absurd (omega (arith, place-has t k f .level))
 
-place-there : (t : List (List Kind)) (k : ℕ) → placeAs (placeIn t k) .level < 3
+place-there : (t : List (List Kind)) (k : ℕ) → placeAs (placeIn t k) .level < maxLevels
     → HasPlace t k (placeAs (placeIn t k) .level, placeAs (placeIn t k) .value)
 unfolding placeAs
 place-there t k l = go (placeIn t k) refl l
   where
-    go : (o : Option (ℕ × ℕ)) → placeIn t k ≡ o → placeAs o .level < 3
+    go : (o : Option (ℕ × ℕ)) → placeIn t k ≡ o → placeAs o .level < maxLevels
         → HasPlace t k (placeAs o .level, placeAs o .value)
     go none f l = absurd (omega arith)
     go (some x) f l = place-has t k f
 
-place-few : (t : List (List Kind)) (k : ℕ) → length t ≤ 3 → placeAs (placeIn t k) .level ≤ 3
+place-few : (t : List (List Kind)) (k : ℕ) → length t ≤ maxLevels → placeAs (placeIn t k) .level ≤ maxLevels
 unfolding placeAs
 place-few t k few = go (placeIn t k) refl
   where
-    go : (o : Option (ℕ × ℕ)) → placeIn t k ≡ o → placeAs o .level ≤ 3
+    go : (o : Option (ℕ × ℕ)) → placeIn t k ≡ o → placeAs o .level ≤ maxLevels
     go none f = omega arith
     go (some x) f = omega (arith, place-has t k f .level)
 
@@ -170,52 +172,52 @@ module _ (c i : Bool) (mode kind : ℕ) where
 
 module _ {c i : Bool} {mode kind : ℕ} {r : Place} (p : PlaceAt c i mode kind r) where
   -- Where the state has no such production.
-  pub no-place : r .level ≡ 3 → placeIn (tableOf c i mode) kind ≡ none
+  pub no-place : r .level ≡ maxLevels → placeIn (tableOf c i mode) kind ≡ none
   no-place e =
       place-numbers (tableOf c i mode) kind (few-levels c i mode)
       (ap (λ (x : Place). x .level) (sym (p .is)) ∙ e)
 
   -- Where it has one, its code.
-  pub has-place : r .level < 3 → HasPlace (tableOf c i mode) kind (r .level, r .value)
+  pub has-place : r .level < maxLevels → HasPlace (tableOf c i mode) kind (r .level, r .value)
   has-place l =
       subst (λ (x : Place). HasPlace (tableOf c i mode) kind (x .level, x .value)) (sym (p .is))
       (place-there (tableOf c i mode) kind
-      (subst (λ (x : Place). x .level < 3) (p .is) l))
+      (subst (λ (x : Place). x .level < maxLevels) (p .is) l))
 
 -- ---- the answers
 
 module _ (c i : Bool) (level : ℕ) {kind : ℕ} where
-  pub kept-comment : kind ≡ 6 → c ≡ true
+  pub kept-comment : kind ≡ numberCM → c ≡ true
       → record { level = level; value = 0 } ≡ keptPlace level (numberIn (keptKinds c i) kind)
   unfolding keptPlace numberIn keptKinds kindNumber
   kept-comment e t = rw (e, t)
 
-  pub no-comment : kind ≡ 6 → c ≡ false
+  pub no-comment : kind ≡ numberCM → c ≡ false
       → placeAs none ≡ keptPlace level (numberIn (keptKinds c i) kind)
   unfolding placeAs keptPlace numberIn keptKinds kindNumber
   no-comment e t = rw (e, t) (split i (λ u. rw u) (λ u. rw u))
 
-  pub no-instruction : kind ≡ 7 → i ≡ false
+  pub no-instruction : kind ≡ numberPI → i ≡ false
       → placeAs none ≡ keptPlace level (numberIn (keptKinds c i) kind)
   unfolding placeAs keptPlace numberIn keptKinds kindNumber
   no-instruction e t = rw (e, t) (split c (λ u. rw u) (λ u. rw u))
 
-  pub kept-both : kind ≡ 7 → i ≡ true → c ≡ true
+  pub kept-both : kind ≡ numberPI → i ≡ true → c ≡ true
       → record { level = level; value = 1 } ≡ keptPlace level (numberIn (keptKinds c i) kind)
   unfolding keptPlace numberIn keptKinds kindNumber
   kept-both e t u = rw (e, t, u)
 
-  pub kept-instruction : kind ≡ 7 → i ≡ true → c ≡ false
+  pub kept-instruction : kind ≡ numberPI → i ≡ true → c ≡ false
       → record { level = level; value = 0 } ≡ keptPlace level (numberIn (keptKinds c i) kind)
   unfolding keptPlace numberIn keptKinds kindNumber
   kept-instruction e t u = rw (e, t, u)
 
-  pub kept-none : (kind ≡ 6 → ⊥) → (kind ≡ 7 → ⊥)
+  pub kept-none : (kind ≡ numberCM → ⊥) → (kind ≡ numberPI → ⊥)
       → placeAs none ≡ keptPlace level (numberIn (keptKinds c i) kind)
   unfolding placeAs keptPlace numberIn keptKinds kindNumber
   kept-none a b =
-      let x = ne-eqb 6 kind (λ z. a (sym z)) in
-      let y = ne-eqb 7 kind (λ z. b (sym z)) in
+      let x = ne-eqb numberCM kind (λ z. a (sym z)) in
+      let y = ne-eqb numberPI kind (λ z. b (sym z)) in
       split c
       (λ t. split i (λ u. rw (t, u, x, y)) (λ u. rw (t, u, x)))
       (λ t. split i (λ u. rw (t, u, y)) (λ u. rw (t, u)))
@@ -233,29 +235,30 @@ below-two none = refl
 below-two (some v) = refl
 
 module _ (c i : Bool) (kind : ℕ) where
-  pub tag-other : (kind ≡ 4 → ⊥) → (kind ≡ 3 → ⊥) → (kind ≡ 2 → ⊥) → (kind ≡ 5 → ⊥) → {r : Place}
+  pub tag-other : (kind ≡ numberEE → ⊥) → (kind ≡ numberAT → ⊥) → (kind ≡ numberSE → ⊥) → (kind ≡ numberCH → ⊥)
+      → {r : Place}
       → r ≡ keptPlace 2 (numberIn (keptKinds c i) kind)
-      → r ≡ placeAs (placeIn (tableOf c i 4) kind)
+      → r ≡ placeAs (placeIn (tableOf c i inTag) kind)
   unfolding tableOf tables placeIn numberIn kindNumber
   tag-other a b d e z =
       z ∙ below-two (numberIn (keptKinds c i) kind)
       ∙ rw (
-        ne-eqb 4 kind (λ y. a (sym y)),
-        ne-eqb 3 kind (λ y. b (sym y)),
-        ne-eqb 2 kind (λ y. d (sym y)),
-        ne-eqb 5 kind (λ y. e (sym y)),
+        ne-eqb numberEE kind (λ y. a (sym y)),
+        ne-eqb numberAT kind (λ y. b (sym y)),
+        ne-eqb numberSE kind (λ y. d (sym y)),
+        ne-eqb numberCH kind (λ y. e (sym y)),
       )
 
-  pub element-other : (kind ≡ 4 → ⊥) → (kind ≡ 2 → ⊥) → (kind ≡ 5 → ⊥) → {r : Place}
+  pub element-other : (kind ≡ numberEE → ⊥) → (kind ≡ numberSE → ⊥) → (kind ≡ numberCH → ⊥) → {r : Place}
       → r ≡ keptPlace 2 (numberIn (keptKinds c i) kind)
-      → r ≡ placeAs (placeIn (tableOf c i 5) kind)
+      → r ≡ placeAs (placeIn (tableOf c i inElement) kind)
   unfolding tableOf tables placeIn numberIn kindNumber
   element-other a d e z =
       z ∙ below-two (numberIn (keptKinds c i) kind)
       ∙ rw (
-        ne-eqb 4 kind (λ y. a (sym y)),
-        ne-eqb 2 kind (λ y. d (sym y)),
-        ne-eqb 5 kind (λ y. e (sym y)),
+        ne-eqb numberEE kind (λ y. a (sym y)),
+        ne-eqb numberSE kind (λ y. d (sym y)),
+        ne-eqb numberCH kind (λ y. e (sym y)),
       )
 
   module _ (k : Kind) {first : ℕ} (f : kindNumber k ≡ first) where
@@ -272,12 +275,13 @@ module _ (c i : Bool) (kind : ℕ) where
         z ∙ below-one (numberIn (keptKinds c i) kind)
         ∙ rw (ne-eqb (kindNumber k) kind (λ y. ne (sym y ∙ f)))
 
-  pub document-other : (kind ≡ 0 → ⊥) → placeAs none ≡ placeAs (placeIn (tableOf c i 0) kind)
+  pub document-other : (kind ≡ numberSD → ⊥) → placeAs none ≡ placeAs (placeIn (tableOf c i inDocument) kind)
   unfolding tableOf tables placeIn numberIn inLevel placeAs kindNumber
-  document-other ne = rw (ne-eqb 0 kind (λ y. ne (sym y)))
+  document-other ne = rw (ne-eqb numberSD kind (λ y. ne (sym y)))
 
-  pub over-place : {mode : ℕ} → (mode ≡ 0 → ⊥) → (mode ≡ 1 → ⊥) → (mode ≡ 2 → ⊥) → (mode ≡ 4 → ⊥)
-      → (mode ≡ 5 → ⊥) → placeAs none ≡ placeAs (placeIn (tableOf c i mode) kind)
+  pub over-place : {mode : ℕ} → (mode ≡ inDocument → ⊥) → (mode ≡ inDocContent → ⊥) → (mode ≡ inDocEnd → ⊥)
+      → (mode ≡ inTag → ⊥)
+      → (mode ≡ inElement → ⊥) → placeAs none ≡ placeAs (placeIn (tableOf c i mode) kind)
   unfolding placeIn
   over-place {mode} a b d e f = rw (beyond c i mode a b d e f)
 
@@ -285,7 +289,7 @@ module _ (c i : Bool) (kind : ℕ) where
 
 -- SE, EE and CH have a place, and AT in a start tag.
 module _ (c i : Bool) where
-  tag-has : (k : ℕ) → 2 ≤ k → k ≤ 5 → placeIn (tableOf c i 4) k ≡ none → ⊥
+  tag-has : (k : ℕ) → numberSE ≤ k → k ≤ numberCH → placeIn (tableOf c i inTag) k ≡ none → ⊥
   unfolding tableOf tables placeIn numberIn inLevel kindNumber
   tag-has zero a b e = omega arith
   tag-has (suc zero) a b e = omega arith
@@ -295,7 +299,8 @@ module _ (c i : Bool) where
   tag-has (suc (suc (suc (suc (suc zero))))) a b e = Option·none-ne-some _ (sym e)
   tag-has (suc (suc (suc (suc (suc (suc k)))))) a b e = omega arith
 
-  content-has : (k : ℕ) → 2 ≤ k → k ≤ 5 → (k ≡ 3 → ⊥) → placeIn (tableOf c i 5) k ≡ none → ⊥
+  content-has : (k : ℕ) → numberSE ≤ k → k ≤ numberCH → (k ≡ numberAT → ⊥)
+      → placeIn (tableOf c i inElement) k ≡ none → ⊥
   unfolding tableOf tables placeIn numberIn inLevel kindNumber
   content-has zero a b n e = omega arith
   content-has (suc zero) a b n e = omega arith
@@ -305,11 +310,11 @@ module _ (c i : Bool) where
   content-has (suc (suc (suc (suc (suc zero))))) a b n e = Option·none-ne-some _ (sym e)
   content-has (suc (suc (suc (suc (suc (suc k)))))) a b n e = omega arith
 
-  pub element-has : {mode : ℕ} → 4 ≤ mode → mode ≤ 5 → (k : ℕ) → 2 ≤ k → k ≤ 5
-      → (k ≡ 3 → mode ≡ 4) → placeIn (tableOf c i mode) k ≡ none → ⊥
+  pub element-has : {mode : ℕ} → inTag ≤ mode → mode ≤ inElement → (k : ℕ) → numberSE ≤ k → k ≤ numberCH
+      → (k ≡ numberAT → mode ≡ inTag) → placeIn (tableOf c i mode) k ≡ none → ⊥
   element-has {mode} l h k a b tag e =
-      split (eqb mode 4)
-      (λ t. let z : mode ≡ 4 = eqb-true mode 4 t in tag-has k a b (rw z at e))
+      split (eqb mode inTag)
+      (λ t. let z : mode ≡ inTag = eqb-true mode inTag t in tag-has k a b (rw z at e))
       (λ t.
-      let z : mode ≡ 5 = omega (arith, eqb-false mode 4 t) in
+      let z : mode ≡ inElement = omega (arith, eqb-false mode inTag t) in
       content-has k a b (λ y. omega (arith, tag y)) (rw z at e))

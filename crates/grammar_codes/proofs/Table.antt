@@ -10,7 +10,9 @@ use borrow.Author.Tests.{eqb-true, eq-eqb, ne-eqb, ltb-true, leb-true, le-ltb, l
 use Rattle.spec_fields.proofs.Tests.{split, T-is, is-T, left, right}
 use Rattle.spec_exi.specs.Event.{Kind, SD, ED, SE, AT, EE, CH, CM, PI}
 use Rattle.spec_exi.specs.Grammar.{kindNumber}
-use Rattle.grammar_codes.specs.Table.{keptKinds, tables, tableOf, levelAt, noKinds, valuesAt}
+use Rattle.event_code.specs.Numbers.{inDocument, inDocContent, inDocEnd, inTag, inElement, numberSE, numberEE, numberCH}
+use Rattle.event_code.specs.Numbers.{numberCM, numberPI, kinds}
+use Rattle.grammar_codes.specs.Table.{keptKinds, tables, tableOf, levelAt, noKinds, valuesAt, maxLevels}
 use Rattle.grammar_codes.specs.Table.{CountAt, Stands}
 
 -- What `nth` answers, for a list of at most four.
@@ -45,7 +47,7 @@ allOnce [] = true
 allOnce (l ∷ ls) = once l ls && allOnce ls
 
 unfoldable standsTest : ℕ → ℕ → Bool
-standsTest mode k = (leb 2 k || ltb mode 4) && (ltb k 4 || ltb 5 k || leb 4 mode)
+standsTest mode k = (leb numberSE k || ltb mode inTag) && (ltb k numberEE || ltb numberCH k || leb inTag mode)
 
 unfoldable pub every : (Kind → Bool) → List Kind → Bool
 every p [] = true
@@ -58,7 +60,7 @@ fitting mode (l ∷ ls) =
     leb (length l) 4 && every (λ k. standsTest mode (kindNumber k)) l && fitting mode ls
 
 unfoldable sound : ℕ → List (List Kind) → Bool
-sound mode t = leb (length t) 3 && allOnce t && fitting mode t
+sound mode t = leb (length t) maxLevels && allOnce t && fitting mode t
 
 unfoldable allSound : (ℕ → List (List Kind) → Bool) → List (List (List Kind)) → Bool
 allSound p [] = true
@@ -92,21 +94,21 @@ module _ (c i : Bool) (mode : ℕ) where
   abbrev t : List (List Kind)
   t = tableOf c i mode
 
-  parts : T (leb (length t) 3 && allOnce t && fitting mode t)
+  parts : T (leb (length t) maxLevels && allOnce t && fitting mode t)
   unfolding sound
   parts = is-T _ (table-sound c i mode)
 
-  short-once : T (leb (length t) 3 && allOnce t)
-  short-once = left (leb (length t) 3 && allOnce t) (fitting mode t) parts
+  short-once : T (leb (length t) maxLevels && allOnce t)
+  short-once = left (leb (length t) maxLevels && allOnce t) (fitting mode t) parts
 
-  pub few-levels : length (tableOf c i mode) ≤ 3
-  few-levels = leb→le (length t) 3 (left (leb (length t) 3) (allOnce t) short-once)
+  pub few-levels : length (tableOf c i mode) ≤ maxLevels
+  few-levels = leb→le (length t) maxLevels (left (leb (length t) maxLevels) (allOnce t) short-once)
 
   pub kinds-once : allOnce (tableOf c i mode) ≡ true
-  kinds-once = T-is (allOnce t) (right (leb (length t) 3) (allOnce t) short-once)
+  kinds-once = T-is (allOnce t) (right (leb (length t) maxLevels) (allOnce t) short-once)
 
   fitted : T (fitting mode t)
-  fitted = right (leb (length t) 3 && allOnce t) (fitting mode t) parts
+  fitted = right (leb (length t) maxLevels && allOnce t) (fitting mode t) parts
 
 pub every-at : (p : Kind → Bool) (l : List Kind) (v : ℕ) → T (every p l) → v < length l
     → T (p (getD l v SD))
@@ -127,19 +129,19 @@ module _ (mode : ℕ) where
       (right (leb (length l) 4 && every (λ k. standsTest mode (kindNumber k)) l)
       (fitting mode ls) h)
 
-  stands-is : (k : ℕ) → k < 8 → T (standsTest mode k) → Stands mode k
+  stands-is : (k : ℕ) → k < kinds → T (standsTest mode k) → Stands mode k
   unfolding standsTest
   stands-is k known h =
-      let a = left (leb 2 k || ltb mode 4) (ltb k 4 || ltb 5 k || leb 4 mode) h in
-      let b = right (leb 2 k || ltb mode 4) (ltb k 4 || ltb 5 k || leb 4 mode) h in
+      let a = left (leb numberSE k || ltb mode inTag) (ltb k numberEE || ltb numberCH k || leb inTag mode) h in
+      let b = right (leb numberSE k || ltb mode inTag) (ltb k numberEE || ltb numberCH k || leb inTag mode) h in
       record {
         known = known;
-        outside = λ l. ltb-true mode 4 (T-is _ (rw (lt-leb 2 k (omega arith)) at a));
-        inside = λ l m. leb-true 4 mode
-            (T-is _ (rw (le-ltb k 4 l, le-ltb 5 k m) at b));
+        outside = λ l. ltb-true mode inTag (T-is _ (rw (lt-leb numberSE k (omega arith)) at a));
+        inside = λ l m. leb-true inTag mode
+            (T-is _ (rw (le-ltb k numberEE l, le-ltb numberCH k m) at b));
       }
 
-kind-below : (k : Kind) → kindNumber k < 8
+kind-below : (k : Kind) → kindNumber k < kinds
 unfolding kindNumber
 kind-below SD = omega arith
 kind-below ED = omega arith
@@ -234,8 +236,8 @@ unfolding kindNumber
 one-kind v k = nth-is (λ n. kindNumber (getD (k ∷ []) n SD)) refl refl refl refl (λ n. refl) v
 
 -- The states that have no production.
-pub beyond : (c i : Bool) (mode : ℕ) → (mode ≡ 0 → ⊥) → (mode ≡ 1 → ⊥) → (mode ≡ 2 → ⊥)
-    → (mode ≡ 4 → ⊥) → (mode ≡ 5 → ⊥) → tableOf c i mode ≡ []
+pub beyond : (c i : Bool) (mode : ℕ) → (mode ≡ inDocument → ⊥) → (mode ≡ inDocContent → ⊥) → (mode ≡ inDocEnd → ⊥)
+    → (mode ≡ inTag → ⊥) → (mode ≡ inElement → ⊥) → tableOf c i mode ≡ []
 unfolding tableOf tables
 beyond c i zero a b d e f = absurd (a refl)
 beyond c i (suc zero) a b d e f = absurd (b refl)
@@ -267,34 +269,35 @@ module _ (c i : Bool) where
         nth-is (λ n. length (levelAt c i 2 n)) refl k refl refl (λ n. refl) level
 
     pub tag-count : {kept : ℕ} → kept ≡ length (keptKinds c i)
-        → getD (0 ∷ 4 ∷ kept ∷ 0 ∷ []) level 0 ≡ length (levelAt c i 4 level)
+        → getD (0 ∷ 4 ∷ kept ∷ 0 ∷ []) level 0 ≡ length (levelAt c i inTag level)
     unfolding levelAt tableOf tables
     tag-count k =
-        nth-is (λ n. length (levelAt c i 4 n)) refl refl k refl (λ n. refl) level
+        nth-is (λ n. length (levelAt c i inTag n)) refl refl k refl (λ n. refl) level
 
     pub element-count : {kept : ℕ} → kept ≡ length (keptKinds c i)
-        → getD (1 ∷ 2 ∷ kept ∷ 0 ∷ []) level 0 ≡ length (levelAt c i 5 level)
+        → getD (1 ∷ 2 ∷ kept ∷ 0 ∷ []) level 0 ≡ length (levelAt c i inElement level)
     unfolding levelAt tableOf tables
     element-count k =
-        nth-is (λ n. length (levelAt c i 5 n)) refl refl k refl (λ n. refl) level
+        nth-is (λ n. length (levelAt c i inElement n)) refl refl k refl (λ n. refl) level
 
-    pub no-count : {mode : ℕ} → (mode ≡ 0 → ⊥) → (mode ≡ 1 → ⊥) → (mode ≡ 2 → ⊥) → (mode ≡ 4 → ⊥)
-        → (mode ≡ 5 → ⊥) → 0 ≡ length (levelAt c i mode level)
+    pub no-count : {mode : ℕ} → (mode ≡ inDocument → ⊥) → (mode ≡ inDocContent → ⊥) → (mode ≡ inDocEnd → ⊥)
+        → (mode ≡ inTag → ⊥)
+        → (mode ≡ inElement → ⊥) → 0 ≡ length (levelAt c i mode level)
     unfolding levelAt
     no-count {mode} a b d e f = rw (beyond c i mode a b d e f)
 
 -- The kept kinds.
 module _ (v : ℕ) where
-  pub kept-both : getD (6 ∷ 7 ∷ 0 ∷ 0 ∷ []) v 0 ≡ kindNumber (getD (keptKinds true true) v SD)
+  pub kept-both : getD (numberCM ∷ numberPI ∷ 0 ∷ 0 ∷ []) v 0 ≡ kindNumber (getD (keptKinds true true) v SD)
   unfolding keptKinds kindNumber
   kept-both =
       nth-is (λ n. kindNumber (getD (keptKinds true true) n SD)) refl refl refl refl (λ n. refl) v
 
-  pub kept-comment : getD (6 ∷ 0 ∷ 0 ∷ 0 ∷ []) v 0 ≡ kindNumber (getD (keptKinds true false) v SD)
+  pub kept-comment : getD (numberCM ∷ 0 ∷ 0 ∷ 0 ∷ []) v 0 ≡ kindNumber (getD (keptKinds true false) v SD)
   unfolding keptKinds kindNumber
   kept-comment = one-kind v CM
 
-  pub kept-instruction : getD (7 ∷ 0 ∷ 0 ∷ 0 ∷ []) v 0
+  pub kept-instruction : getD (numberPI ∷ 0 ∷ 0 ∷ 0 ∷ []) v 0
       ≡ kindNumber (getD (keptKinds false true) v SD)
   unfolding keptKinds kindNumber
   kept-instruction = one-kind v PI
@@ -319,12 +322,12 @@ both-are mode level m e =
     (λ a. absurd (true≢false (sym e ∙ rw a)))
 
 module _ (comments instructions : Bool) (mode level : ℕ) where
-  pub values-content : (eqb mode 5 && eqb level 0) ≡ true
+  pub values-content : (eqb mode inElement && eqb level 0) ≡ true
       → 2 ≡ valuesAt comments instructions mode level
   unfolding tables tableOf levelAt noKinds
-  values-content e = let (a, b) = both-are mode level 5 e in rw (a, b)
+  values-content e = let (a, b) = both-are mode level inElement e in rw (a, b)
 
-  pub values-tag : (eqb mode 4 && eqb level 0) ≡ true
+  pub values-tag : (eqb mode inTag && eqb level 0) ≡ true
       → 1 ≡ valuesAt comments instructions mode level
   unfolding tables tableOf levelAt noKinds
-  values-tag e = let (a, b) = both-are mode level 4 e in rw (a, b)
+  values-tag e = let (a, b) = both-are mode level inTag e in rw (a, b)

@@ -11,7 +11,7 @@ use Rattle.spec_fields.proofs.Tests.{split, T-is, is-T, left, right}
 use Rattle.spec_exi.specs.Event.{Kind, SD, ED, SE, AT, EE, CH, CM, PI}
 use Rattle.spec_exi.specs.Grammar.{Production, Code, unnamed, kindNumber, isWildcard, atLevel, below}
 use Rattle.spec_exi.specs.Grammar.{hasKind, teaches}
-use Rattle.event_code.specs.Numbers.{teachesIn}
+use Rattle.event_code.specs.Numbers.{teachesIn, inTag, inElement, numberAT, numberEE, numberCH}
 use Rattle.grammar_codes.specs.Table.{keptKinds, tables, tableOf, Reaches, at-level, in-next}
 use Rattle.grammar_codes.specs.Table.{FixedCode, raisedBy, afterLearned}
 use Rattle.grammar_codes.proofs.Table.{every, every-at}
@@ -21,9 +21,9 @@ use Rattle.grammar_codes.proofs.Table.{every, every-at}
 -- Where AT stands, and how many parts the codes of EE and CH have.
 unfoldable partsTest : ℕ → ℕ → ℕ → Bool
 partsTest mode parts kind =
-    cond (eqb kind 3) (eqb mode 4)
-    (cond (eqb kind 4) (cond (eqb mode 4) (eqb parts 2) (not (eqb parts 2)))
-    (cond (eqb kind 5) (eqb parts 2) true))
+    cond (eqb kind numberAT) (eqb mode inTag)
+    (cond (eqb kind numberEE) (cond (eqb mode inTag) (eqb parts 2) (not (eqb parts 2)))
+    (cond (eqb kind numberCH) (eqb parts 2) true))
 
 unfoldable levelsTest : (ℕ → Kind → Bool) → List (List Kind) → Bool
 levelsTest p [] = true
@@ -32,14 +32,14 @@ levelsTest p (l ∷ ls) = every (p 1) l && levelsTest (λ n. p (suc n)) ls
 abbrev tested : ℕ → ℕ → Kind → Bool
 tested mode n k = partsTest mode n (kindNumber k)
 
-tag-tested : (c i : Bool) → levelsTest (tested 4) (tableOf c i 4) ≡ true
+tag-tested : (c i : Bool) → levelsTest (tested inTag) (tableOf c i inTag) ≡ true
 unfolding levelsTest partsTest every tableOf tables keptKinds kindNumber
 tag-tested true true = refl
 tag-tested true false = refl
 tag-tested false true = refl
 tag-tested false false = refl
 
-element-tested : (c i : Bool) → levelsTest (tested 5) (tableOf c i 5) ≡ true
+element-tested : (c i : Bool) → levelsTest (tested inElement) (tableOf c i inElement) ≡ true
 unfolding levelsTest partsTest every tableOf tables keptKinds kindNumber
 element-tested true true = refl
 element-tested true false = refl
@@ -70,9 +70,9 @@ raised-length n (v ∷ vs) = refl
 module _ (n : ℕ) (ls : List Production) (x : Code) (wild : isWildcard (x .production .qname) ≡ true)
   where
     -- In a start tag.
-    tag-teaches : (k : Kind) → partsTest 4 (length (x .parts)) (kindNumber k) ≡ true
-        → (4 ≤ kindNumber k → kindNumber k ≤ 5 → hasKind k ls ≡ false)
-        → teaches ls (afterLearned n x) k ≡ teachesIn 4 (kindNumber k)
+    tag-teaches : (k : Kind) → partsTest inTag (length (x .parts)) (kindNumber k) ≡ true
+        → (numberEE ≤ kindNumber k → kindNumber k ≤ numberCH → hasKind k ls ≡ false)
+        → teaches ls (afterLearned n x) k ≡ teachesIn inTag (kindNumber k)
     unfolding teaches teachesIn partsTest afterLearned kindNumber
     tag-teaches SD t new = refl
     tag-teaches ED t new = refl
@@ -84,9 +84,9 @@ module _ (n : ℕ) (ls : List Production) (x : Code) (wild : isWildcard (x .prod
     tag-teaches PI t new = refl
 
     -- In an element's content.
-    element-teaches : (k : Kind) → partsTest 5 (length (x .parts)) (kindNumber k) ≡ true
-        → (4 ≤ kindNumber k → kindNumber k ≤ 5 → hasKind k ls ≡ false)
-        → teaches ls (afterLearned n x) k ≡ teachesIn 5 (kindNumber k)
+    element-teaches : (k : Kind) → partsTest inElement (length (x .parts)) (kindNumber k) ≡ true
+        → (numberEE ≤ kindNumber k → kindNumber k ≤ numberCH → hasKind k ls ≡ false)
+        → teaches ls (afterLearned n x) k ≡ teachesIn inElement (kindNumber k)
     unfolding teaches teachesIn partsTest afterLearned kindNumber
     element-teaches SD t new = refl
     element-teaches ED t new = refl
@@ -97,7 +97,7 @@ module _ (n : ℕ) (ls : List Production) (x : Code) (wild : isWildcard (x .prod
     element-teaches CM t new = refl
     element-teaches PI t new = refl
 
-module _ (c i : Bool) {mode : ℕ} (l : 4 ≤ mode) (h : mode ≤ 5) {x : Code} (k : Kind)
+module _ (c i : Bool) {mode : ℕ} (l : inTag ≤ mode) (h : mode ≤ inElement) {x : Code} (k : Kind)
     (f : FixedCode (tableOf c i mode) (kindNumber k) x) where
   wild : isWildcard (x .production .qname) ≡ true
   unfolding isWildcard unnamed
@@ -111,13 +111,13 @@ module _ (c i : Bool) {mode : ℕ} (l : 4 ≤ mode) (h : mode ≤ 5) {x : Code} 
 
   -- Where CH and EE teach, none of their kind is learned.
   pub fixed-teaches : (n : ℕ) (ls : List Production)
-      → (4 ≤ kindNumber k → kindNumber k ≤ 5 → hasKind k ls ≡ false)
+      → (numberEE ≤ kindNumber k → kindNumber k ≤ numberCH → hasKind k ls ≡ false)
       → teaches ls (afterLearned n x) k ≡ teachesIn mode (kindNumber k)
   fixed-teaches n ls new =
-      split (eqb mode 4)
+      split (eqb mode inTag)
       (λ t.
-      let z : mode ≡ 4 = eqb-true mode 4 t in
-      rw z (tag-teaches n ls x wild k (parts-test 4 z (tag-tested c i)) new))
+      let z : mode ≡ inTag = eqb-true mode inTag t in
+      rw z (tag-teaches n ls x wild k (parts-test inTag z (tag-tested c i)) new))
       (λ t.
-      let z : mode ≡ 5 = omega (arith, eqb-false mode 4 t) in
-      rw z (element-teaches n ls x wild k (parts-test 5 z (element-tested c i)) new))
+      let z : mode ≡ inElement = omega (arith, eqb-false mode inTag t) in
+      rw z (element-teaches n ls x wild k (parts-test inElement z (element-tested c i)) new))

@@ -14,10 +14,14 @@ use Rattle.spec_fields.specs.Bits.{Bits}
 use Rattle.spec_fields.specs.Field.{Alignment, choiceBits}
 use Rattle.spec_exi.specs.Event.{Kind, SD, ED, SE, AT, EE, CH, CM, PI}
 use Rattle.spec_exi.specs.Grammar.{Production, unnamed, kindNumber, Code, atLevel, below}
-use Rattle.event_code.specs.Numbers.{inTag, numberED, numberEE, numberCH}
+use Rattle.event_code.specs.Numbers.{inTag, numberED, numberEE, numberCH, kinds}
 use Rattle.grammar_codes.specs.declared.Place.{Place}
 
 -- ---- the table
+
+-- Levels of a state at most.
+abbrev pub maxLevels : ℕ
+maxLevels = 3
 
 -- Comments and instructions, as kept.
 unfoldable pub keptKinds : Bool → Bool → List Kind
@@ -88,14 +92,14 @@ unfoldable pub placeIn : List (List Kind) → ℕ → Option (ℕ × ℕ)
 placeIn [] kind = none
 placeIn (l ∷ ls) kind = inLevel (numberIn l kind) (placeIn ls kind)
 
--- The number 3 where no level has it.
+-- The most levels where none has it.
 unfoldable pub placeAs : Option (ℕ × ℕ) → Place
-placeAs none = record { level = 3; value = 0 }
+placeAs none = record { level = maxLevels; value = 0 }
 placeAs (some x) = record { level = x .0; value = x .1 }
 
 -- The same, of a level alone.
 unfoldable pub keptPlace : ℕ → Option ℕ → Place
-keptPlace level none = record { level = 3; value = 0 }
+keptPlace level none = record { level = maxLevels; value = 0 }
 keptPlace level (some v) = record { level = level; value = v }
 
 -- ---- in the definitions
@@ -149,11 +153,11 @@ pub record CountAt (comments instructions : Bool) (mode level r : ℕ) : Type 0 
 
 -- The document starts and ends outside of every element, which ends, and has characters, inside.
 pub record Stands (mode kind : ℕ) : Type 0 where
-  pub known : kind < 8
+  pub known : kind < kinds
   pub outside : kind ≤ numberED → mode < inTag
   pub inside : numberEE ≤ kind → kind ≤ numberCH → inTag ≤ mode
 
 pub record PlaceAt (comments instructions : Bool) (mode kind : ℕ) (r : Place) : Type 0 where
   pub is : r ≡ placeAs (placeIn (tableOf comments instructions mode) kind)
-  pub few : r .level ≤ 3
-  pub low : r .level < 3 → r .value < length (levelAt comments instructions mode (r .level))
+  pub few : r .level ≤ maxLevels
+  pub low : r .level < maxLevels → r .value < length (levelAt comments instructions mode (r .level))

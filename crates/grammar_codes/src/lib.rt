@@ -8,7 +8,8 @@ ghost use mathlib.Core.Option.{none};
 ghost use lib.ListN.{length, getD, drop};
 ghost use Rattle.spec_exi.specs.Event.{Kind, SD};
 ghost use Rattle.spec_exi.specs.Grammar.{kindNumber};
-ghost use Rattle.grammar_codes.specs.Table.{keptKinds, CountAt, valuesAt, PlaceAt};
+ghost use Rattle.event_code.specs.Numbers.{inTag, inElement};
+ghost use Rattle.grammar_codes.specs.Table.{maxLevels, keptKinds, CountAt, valuesAt, PlaceAt};
 ghost use Rattle.grammar_codes.specs.Table.{leadsOn, fixedLevels, fixedKinds};
 ghost use Rattle.grammar_codes.specs.Table.{tableOf, numberIn, keptPlace, placeIn, placeAs};
 use event_code::AT;
@@ -25,7 +26,10 @@ use event_code::PI;
 use event_code::SD;
 use event_code::SE;
 
-// A level, and the number of a production there; level 3 for none.
+// Levels of a state at most: an event code has a part for each, up to its production's.
+pub const MAX_LEVELS: u32 = 3;
+
+// A level, and the number of a production there; MAX_LEVELS for none.
 pub struct Place {
     pub level: u32,
     pub value: u32,
@@ -137,7 +141,7 @@ pub fn leads_on(mode: u32, comments: bool, instructions: bool) -> u32
 // How many values a part has at a level, the learned productions not counted: one leads to the
 // next level, where one has productions.
 pub fn values_at(mode: u32, level: u32, comments: bool, instructions: bool) -> u32
-    requires { ⌜ level < 3 ⌝ }
+    requires { ⌜ level < maxLevels ⌝ }
     ensures { λ r. ⌜ r ≡ valuesAt comments instructions mode level ⌝ }
 {
     // most parts are an element's first
@@ -159,7 +163,10 @@ pub fn values_at(mode: u32, level: u32, comments: bool, instructions: bool) -> u
 fn nowhere() -> Place
     ensures { λ r. ⌜ r ≡ placeAs none ⌝ }
 {
-    Place { level: 3, value: 0 }
+    Place {
+        level: MAX_LEVELS,
+        value: 0,
+    }
 }
 
 // A comment or an instruction, in the level that has those that are kept.
@@ -185,7 +192,7 @@ fn kept_place(kind: u32, level: u32, comments: bool, instructions: bool) -> Plac
 }
 
 fn tag_place(kind: u32, comments: bool, instructions: bool) -> Place
-    ensures { λ r. ⌜ r ≡ placeAs (placeIn (tableOf comments instructions 4) kind) ⌝ }
+    ensures { λ r. ⌜ r ≡ placeAs (placeIn (tableOf comments instructions inTag) kind) ⌝ }
 {
     match kind {
         EE => Place { level: 1, value: 0 },
@@ -197,7 +204,7 @@ fn tag_place(kind: u32, comments: bool, instructions: bool) -> Place
 }
 
 fn element_place(kind: u32, comments: bool, instructions: bool) -> Place
-    ensures { λ r. ⌜ r ≡ placeAs (placeIn (tableOf comments instructions 5) kind) ⌝ }
+    ensures { λ r. ⌜ r ≡ placeAs (placeIn (tableOf comments instructions inElement) kind) ⌝ }
 {
     match kind {
         EE => Place { level: 0, value: 0 },
@@ -224,16 +231,16 @@ pub fn place_of(mode: u32, kind: u32, comments: bool, instructions: bool) -> Pla
     ensures { λ r. ⌜ PlaceAt comments instructions mode kind r ⌝ }
 {
     match mode {
-        0 => {
+        IN_DOCUMENT => {
             if kind == SD {
                 return Place { level: 0, value: 0 };
             }
             nowhere()
         }
-        1 => outer_place(SE, kind, comments, instructions),
-        2 => outer_place(ED, kind, comments, instructions),
-        4 => tag_place(kind, comments, instructions),
-        5 => element_place(kind, comments, instructions),
+        IN_DOC_CONTENT => outer_place(SE, kind, comments, instructions),
+        IN_DOC_END => outer_place(ED, kind, comments, instructions),
+        IN_TAG => tag_place(kind, comments, instructions),
+        IN_ELEMENT => element_place(kind, comments, instructions),
         _ => nowhere(),
     }
 }

@@ -21,9 +21,9 @@ use Rattle.spec_exi.specs.Grammar.{Production, Code, kindNumber, isWildcard, at
 use Rattle.spec_exi.specs.Grammar.{codeOf, sameCode, codeBits, hasKind, teaches, taught}
 use Rattle.spec_exi.specs.Context.{levelsIn}
 use Rattle.spec_exi.proofs.Codes.{code-same}
-use Rattle.event_code.specs.Numbers.{teachesIn}
+use Rattle.event_code.specs.Numbers.{teachesIn, inTag, numberEE, numberCH}
 use Rattle.grammar_codes.specs.declared.Place.{Place}
-use Rattle.grammar_codes.specs.Table.{tableOf, valuesAt, placeIn, withLearned, FixedCode, codeAt}
+use Rattle.grammar_codes.specs.Table.{tableOf, valuesAt, placeIn, withLearned, FixedCode, codeAt, maxLevels}
 use Rattle.grammar_codes.specs.Table.{afterLearned, fixedBits, PlaceAt}
 use Rattle.grammar_codes.proofs.Table.{kinds-once}
 use Rattle.grammar_codes.proofs.Codes.{fixed-code, fixed-loose}
@@ -34,7 +34,6 @@ use Rattle.grammar_codes.proofs.Bits as bits
 use Rattle.grammar_codes.proofs.Teaches.{fixed-teaches}
 use Rattle.mem_index.specs.Index.{tally}
 use Rattle.mem_rows.specs.Rows.{Learnt, Rows, kindAt, carries, carriedAt, productionOf, contextOf}
-use Rattle.mem_rows.specs.Rows.{inTag}
 use Rattle.mem_learned.specs.Learned.{CountedAt}
 use Rattle.mem_rows.specs.Valid.{learntAt, Valid}
 use Rattle.mem_state.specs.Holds.{taughtIn}
@@ -61,7 +60,7 @@ untaught ls v p CM n q = refl
 untaught ls v p PI n q = refl
 
 -- EE and CH have no name.
-nameless : (e : Event Text) → 4 ≤ kindNumber (kindOf e) → kindNumber (kindOf e) ≤ 5 → nameOf e ≡ none
+nameless : (e : Event Text) → numberEE ≤ kindNumber (kindOf e) → kindNumber (kindOf e) ≤ numberCH → nameOf e ≡ none
 unfolding kindOf kindNumber nameOf
 nameless startDocument a b = refl
 nameless endDocument a b = refl
@@ -73,7 +72,7 @@ nameless (comment x) a b = refl
 nameless (instruction x y) a b = refl
 
 -- A site of a start tag has an odd number.
-odd-tag : (mode top : ℕ) → siteIn mode top % 2 ≡ 1 → mode ≡ 4
+odd-tag : (mode top : ℕ) → siteIn mode top % 2 ≡ 1 → mode ≡ inTag
 odd-tag mode top h =
     split (eqb mode inTag)
     (λ t. eqb-true mode inTag t)
@@ -88,18 +87,18 @@ module _ {work : List ℕ} {learned mode top : ℕ} {w : Rows} {opened : List �
   pub count-is : {count : ℕ} → CountedHere work mode top count
       → count ≡ length (learnedHere w mode opened)
   count-is counted =
-      split (ltb mode 4)
+      split (ltb mode inTag)
       (λ t.
-      let l = ltb-true mode 4 t in
+      let l = ltb-true mode inTag t in
       counted .outside l ∙ ap length (sym (outer-here h l)))
       (λ t.
-      let l = ltb-false mode 4 t in
+      let l = ltb-false mode inTag t in
       counted .counted l .count learned (taughtIn w) (h .hold)
       ∙ ap (tally _) (sym (h .hold .count))
       ∙ sym (here-count valid (siteIn mode top) (omega (arith, site-half mode top, top-row h l)))
       ∙ ap length (sym (inner-here h l)))
 
-  unlearned : 4 ≤ mode → (e : Event Text) → firstFit here e ≡ none → nameOf e ≡ none
+  unlearned : inTag ≤ mode → (e : Event Text) → firstFit here e ≡ none → nameOf e ≡ none
       → hasKind (kindOf e) here ≡ false
   unlearned l e miss n =
       rw (inner-here h l)
@@ -191,23 +190,23 @@ module _ {work : List ℕ} {learned mode top : ℕ} {w : Rows} {opened : List �
         (e : Event Text) (k : kindNumber (kindOf e) ≡ kind) where
       unplaced : placeIn t kind ≡ none → firstFit here e ≡ none
       unplaced z =
-          split (ltb mode 4)
-          (λ a. outer-none valid h e (ltb-true mode 4 a))
+          split (ltb mode inTag)
+          (λ a. outer-none valid h e (ltb-true mode inTag a))
           (λ a.
-          let l = ltb-false mode 4 a in
+          let l = ltb-false mode inTag a in
           kind-none valid h e l
           (λ j b d tag y. element-has (s .comments) (s .instructions) l (h .fits .known) j b d
           (λ o. odd-tag mode top (tag o)) (ap (placeIn t) (sym (sym k ∙ y)) ∙ z)))
 
       -- The state has no such production: SHAPE.
-      pub no-code : p .level ≡ 3 → codeHere s w store mode opened e ≡ none
+      pub no-code : p .level ≡ maxLevels → codeHere s w store mode opened e ≡ none
       no-code z =
           let none-there = no-place at z in
           rw (levels-here h s store)
           (place-none e here t (ap (placeIn t) k ∙ none-there) (unplaced none-there))
 
       -- It has one.
-      pub code-there : p .level < 3
+      pub code-there : p .level < maxLevels
           → (x : Code) × (codeHere s w store mode opened e ≡ some x)
       code-there l = go (firstFit here e) refl
         where
@@ -227,7 +226,7 @@ module _ {work : List ℕ} {learned mode top : ℕ} {w : Rows} {opened : List �
       table-bits level v l = rw (levels-here h s store) (code-bits a here t level v l)
 
       -- Of a learned one.
-      pub learned-bits : 4 ≤ mode → (v : ℕ)
+      pub learned-bits : inTag ≤ mode → (v : ℕ)
           → codeBits a (levelsIn s (contextOf w store mode opened)) (v ∷ [])
           ≡ choiceBits a (length here + valuesAt (s .comments) (s .instructions) mode 0) v
       learned-bits l v =

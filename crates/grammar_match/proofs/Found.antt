@@ -31,6 +31,7 @@ use Rattle.mem_state.specs.Holds.{taughtOf, taughtIn, Ahead}
 use Rattle.mem_state.proofs.Taught.{placeOf, is-named, taught-count, taught-row, ahead-kept}
 use Rattle.mem_state.proofs.Taught.{learned-ahead, taught-ahead}
 use Rattle.mem_state.proofs.Taught as taught
+use Rattle.event_code.specs.Numbers.{inTag, numberSE, numberCH}
 use Rattle.grammar_match.specs.Here.{siteIn, learnedHere, CodeRows}
 use Rattle.grammar_match.specs.Found.{FindPre, foundHere, NamedBy, newerIn, FitsAt, Finds}
 use Rattle.grammar_match.specs.Found.{FoundHere, PartPre, PartHere}
@@ -41,7 +42,7 @@ use Rattle.grammar_match.proofs.Rows.{fit-found, production-is}
 -- ---- what is sought
 
 pub find-asks : {work : List ℕ} (mode : ℕ) {top kind name learned site : ℕ}
-    → FindPre work top name learned → kind ≤ 5 → site ≡ siteIn mode top
+    → FindPre work top name learned → kind ≤ numberCH → site ≡ siteIn mode top
     → Findable work site kind name learned
 unfolding maxLearned
 find-asks mode {top} h k e =
@@ -60,18 +61,18 @@ none-fits : {w : Rows} {mode top name : ℕ} {opened : List ℕ} {e : Event Text
 none-fits z = record { miss = λ _. z; hit = λ g y. absurd (omega arith) }
 
 module _ {work : List ℕ} {mode : ℕ} (top kind name learned : ℕ) where
-  pub found-outside : mode < 4 → FoundHere work mode top kind name learned 0
+  pub found-outside : mode < inTag → FoundHere work mode top kind name learned 0
   unfolding foundHere firstFit
   found-outside l =
       record {
-        is = rw (lt-ltb mode 4 l);
+        is = rw (lt-ltb mode inTag l);
         within = omega arith;
         means = λ w v opened e valid ahead-valid ahead rows k n.
             none-fits (outer-none valid rows e l);
         fresh = λ w h m a b z. absurd (omega arith);
       }
 
-  other-post : 4 ≤ mode → ((k : ℕ) → 2 ≤ k → k ≤ 5 → kind ≡ k → ⊥)
+  other-post : inTag ≤ mode → ((k : ℕ) → 2 ≤ k → k ≤ 5 → kind ≡ k → ⊥)
       → 0 ≡ foundHere work mode top kind name learned
       → FoundHere work mode top kind name learned 0
   other-post l other is =
@@ -83,16 +84,16 @@ module _ {work : List ℕ} {mode : ℕ} (top kind name learned : ℕ) where
         fresh = λ w h m a b z. absurd (other kind a b refl);
       }
 
-  pub found-low : 4 ≤ mode → kind < 2 → FoundHere work mode top kind name learned 0
+  pub found-low : inTag ≤ mode → kind < numberSE → FoundHere work mode top kind name learned 0
   unfolding foundHere
   found-low l h =
-      other-post l (λ k a b z. omega arith) (rw (le-ltb mode 4 l, lt-ltb kind 2 h))
+      other-post l (λ k a b z. omega arith) (rw (le-ltb mode inTag l, lt-ltb kind numberSE h))
 
-  pub found-high : 4 ≤ mode → 2 ≤ kind → 5 < kind → FoundHere work mode top kind name learned 0
+  pub found-high : inTag ≤ mode → numberSE ≤ kind → numberCH < kind → FoundHere work mode top kind name learned 0
   unfolding foundHere
   found-high l a h =
       other-post l (λ k a b z. omega arith)
-      (rw (le-ltb mode 4 l, le-ltb kind 2 a, lt-ltb 5 kind h))
+      (rw (le-ltb mode inTag l, le-ltb kind numberSE a, lt-ltb numberCH kind h))
 
 -- ---- what is found
 
@@ -133,7 +134,7 @@ module _ {w v : Rows} (valid : Valid w) (vv : Valid v) (ahead : Ahead w v) (site
       (f .means (taughtIn v) hold′
       ∙ ap (lastThat (isRow (taughtIn v) site (kindNumber (kindOf e)) name)) (sym (hold′ .count)))
 
-row-there : (w : Rows) (i : ℕ) → i < length (w .learned) → (site kind name : ℕ) → kind ≤ 5
+row-there : (w : Rows) (i : ℕ) → i < length (w .learned) → (site kind name : ℕ) → kind ≤ numberCH
     → learntAt (w .learned) i ≡ record { site = site; kind = kind; name = name }
     → isRow (taughtIn w) site kind name i ≡ true
 unfolding isRow taughtOf
@@ -149,7 +150,7 @@ row-there w i b site kind name h e =
     )
 
 -- Where a row has this kind and name, it is the first that fits.
-module _ {work : List ℕ} {mode top kind name learned r : ℕ} (l : 4 ≤ mode)
+module _ {work : List ℕ} {mode top kind name learned r : ℕ} (l : inTag ≤ mode)
     (found : FoundLearned work (siteIn mode top) kind name learned r) {w v : Rows}
     {opened : List ℕ} {e : Event Text} (valid : Valid w) (ahead : Ahead w v)
     (rows : CodeRows work learned mode top w opened) (k : kindNumber (kindOf e) ≡ kind)
@@ -226,8 +227,8 @@ module _ {work : List ℕ} {mode top kind name learned r : ℕ} (l : 4 ≤ mode)
             (production-is valid site there g row-inside);
       }
 
-module _ {work : List ℕ} (mode top : ℕ) {kind name learned site r : ℕ} (l : 4 ≤ mode)
-    (a : 2 ≤ kind) (b : kind ≤ 5) (s : site ≡ siteIn mode top)
+module _ {work : List ℕ} (mode top : ℕ) {kind name learned site r : ℕ} (l : inTag ≤ mode)
+    (a : numberSE ≤ kind) (b : kind ≤ numberCH) (s : site ≡ siteIn mode top)
     (f : FoundLearned work site kind name learned r) where
   found : FoundLearned work (siteIn mode top) kind name learned r
   found = subst (λ k. FoundLearned work k kind name learned r) s f
@@ -236,7 +237,7 @@ module _ {work : List ℕ} (mode top : ℕ) {kind name learned site r : ℕ} (l 
   unfolding foundHere
   found-row =
       record {
-        is = rw (le-ltb mode 4 l, le-ltb kind 2 a, le-ltb 5 kind b) (found .is);
+        is = rw (le-ltb mode inTag l, le-ltb kind numberSE a, le-ltb numberCH kind b) (found .is);
         within = f .within;
         means = λ w v opened e valid vv ahead rows k n.
             record {

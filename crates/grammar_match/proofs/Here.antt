@@ -14,12 +14,12 @@ use Rattle.spec_exi.specs.Event.{QName}
 use Rattle.spec_exi.specs.Settings.{Settings}
 use Rattle.spec_exi.specs.Grammar.{learnedIn, learnedAt, siteOf}
 use Rattle.spec_exi.specs.Context.{levelsIn}
-use Rattle.event_code.specs.Numbers.{modeOf}
+use Rattle.event_code.specs.Numbers.{modeOf, inTag, inElement}
 use Rattle.grammar_codes.specs.Table.{tables, tableOf, withLearned}
 use Rattle.grammar_codes.proofs.Codes.{levels-table}
 use Rattle.mem_layout.specs.Layout.{nameRows, sites}
 use Rattle.mem_learned.specs.Learned.{Sited, CountedAt}
-use Rattle.mem_rows.specs.Rows.{Rows, nameAt, siteAt, learnedOf, stateOf, inTag}
+use Rattle.mem_rows.specs.Rows.{Rows, nameAt, siteAt, learnedOf, stateOf}
 use Rattle.mem_rows.specs.Rows.{ModeFits, contextOf}
 use Rattle.mem_rows.proofs.States.{site-of, site-none}
 use Rattle.grammar_match.specs.Here.{siteIn, SitePre, CountedHere, CodeRows, learnedHere}
@@ -44,11 +44,11 @@ pub count-asks : {work : List ℕ} (mode : ℕ) {top site : ℕ} → SitePre wor
 count-asks mode {top} h e =
     record { room = h .room; low = omega (arith, e, site-low mode top (h .low)); few = omega arith }
 
-pub count-outside : {work : List ℕ} {mode top : ℕ} → mode < 4 → CountedHere work mode top 0
+pub count-outside : {work : List ℕ} {mode top : ℕ} → mode < inTag → CountedHere work mode top 0
 count-outside l =
     record { outside = λ _. refl; counted = λ h. absurd (omega arith); few = omega arith }
 
-pub count-inside : {work : List ℕ} {mode top site r : ℕ} → 4 ≤ mode → site ≡ siteIn mode top
+pub count-inside : {work : List ℕ} {mode top site r : ℕ} → inTag ≤ mode → site ≡ siteIn mode top
     → CountedAt work site r → CountedHere work mode top r
 count-inside {work} {mode} {top} {r = r} l e g =
     record {
@@ -95,7 +95,7 @@ module _ {work : List ℕ} {learned mode top : ℕ} {w : Rows} {opened : List �
       state-mode
 
   -- Outside of every element nothing is learned.
-  pub outer-here : mode < 4 → learnedHere w mode opened ≡ []
+  pub outer-here : mode < inTag → learnedHere w mode opened ≡ []
   unfolding learnedAt
   outer-here l =
       let e : opened ≡ [] = empty opened (h .fits .outer l) in
@@ -105,7 +105,7 @@ module _ {work : List ℕ} {learned mode top : ℕ} {w : Rows} {opened : List �
       empty [] e = refl
       empty (x ∷ l) e = absurd (omega arith)
 
-  module _ (l : 4 ≤ mode) where
+  module _ (l : inTag ≤ mode) where
     pub site-here :
         siteOf (stateOf mode (map (nameAt w) opened)) ≡ some (siteAt w (siteIn mode top))
     site-here = go opened (h .fits .inner l) (h .topped)
@@ -131,12 +131,12 @@ module _ {work : List ℕ} {learned mode top : ℕ} {w : Rows} {opened : List �
   pub table-empty : (c i : Bool) → tableOf c i mode ≡ [] → learnedHere w mode opened ≡ []
   unfolding tableOf tables
   table-empty c i e =
-      split (ltb mode 4)
-      (λ t. outer-here (ltb-true mode 4 t))
-      (λ t. split (eqb mode 4)
+      split (ltb mode inTag)
+      (λ t. outer-here (ltb-true mode inTag t))
+      (λ t. split (eqb mode inTag)
       (λ u.
-      let z : mode ≡ 4 = eqb-true mode 4 u in
+      let z : mode ≡ inTag = eqb-true mode inTag u in
       let n = ap length (rw z at e) in absurd (omega arith))
       (λ u.
-      let z : mode ≡ 5 = omega (arith, ltb-false mode 4 t, eqb-false mode 4 u, h .fits .known) in
+      let z : mode ≡ inElement = omega (arith, ltb-false mode inTag t, eqb-false mode inTag u, h .fits .known) in
       let n = ap length (rw z at e) in absurd (omega arith)))

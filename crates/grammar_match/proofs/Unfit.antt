@@ -17,6 +17,7 @@ use Rattle.mem_rows.specs.Valid.{noLearnt, LearntFits, Valid}
 use Rattle.mem_rows.proofs.Kept.{All, more, all-backward, all-at}
 use Rattle.mem_rows.proofs.Kept as kept
 use Rattle.mem_rows.proofs.Learned.{learntIn, learned-at}
+use Rattle.event_code.specs.Numbers.{inTag}
 use Rattle.grammar_match.specs.Here.{siteIn, CodeRows, learnedHere}
 use Rattle.grammar_match.proofs.Here.{site-half, outer-here, inner-here, top-row}
 
@@ -78,7 +79,7 @@ module _ {w : Rows} (valid : Valid w) (site : ℕ) (e : Event Text)
 
 module _ {work : List ℕ} {learned mode top : ℕ} {w : Rows} {opened : List ℕ} (valid : Valid w)
     (rows : CodeRows work learned mode top w opened) (e : Event Text) where
-  pub kind-none : 4 ≤ mode
+  pub kind-none : inTag ≤ mode
       → ((k : ℕ) → 2 ≤ k → k ≤ 5 → (k ≡ 3 → siteIn mode top % 2 ≡ 1) → kindNumber (kindOf e) ≡ k → ⊥)
       → firstFit (learnedHere w mode opened) e ≡ none
   kind-none l other =
@@ -86,6 +87,6 @@ module _ {work : List ℕ} {learned mode top : ℕ} {w : Rows} {opened : List �
       ∙ kind-apart valid (siteIn mode top) e other
       (omega (arith, site-half mode top, top-row rows l))
 
-  pub outer-none : mode < 4 → firstFit (learnedHere w mode opened) e ≡ none
+  pub outer-none : mode < inTag → firstFit (learnedHere w mode opened) e ≡ none
   unfolding firstFit
   outer-none l = rw (outer-here rows l)

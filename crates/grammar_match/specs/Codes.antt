@@ -9,8 +9,8 @@ use Rattle.spec_exi.specs.Event.{QName, Event, kindOf}
 use Rattle.spec_exi.specs.Settings.{Settings}
 use Rattle.spec_exi.specs.Tables.{Placed}
 use Rattle.spec_exi.specs.Grammar.{Code, taught}
-use Rattle.event_code.specs.Numbers.{teachesIn}
-use Rattle.mem_rows.specs.Rows.{Rows, inTag}
+use Rattle.event_code.specs.Numbers.{teachesIn, inTag}
+use Rattle.mem_rows.specs.Rows.{Rows}
 use Rattle.grammar_match.specs.Here.{learnedHere, codeHere}
 
 module _ (s : Settings) (w : Rows) (store : Text) (mode : ℕ) (opened : List ℕ) where

@@ -14,9 +14,10 @@ use Rattle.mem_layout.specs.Layout.{nameRows, workCells}
 use Rattle.mem_index.specs.Index.{tally, hasKey, foundIn}
 use Rattle.mem_learned.specs.Learned.{siteOfRow, nameIndex, nameCode, LearnedHold, productionIn}
 use Rattle.mem_learned.specs.Learned.{partIn, CountedAt}
-use Rattle.mem_rows.specs.Rows.{Rows, nameAt, carries, productionOf, inTag}
+use Rattle.mem_rows.specs.Rows.{Rows, nameAt, carries, productionOf}
 use Rattle.mem_rows.specs.Valid.{learntAt, LearntFits, Valid}
 use Rattle.mem_state.specs.Holds.{taughtIn, Ahead}
+use Rattle.event_code.specs.Numbers.{inTag, numberSE, numberCH}
 use Rattle.grammar_match.specs.Here.{siteIn, CodeRows, learnedHere}
 
 -- ---- by kind and name
@@ -30,7 +31,7 @@ pub record FindPre (work : List ℕ) (top name learned : ℕ) : Type 0 where
 -- Outside an element nothing is learned, and in one only SE, AT, EE and CH.
 unfoldable pub foundHere : List ℕ → ℕ → ℕ → ℕ → ℕ → ℕ → ℕ
 foundHere work mode top kind name learned =
-    cond (ltb mode 4 || ltb kind 2 || ltb 5 kind) 0
+    cond (ltb mode inTag || ltb kind numberSE || ltb numberCH kind) 0
     (foundIn work nameIndex learned 0 (nameCode (siteIn mode top) kind name))
 
 -- The event's name has this row in v, which has the rows of memory and the event's own strings.
@@ -70,8 +71,8 @@ pub record FoundHere (work : List ℕ) (mode top kind name learned r : ℕ) : Ty
       → CodeRows work learned mode top w opened → kindNumber (kindOf e) ≡ kind → NamedBy v e name
       → Finds w mode top name opened e r
   -- no learned production of the site has this kind and name
-  pub fresh : (w : Rows) → LearnedHold work learned (taughtIn w) → inTag ≤ mode → 2 ≤ kind
-      → kind ≤ 5 → r ≡ 0 → (i : ℕ) → i < length (w .learned)
+  pub fresh : (w : Rows) → LearnedHold work learned (taughtIn w) → inTag ≤ mode → numberSE ≤ kind
+      → kind ≤ numberCH → r ≡ 0 → (i : ℕ) → i < length (w .learned)
       → learntAt (w .learned) i
       ≡ record { site = siteIn mode top; kind = kind; name = name } → ⊥
 

@@ -13,8 +13,9 @@ use Rattle.spec_exi.specs.Context.{levelsIn}
 use Rattle.mem_layout.specs.Layout.{nameRows, workCells}
 use Rattle.mem_learned.specs.Learned.{LearnedHold, CountedAt}
 use Rattle.mem_rows.specs.Rows.{Rows, nameAt, siteNumber, learnedOf, stateOf, ModeFits, contextOf}
-use Rattle.mem_rows.specs.Rows.{inTag}
 use Rattle.mem_state.specs.Holds.{taughtIn}
+use Rattle.event_code.specs.Numbers.{inTag}
+use Rattle.mem_index.specs.Index.{numbers}
 
 -- ---- memory
 
@@ -27,9 +28,9 @@ pub record SitePre (work : List ℕ) (top : ℕ) : Type 0 where
   pub low : top < nameRows
 
 pub record CountedHere (work : List ℕ) (mode top r : ℕ) : Type 0 where
-  pub outside : mode < 4 → r ≡ 0
-  pub counted : 4 ≤ mode → CountedAt work (siteIn mode top) r
-  pub few : r ≤ 4096
+  pub outside : mode < inTag → r ≡ 0
+  pub counted : inTag ≤ mode → CountedAt work (siteIn mode top) r
+  pub few : r ≤ numbers
 
 -- ---- rows
 

@@ -20,6 +20,7 @@ use Rattle.mem_state.specs.declared.Core.{Core}
 use Rattle.mem_state.specs.declared.Strings.{Strings}
 use Rattle.mem_state.specs.Holds.{Stores, Ahead, Represents}
 use Rattle.mem_state.proofs.Taught.{ahead-kept}
+use Rattle.event_code.specs.Numbers.{numberAT}
 use Rattle.grammar_update.specs.Growth.{allowedIn}
 use Rattle.grammar_update.proofs.Events.{EventNamed, named-low, named-as}
 
@@ -33,9 +34,9 @@ unfolding contextOf allowedIn kindNumber
 allows-is {w = w} {v} {s = s} {kind} {e} rep ahead valid known low store =
     let row = s .«name_row» in
     let r = rep .valid .refers in
-    split (eqb kind 3)
+    split (eqb kind numberAT)
     (λ t.
-    let k : kind ≡ 3 = eqb-true kind 3 t in
+    let k : kind ≡ numberAT = eqb-true kind numberAT t in
     tag-attribute (tagIn w) e (known .kind-is ∙ k) (nameAt v row)
     (named-as known (omega arith) (omega arith)) .1
     ∙ ap not (ap (λ (z : Tag). hasName (z .attributes) (nameAt v row))
@@ -44,4 +45,4 @@ allows-is {w = w} {v} {s = s} {kind} {e} rep ahead valid known low store =
     ∙ ap (isAmong row) (ahead .attributes) ∙ sym (rep .marks .are row low))
     ∙ rw t)
     (λ t.
-    tag-other (tagIn w) e (λ z. eqb-false kind 3 t (sym (known .kind-is) ∙ z)) .1 ∙ rw t)
+    tag-other (tagIn w) e (λ z. eqb-false kind numberAT t (sym (known .kind-is) ∙ z)) .1 ∙ rw t)

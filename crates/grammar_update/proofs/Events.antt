@@ -21,14 +21,14 @@ use Rattle.spec_exi.specs.Grammar.{kindNumber, Production, Code, Site, siteOf, 
 use Rattle.spec_exi.specs.Context.{levelsIn, items, afterItems, after, next}
 use Rattle.spec_exi.specs.Lists.{withinGrammars}
 use Rattle.spec_exi.specs.Alike.{Alike, AlikeTables}
-use Rattle.event_code.specs.Numbers.{teachesIn}
+use Rattle.event_code.specs.Numbers.{teachesIn, inTag, inElement, numberSE, numberAT, numberCH}
 use Rattle.event_code.proofs.Numbers.{teaches-in}
 use Rattle.grammar_codes.specs.Table.{Stands}
 use Rattle.mem_layout.specs.Layout.{uriRows, nameRows}
 use Rattle.mem_entries.specs.Entries.{keyAt}
 use Rattle.mem_learned.proofs.Grammars.{flag-is}
 use Rattle.mem_rows.specs.Rows.{Rows, placedAt, nameAt, kindAt, carries, carriedAt, siteAt}
-use Rattle.mem_rows.specs.Rows.{productionOf, stateOf, inTag, isAmong, modeAfter, openedAfter}
+use Rattle.mem_rows.specs.Rows.{productionOf, stateOf, isAmong, modeAfter, openedAfter}
 use Rattle.mem_rows.specs.Rows.{leaves, contextOf, tablesOf}
 use Rattle.mem_rows.specs.Valid.{learntAt, Valid}
 use Rattle.mem_rows.proofs.Kept.{Kept, all-at, name-kept}
@@ -70,7 +70,7 @@ pub record EventTaught (w : Rows) (mode top kind row : ℕ) (opened : List ℕ) 
   pub taught-is : learned ≡ false → inTag ≤ mode → (q : Option (QName Placed))
       → taught (learnedHere w mode opened) x (kindOf e) q
       ≡ cond (teachesIn mode kind) (some (record { kind = kindOf e; qname = q })) none
-  pub fresh : learned ≡ false → inTag ≤ mode → 2 ≤ kind → kind ≤ 5 → (i : ℕ)
+  pub fresh : learned ≡ false → inTag ≤ mode → numberSE ≤ kind → kind ≤ numberCH → (i : ℕ)
       → i < length (w .learned)
       → learntAt (w .learned) i ≡ record { site = siteIn mode top; kind = kind; name = row } → ⊥
 
@@ -126,7 +126,7 @@ module _ (v : Rows) where
   unfolding nameText mapName nameAt
   text-of n = refl
 
-carries-name : (k : Kind) → 2 ≤ kindNumber k → kindNumber k ≤ 3 → carries k ≡ true
+carries-name : (k : Kind) → numberSE ≤ kindNumber k → kindNumber k ≤ numberAT → carries k ≡ true
 unfolding kindNumber carries
 carries-name SD h l = absurd (omega arith)
 carries-name ED h l = absurd (omega arith)
@@ -139,7 +139,7 @@ carries-name PI h l = absurd (omega arith)
 
 -- Where it has one, by its kind.
 module _ {v : Rows} {mode : ℕ} {s : Strings} {kind : ℕ} {e : Event Text}
-    (known : EventNamed v mode s kind e) (from : 2 ≤ kind) (upTo : kind ≤ 3) where
+    (known : EventNamed v mode s kind e) (from : numberSE ≤ kind) (upTo : kind ≤ numberAT) where
   carries-known : carries (kindOf e) ≡ true
   carries-known =
       carries-name (kindOf e) (omega (arith, known .kind-is)) (omega (arith, known .kind-is))
@@ -177,12 +177,12 @@ in-element {mode = mode} {w = w} {opened = opened} r k e =
     none-some h = let z : _≡_ {A = ℕ} 0 1 = cc in omega arith
 
 -- AT teaches in a start tag alone.
-teaches-tag : (mode kind : ℕ) → teachesIn mode kind ≡ true → kind ≡ 3 → mode ≡ 4
+teaches-tag : (mode kind : ℕ) → teachesIn mode kind ≡ true → kind ≡ numberAT → mode ≡ inTag
 unfolding teachesIn
 teaches-tag mode kind t e =
-    split (eqb mode 4)
-    (λ a. eqb-true mode 4 a)
-    (λ a. split (eqb mode 5)
+    split (eqb mode inTag)
+    (λ a. eqb-true mode inTag a)
+    (λ a. split (eqb mode inElement)
     (λ b. absurd (true≢false (sym t ∙ rw (e, a, b))))
     (λ b. absurd (true≢false (sym t ∙ rw (e, a, b)))))
 

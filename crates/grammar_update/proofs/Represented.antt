@@ -9,10 +9,11 @@ use Rattle.spec_fields.proofs.Tests.{split}
 use Rattle.spec_exi.specs.Tables.{value}
 use Rattle.spec_exi.specs.Context.{characterRole}
 use Rattle.mem_learned.specs.Learned.{LearnedHold}
-use Rattle.mem_rows.specs.Rows.{Rows, nameAt, stateOf, inTag, ModeFits}
+use Rattle.mem_rows.specs.Rows.{Rows, nameAt, stateOf, ModeFits}
 use Rattle.mem_state.specs.declared.Core.{Core}
 use Rattle.mem_state.specs.Holds.{taughtIn, Stores, Bounded, Topped, Represents}
 use Rattle.grammar_match.specs.Here.{CodeRows}
+use Rattle.event_code.specs.Numbers.{inTag}
 
 module _ {work : List ℕ} {from : Stores} {c : Core} {w : Rows} {opened : List ℕ}
     (r : Represents work from c w opened) (b : Bounded c) (t : Topped c opened) where

@@ -26,6 +26,7 @@ use Rattle.mem_state.specs.declared.Growth.{Growth}
 use Rattle.mem_state.specs.Holds.{Bounded}
 use Rattle.mem_state.specs.Commit.{depthAfter}
 use Rattle.mem_state.specs.Grows.{learntOf, entersIn}
+use Rattle.event_code.specs.Numbers.{numberSE}
 use Rattle.grammar_update.specs.Growth.{fitsIn}
 
 -- ---- how many of each there are after the event
@@ -170,20 +171,20 @@ module _ (c : Core) (g : Growth) (h : fitsIn c g ≡ true) where
 -- ---- the code's tests, one after the other
 
 module _ (c : Core) (g : Growth) where
-  pub not-open : (eqb (g .kind) 2 && leb 100 (c .depth)) ≡ true → false ≡ fitsIn c g
+  pub not-open : (eqb (g .kind) numberSE && leb maxOpen (c .depth)) ≡ true → false ≡ fitsIn c g
   unfolding fitsIn kindNumber maxOpen
   not-open h = rw h
 
-  module _ (a : (eqb (g .kind) 2 && leb 100 (c .depth)) ≡ false) where
-    pub not-grammars : (g .enters && leb 64 (c .grammars)) ≡ true → false ≡ fitsIn c g
+  module _ (a : (eqb (g .kind) numberSE && leb maxOpen (c .depth)) ≡ false) where
+    pub not-grammars : (g .enters && leb maxGrammars (c .grammars)) ≡ true → false ≡ fitsIn c g
     unfolding fitsIn kindNumber maxOpen maxGrammars
     not-grammars h = rw (a, h)
 
-    module _ (d : (g .enters && leb 64 (c .grammars)) ≡ false) where
-      pub not-learned : (g .teaches && leb 512 (c .learned)) ≡ true → false ≡ fitsIn c g
+    module _ (d : (g .enters && leb maxGrammars (c .grammars)) ≡ false) where
+      pub not-learned : (g .teaches && leb maxLearned (c .learned)) ≡ true → false ≡ fitsIn c g
       unfolding fitsIn kindNumber maxOpen maxGrammars maxLearned
       not-learned h = rw (a, d, h)
 
-      pub all-fit : (g .teaches && leb 512 (c .learned)) ≡ false → true ≡ fitsIn c g
+      pub all-fit : (g .teaches && leb maxLearned (c .learned)) ≡ false → true ≡ fitsIn c g
       unfolding fitsIn kindNumber maxOpen maxGrammars maxLearned
       all-fit h = rw (a, d, h)

@@ -62,18 +62,23 @@ linked work head nexts ring n = set (set work (nexts + n % ring) (getD work head
 
 -- ---- what the functions ask, and what they answer
 
+-- No count of rows and no place in a store is above this: what is added to one stays a number of 32
+-- bits.
+abbrev pub maxCount : ℕ
+maxCount = 65536
+
 pub record Walkable (work : List ℕ) (head codes nexts ring n : ℕ) : Type 0 where
   pub some : 0 < ring
   pub headRoom : head < length work
   pub codeRoom : codes + ring ≤ length work
   pub nextRoom : nexts + ring ≤ length work
-  pub few : n < 65536
+  pub few : n < maxCount
 
 pub record Linkable (work : List ℕ) (head nexts ring n : ℕ) : Type 0 where
   pub some : 0 < ring
   pub headRoom : head < length work
   pub nextRoom : nexts + ring ≤ length work
-  pub few : n < 65536
+  pub few : n < maxCount
 
 -- The cells from codes on have the codes of the rows in the ring, and the chain from the head has
 -- every row of this code.

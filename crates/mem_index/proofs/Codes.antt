@@ -11,14 +11,14 @@ use borrow.Author.Tests.{eqb-true, eqb-false, eq-eqb, lt-ltb, le-ltb}
 use Rattle.mem_chain.specs.Chain.{lastThat, since, below, inBucket, hasCode, CodeChain, Newest}
 use Rattle.mem_chain.proofs.Last.{split, last-same, last-zero, since-out, below-in, below-less}
 use Rattle.mem_index.specs.declared.Index.{Index}
-use Rattle.mem_index.specs.Index.{numbers, spotOf, Coded, foundIn, tally, hasKey, numberAt}
+use Rattle.mem_index.specs.Index.{numbers, stride, spotOf, Coded, foundIn, tally, hasKey, numberAt}
 use Rattle.mem_index.specs.Index.{codeAt, isNumbered, Numbered, countIn, nthIn}
 use Rattle.mem_index.specs.Index.{Found, Counted, NthFound}
 use Rattle.mem_index.proofs.Tally.{tally-most}
 
 pub spot-low : (code size : ℕ) → 0 < size → spotOf code size < size
 unfolding spotOf
-spot-low code size h = mod-lt (code + code / 4096 * 37) h
+spot-low code size h = mod-lt (code + code / numbers * stride) h
 
 pub and-true : (a b : Bool) → a ≡ true → b ≡ true → (a && b) ≡ true
 and-true a b p q = rw (p, q)
@@ -66,34 +66,34 @@ module _ (keyOf : ℕ → ℕ) (i : ℕ) where
   unfolding numberAt
   number-most = tally-most (hasKey keyOf (keyOf i)) i
 
-  module _ (few : i < 4096) where
-    pub code-key : codeAt keyOf i / 4096 ≡ keyOf i
+  module _ (few : i < numbers) where
+    pub code-key : codeAt keyOf i / numbers ≡ keyOf i
     unfolding codeAt
     code-key = let m = number-most in omega arith
 
-    pub code-number : codeAt keyOf i % 4096 ≡ numberAt keyOf i
+    pub code-number : codeAt keyOf i % numbers ≡ numberAt keyOf i
     unfolding codeAt
     code-number = let m = number-most in omega arith
 
-    pub code-test : (key number : ℕ) → number < 4096
-        → hasCode (codeAt keyOf) (key * 4096 + number) i ≡ isNumbered keyOf key number i
+    pub code-test : (key number : ℕ) → number < numbers
+        → hasCode (codeAt keyOf) (key * numbers + number) i ≡ isNumbered keyOf key number i
     unfolding isNumbered
     code-test key number h =
-        let o : codeAt keyOf i / 4096 ≡ keyOf i = code-key in
-        let m : codeAt keyOf i % 4096 ≡ numberAt keyOf i = code-number in
-        split (eqb (codeAt keyOf i) (key * 4096 + number))
+        let o : codeAt keyOf i / numbers ≡ keyOf i = code-key in
+        let m : codeAt keyOf i % numbers ≡ numberAt keyOf i = code-number in
+        split (eqb (codeAt keyOf i) (key * numbers + number))
         (λ y.
-        let z : codeAt keyOf i ≡ key * 4096 + number = eqb-true _ _ y in
+        let z : codeAt keyOf i ≡ key * numbers + number = eqb-true _ _ y in
         y ∙ sym (and-true _ _ (eq-eqb key (keyOf i) (omega arith))
         (eq-eqb (numberAt keyOf i) number (omega arith))))
         (λ y.
         y ∙ sym (and-no (eqb key (keyOf i)) (eqb (numberAt keyOf i) number) (λ a b.
         let p : key ≡ keyOf i = eqb-true _ _ a in
         let q : numberAt keyOf i ≡ number = eqb-true _ _ b in
-        let z : codeAt keyOf i ≡ key * 4096 + number = omega arith in
-        eqb-false (codeAt keyOf i) (key * 4096 + number) y z)))
+        let z : codeAt keyOf i ≡ key * numbers + number = omega arith in
+        eqb-false (codeAt keyOf i) (key * numbers + number) y z)))
 
-    pub number-large : (key number : ℕ) → 4096 ≤ number → isNumbered keyOf key number i ≡ false
+    pub number-large : (key number : ℕ) → numbers ≤ number → isNumbered keyOf key number i ≡ false
     unfolding isNumbered
     number-large key number h =
         and-no (eqb key (keyOf i)) (eqb (numberAt keyOf i) number) (λ a b.

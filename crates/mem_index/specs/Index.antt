@@ -13,8 +13,17 @@ use Rattle.mem_index.specs.declared.Index.{Index}
 abbrev pub numbers : ℕ
 numbers = 4096
 
+-- One more than the greatest key.
+abbrev pub maxKeys : ℕ
+maxKeys = 512
+
+-- So many buckets from the first row of a key to that of the next: an odd number, so that keys
+-- share as few as can be.
+abbrev pub stride : ℕ
+stride = 37
+
 unfoldable pub spotOf : ℕ → ℕ → ℕ
-spotOf code size = (code + code / 4096 * 37) % size
+spotOf code size = (code + code / numbers * stride) % size
 
 -- ---- rows by a code
 
@@ -52,7 +61,7 @@ numberAt keyOf i = tally (hasKey keyOf (keyOf i)) i
 
 -- Key and number in one code.
 unfoldable pub codeAt : (ℕ → ℕ) → ℕ → ℕ
-codeAt keyOf i = keyOf i * 4096 + numberAt keyOf i
+codeAt keyOf i = keyOf i * numbers + numberAt keyOf i
 
 -- Row i is the one with this key and number.
 unfoldable pub isNumbered : (ℕ → ℕ) → ℕ → ℕ → ℕ → Bool
@@ -84,7 +93,7 @@ joined work x counts n key =
 
 pub record Spotting (code size : ℕ) : Type 0 where
   pub some : 0 < size
-  pub small : code < 2097152
+  pub small : code < maxKeys * numbers
 
 pub record Seeking (work : List ℕ) (x : Index) (n code : ℕ) : Type 0 where
   pub some : 0 < x .ring
@@ -93,14 +102,14 @@ pub record Seeking (work : List ℕ) (x : Index) (n code : ℕ) : Type 0 where
   pub codeRoom : x .codes + x .ring ≤ length work
   pub nextRoom : x .nexts + x .ring ≤ length work
   pub few : n ≤ numbers
-  pub small : code < 2097152
+  pub small : code < maxKeys * numbers
 
 abbrev pub Entering : List ℕ → Index → ℕ → ℕ → Type 0
 Entering = Seeking
 
 pub record Counting (work : List ℕ) (counts key : ℕ) : Type 0 where
   pub room : counts + key < length work
-  pub low : key < 512
+  pub low : key < maxKeys
 
 pub record Asking (work : List ℕ) (x : Index) (key n : ℕ) : Type 0 where
   pub some : 0 < x .ring
@@ -109,7 +118,7 @@ pub record Asking (work : List ℕ) (x : Index) (key n : ℕ) : Type 0 where
   pub codeRoom : x .codes + x .ring ≤ length work
   pub nextRoom : x .nexts + x .ring ≤ length work
   pub few : n ≤ numbers
-  pub low : key < 511
+  pub low : key + 1 < maxKeys
 
 pub record Joining (work : List ℕ) (x : Index) (counts n key : ℕ) : Type 0 where
   pub asking : Asking work x key n

@@ -11,6 +11,10 @@ ghost use Rattle.mem_index.specs.Index.{Counting, Counted, Asking, NthFo
 // One more than the greatest number.
 pub const NUMBERS: u32 = 4096;
 
+// So many buckets from the first row of a key to that of the next: an odd number, so that keys
+// share as few as can be.
+pub const STRIDE: u32 = 37;
+
 // Where an index lies: heads, a cell for each of so many buckets; codes and links, a cell for each
 // row of the ring.
 pub struct Index {
@@ -26,7 +30,7 @@ fn spot(code: u32, size: u32) -> u32
     requires { ⌜ Spotting code size ⌝ }
     ensures { λ r. ⌜ Spot code size r ⌝ }
 {
-    (code + code / NUMBERS * 37) % size
+    (code + code / NUMBERS * STRIDE) % size
 }
 
 // The newest row with this code among those from low on.

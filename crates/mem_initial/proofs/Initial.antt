@@ -33,12 +33,13 @@ use Rattle.mem_learned.proofs.Joined.{learned-none}
 use Rattle.mem_learned.proofs.Grammars.{grammars-none}
 use Rattle.mem_rows.specs.Rows.{placedAt, nameAt, tablesOf, backward, learnedOf, grammarsOf}
 use Rattle.mem_rows.specs.Rows.{tagIn, isAmong}
-use Rattle.mem_rows.specs.Rows.{inDocument, stateOf, contextOf, withUri, withName}
+use Rattle.mem_rows.specs.Rows.{stateOf, contextOf, withUri, withName}
 use Rattle.mem_rows.specs.Valid.{Valid}
 use Rattle.mem_rows.proofs.Alike.{rows-context}
 use Rattle.mem_state.specs.Holds.{taughtIn, Stores, inStore, Holds, Bounded, Topped, Represents}
 use Rattle.mem_state.specs.Holds.{contextAt}
-use Rattle.mem_initial.specs.Initial.{zeroed, initialUris, initialNames, together, urisText}
+use Rattle.event_code.specs.Numbers.{inDocument}
+use Rattle.mem_initial.specs.Initial.{zeroed, initialUris, initialNames, together, urisText, initialSize}
 use Rattle.mem_initial.specs.Initial.{namesText, initialText, withText, urisLaid, namesLaid}
 use Rattle.mem_initial.specs.Initial.{withRows, plusUris, plusNames, noRows, initialRows}
 use Rattle.mem_initial.specs.Initial.{startRows, startAt}
@@ -120,13 +121,13 @@ pub record Sourced (from : Stores) (origin : ℕ) : Type 0 where
   pub values : from .values .stored ≤ length (from .values .store)
 
 -- All rows lie in a store that begins with them.
-pub store-sourced : (text : List ℕ) → 99 ≤ length text
-    → Sourced (inStore (withText text 0) 99) 0
+pub store-sourced : (text : List ℕ) → initialSize ≤ length text
+    → Sourced (inStore (withText text 0) initialSize) 0
 store-sourced text fits =
     record {
       store = withText text 0;
-      stored = 99;
-      has = text-has text 0 fits 99 (omega arith) fits;
+      stored = initialSize;
+      has = text-has text 0 fits initialSize (omega arith) fits;
       uris = λ i l. refl;
       names = λ i l. refl;
       values = omega (arith, text-same-length text 0 fits);
@@ -240,9 +241,9 @@ unfolding contextOf stateOf tablesOf learnedOf backward grammarsOf tagIn emptyTa
     newUri newName newEntry newValue laid xmlUri xsiUri text
 rows-mean s = refl
 
-text-first : (text : List ℕ) → take 99 (withText text 0) ≡ initialText
+text-first : (text : List ℕ) → take initialSize (withText text 0) ≡ initialText
 unfolding withText
-text-first text = take-at initialText (drop 99 text) 99 text-length
+text-first text = take-at initialText (drop initialSize text) initialSize text-length
 
 pub start-means : (text : List ℕ) (at : ℕ) (s : Settings)
     → contextAt (withText text 0) (startAt at) startRows [] ≡ start s
@@ -251,7 +252,7 @@ start-means text at s =
     ap (λ l. contextOf startRows l 0 []) (text-first text) ∙ rows-mean s
 
 -- And with any store of that length, up to the places of strings.
-pub start-alike : (store : Text) → length store ≡ 99 → (s : Settings)
+pub start-alike : (store : Text) → length store ≡ initialSize → (s : Settings)
     → Alike (contextOf startRows store inDocument []) (start s)
 start-alike store e s =
     subst (Alike (contextOf startRows store inDocument [])) (rows-mean s)

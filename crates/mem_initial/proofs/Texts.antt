@@ -8,7 +8,7 @@ use lib.Seq.{length-take-le, take-at, drop-at}
 use Rattle.text.specs.Text.{Text}
 use Rattle.text.proofs.Parts.{part-inside}
 use Rattle.mem_entries.specs.Texts.{Lies}
-use Rattle.mem_initial.specs.Initial.{initialText, withText}
+use Rattle.mem_initial.specs.Initial.{initialText, withText, initialSize}
 use Rattle.mem_initial.proofs.Turn.{text-length}
 
 -- The store has this text at a place, in its first cells.
@@ -64,22 +64,22 @@ module _ {store : List ℕ} {stored place : ℕ} (x y : Text)
 
 -- ---- the initial texts
 
-module _ (cells : List ℕ) (origin : ℕ) (fits : origin + 99 ≤ length cells) where
+module _ (cells : List ℕ) (origin : ℕ) (fits : origin + initialSize ≤ length cells) where
   pub text-same-length : length (withText cells origin) ≡ length cells
   unfolding withText
   text-same-length =
-      let l : length initialText ≡ 99 = text-length in
+      let l : length initialText ≡ initialSize = text-length in
       simp (length-append, length-take, length-drop) (omega arith)
 
-  pub text-has : (stored : ℕ) → origin + 99 ≤ stored → stored ≤ length cells
+  pub text-has : (stored : ℕ) → origin + initialSize ≤ stored → stored ≤ length cells
       → Has (withText cells origin) stored origin initialText
   unfolding withText
   text-has stored h k =
-      let l : length initialText ≡ 99 = text-length in
+      let l : length initialText ≡ initialSize = text-length in
       record {
         before = take origin cells;
-        after = drop (origin + 99) cells;
-        is = append-assoc (take origin cells) initialText (drop (origin + 99) cells);
+        after = drop (origin + initialSize) cells;
+        is = append-assoc (take origin cells) initialText (drop (origin + initialSize) cells);
         starts = length-take-le origin cells (omega arith);
         ends = omega arith;
         inside = omega (arith, text-same-length);

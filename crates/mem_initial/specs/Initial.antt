@@ -4,13 +4,15 @@ use mathlib.Core.List.{List, [], _∷_, _++_, map}
 use lib.ListN.{length, take, drop, replicate}
 use Rattle.text.specs.Text.{Text, text}
 use Rattle.spec_exi.specs.Tables.{xmlUri, xsiUri}
-use Rattle.mem_layout.specs.Layout.{workCells}
+use Rattle.mem_layout.specs.Layout.{workCells, openingUris, openingNames}
 use Rattle.mem_entries.specs.Texts.{hashOf}
 use Rattle.mem_names.specs.Uris.{withUri}
 use Rattle.mem_names.specs.Names.{withName}
 use Rattle.mem_rows.specs.Rows as rows
-use Rattle.mem_rows.specs.Rows.{Rows, inDocument}
+use Rattle.mem_rows.specs.Rows.{Rows}
 use Rattle.mem_state.specs.declared.Core.{Core}
+use Rattle.event_code.specs.Numbers.{inDocument}
+use Rattle.mem_chain.specs.Chain.{maxCount}
 
 -- ---- the entries
 
@@ -43,9 +45,13 @@ urisText = together initialUris
 unfoldable pub namesText : Text
 namesText = together (map (λ l. l .name) initialNames)
 
--- What the text store begins with: 99 code points.
+-- What the text store begins with.
 unfoldable pub initialText : Text
 initialText = urisText ++ namesText
+
+-- Its code points.
+abbrev pub initialSize : ℕ
+initialSize = 99
 
 -- ---- cells
 
@@ -55,7 +61,7 @@ zeroed n cells = replicate (length (take n cells)) 0 ++ drop n cells
 
 -- The cells with that text at the origin.
 unfoldable pub withText : List ℕ → ℕ → List ℕ
-withText cells origin = take origin cells ++ initialText ++ drop (origin + 99) cells
+withText cells origin = take origin cells ++ initialText ++ drop (origin + initialSize) cells
 
 -- Work memory with these URIs from row n on. Their texts lie one behind the other, the first k code
 -- points after the origin.
@@ -83,7 +89,7 @@ withRows work origin = namesLaid (urisLaid work origin) origin
 
 pub record Layable (work : List ℕ) (origin : ℕ) : Type 0 where
   pub room : workCells ≤ length work
-  pub near : origin ≤ 65536
+  pub near : origin ≤ maxCount
 
 -- ---- the rows that it holds
 
@@ -116,9 +122,9 @@ unfoldable pub startAt : ℕ → Core
 startAt at =
     record {
       at = at;
-      stored = 99;
-      uris = 3;
-      names = 6;
+      stored = initialSize;
+      uris = openingUris;
+      names = openingNames;
       values = 0;
       learned = 0;
       grammars = 0;

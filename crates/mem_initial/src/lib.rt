@@ -7,16 +7,19 @@ ghost use lib.ListN.{length};
 ghost use Rattle.mem_layout.specs.Layout.{workCells, zeroCells};
 ghost use Rattle.mem_initial.specs.Initial.{zeroed, initialText};
 ghost use Rattle.mem_initial.specs.Initial.{withText, urisLaid, namesLaid, withRows};
-ghost use Rattle.mem_initial.specs.Initial.{startAt, Layable};
+ghost use Rattle.mem_initial.specs.Initial.{initialSize, startAt, Layable};
+use event_code::IN_DOCUMENT;
+use mem_layout::OPENING_NAMES;
+use mem_layout::OPENING_URIS;
 use mem_layout::ZERO_CELLS;
 use mem_state::Core;
 
 // code points of the initial entries
 pub const INITIAL_TEXT: usize = 99;
 
-pub const INITIAL_URIS: u32 = 3;
+const INITIAL_URIS: u32 = OPENING_URIS as u32;
 
-pub const INITIAL_NAMES: u32 = 6;
+const INITIAL_NAMES: u32 = OPENING_NAMES as u32;
 
 // The texts of the initial entries, one behind the other.
 const TEXT: [u8; INITIAL_TEXT] = *b"http://www.w3.org/XML/1998/namespace\
@@ -27,6 +30,24 @@ const TEXT: [u8; INITIAL_TEXT] = *b"http://www.w3.org/XML/1998/namespace\
 const XML: u32 = 1;
 
 const XSI: u32 = 2;
+
+// The code points of their texts.
+const XML_SIZE: u32 = 36;
+
+const XSI_SIZE: u32 = 41;
+
+// Where the texts of the local names begin, counted from the origin.
+const BASE_PLACE: u32 = XML_SIZE + XSI_SIZE;
+
+const ID_PLACE: u32 = BASE_PLACE + 4;
+
+const LANG_PLACE: u32 = ID_PLACE + 2;
+
+const SPACE_PLACE: u32 = LANG_PLACE + 4;
+
+const NIL_PLACE: u32 = SPACE_PLACE + 5;
+
+const TYPE_PLACE: u32 = NIL_PLACE + 3;
 
 // The hashes of the local names (`mem_entries::hash`).
 const BASE: u32 = 3997284845;
@@ -57,7 +78,7 @@ fn wide(x: u8) -> u32
 
 // Writes the texts at the origin.
 pub fn lay_text(cells: &mut [u32], origin: usize)
-    requires { ⌜ origin + 99 ≤ length (now cells) ⌝ }
+    requires { ⌜ origin + initialSize ≤ length (now cells) ⌝ }
     ensures { λ _. ⌜ now (cells .exit) ≡ withText (now (cells .entry)) origin ⌝ }
 {
     let text = TEXT;
@@ -82,20 +103,20 @@ fn lay_uris(work: &mut [u32], origin: u32)
     ensures { λ _. ⌜ now (work .exit) ≡ urisLaid (now (work .entry)) origin ⌝ }
 {
     mem_names::add_uri(work, 0, origin, 0, 0);
-    mem_names::add_uri(work, XML, origin, 36, XML);
-    mem_names::add_uri(work, XSI, origin + 36, 41, XSI);
+    mem_names::add_uri(work, XML, origin, XML_SIZE, XML);
+    mem_names::add_uri(work, XSI, origin + XML_SIZE, XSI_SIZE, XSI);
 }
 
 fn lay_names(work: &mut [u32], origin: u32)
     requires { ⌜ Layable (now work) origin ⌝ }
     ensures { λ _. ⌜ now (work .exit) ≡ namesLaid (now (work .entry)) origin ⌝ }
 {
-    mem_names::add_name(work, 0, XML, origin + 77, 4, BASE);
-    mem_names::add_name(work, 1, XML, origin + 81, 2, ID);
-    mem_names::add_name(work, 2, XML, origin + 83, 4, LANG);
-    mem_names::add_name(work, 3, XML, origin + 87, 5, SPACE);
-    mem_names::add_name(work, 4, XSI, origin + 92, 3, NIL);
-    mem_names::add_name(work, 5, XSI, origin + 95, 4, TYPE);
+    mem_names::add_name(work, 0, XML, origin + BASE_PLACE, 4, BASE);
+    mem_names::add_name(work, 1, XML, origin + ID_PLACE, 2, ID);
+    mem_names::add_name(work, 2, XML, origin + LANG_PLACE, 4, LANG);
+    mem_names::add_name(work, 3, XML, origin + SPACE_PLACE, 5, SPACE);
+    mem_names::add_name(work, 4, XSI, origin + NIL_PLACE, 3, NIL);
+    mem_names::add_name(work, 5, XSI, origin + TYPE_PLACE, 4, TYPE);
 }
 
 // Adds the rows of the initial entries, whose texts are laid at the origin.
@@ -119,7 +140,7 @@ pub fn start(at: usize) -> Core
         values: 0,
         learned: 0,
         grammars: 0,
-        mode: 0,
+        mode: IN_DOCUMENT,
         top: 0,
         depth: 0,
         tag: 1,

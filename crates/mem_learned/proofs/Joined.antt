@@ -18,7 +18,7 @@ use Rattle.mem_layout.specs.Layout.{learnedUriRows, learnedNameRows, learnedRow
 use Rattle.mem_layout.specs.Layout.{grammarFlags, valuePlaces, uriRows, nameRows, sites, workCells}
 use Rattle.mem_chain.proofs.Last.{split}
 use Rattle.mem_index.specs.declared.Index.{Index}
-use Rattle.mem_index.specs.Index.{Coded, Numbered, entered, joined}
+use Rattle.mem_index.specs.Index.{Coded, Numbered, entered, joined, numbers}
 use Rattle.mem_index.proofs.More.{Ordered, OrderedCounts, Off, coded-same, coded-none}
 use Rattle.mem_index.proofs.More.{coded-more, entered-length, entered-other, numbered-same}
 use Rattle.mem_index.proofs.More.{numbered-none, numbered-more, joined-length, joined-other}
@@ -123,14 +123,14 @@ learned-none work room zeros =
 
 pub add-steps : (work : List ℕ) (n site kind name uri local : ℕ) {a b d : List ℕ} {x y : Index}
     → x ≡ nameIndex → y ≡ siteIndex → a ≡ withRows work n uri local
-    → b ≡ entered a x n (site * 4096 + kind * 128 + name) → d ≡ joined b y learnedCounts n site
+    → b ≡ entered a x n (site * numbers + kind * nameRows + name) → d ≡ joined b y learnedCounts n site
     → d ≡ withLearned work n site kind name uri local
 unfolding withLearned nameCode
 add-steps work n site kind name uri local {a} {b} {d} {x} {y} e f p q r =
     r ∙ ap (λ z. joined b z learnedCounts n site) f
     ∙ ap (λ m. joined m siteIndex learnedCounts n site)
-    (q ∙ ap (λ z. entered a z n (site * 4096 + kind * 128 + name)) e
-    ∙ ap (λ m. entered m nameIndex n (site * 4096 + kind * 128 + name)) p)
+    (q ∙ ap (λ z. entered a z n (site * numbers + kind * nameRows + name)) e
+    ∙ ap (λ m. entered m nameIndex n (site * numbers + kind * nameRows + name)) p)
 
 module _ (work : List ℕ) (n site : ℕ) (kind : Kind) (name uri local : ℕ) where
   code : ℕ

@@ -18,13 +18,14 @@ use Rattle.mem_index.specs.declared.Index.{Index}
 use Rattle.mem_index.specs.Index.{numbers, codeAt, Counted, NthFound, Found, Seeking, Asking}
 use Rattle.mem_index.specs.Index.{Joining}
 use Rattle.mem_index.proofs.Codes.{and-true, and-no, both, code-number}
+use Rattle.event_code.specs.Numbers.{kinds}
 use Rattle.mem_learned.specs.declared.Production as cells
 use Rattle.mem_learned.specs.Learned.{Taught, rowAt, siteOfRow, nameCode, nameCodeAt, isRow}
 use Rattle.mem_learned.specs.Learned.{siteIndex, nameIndex, productionIn, partIn}
 use Rattle.mem_learned.specs.Learned.{newestIn, CountedAt, NthLearned, FoundLearned}
 use Rattle.mem_learned.specs.Learned.{ProductionAt}
 
-pub kind-low : (k : Kind) → kindNumber k < 8
+pub kind-low : (k : Kind) → kindNumber k < kinds
 unfolding kindNumber
 kind-low SD = omega arith
 kind-low ED = omega arith
@@ -58,10 +59,10 @@ site-joining e room low few =
     record { asking = site-asking e room low few; countRoom = omega arith }
 
 pub name-seeking : {work : List ℕ} {x : Index} {site kind name n : ℕ} → x ≡ nameIndex
-    → workCells ≤ length work → site < sites → kind < 8 → name < nameRows → n ≤ learnedRows
-    → Seeking work x n (site * numbers + kind * 128 + name)
+    → workCells ≤ length work → site < sites → kind < kinds → name < nameRows → n ≤ learnedRows
+    → Seeking work x n (site * numbers + kind * nameRows + name)
 name-seeking {work} {x} {site} {kind} {name} {n} e room low k l few =
-    subst (λ y. Seeking work y n (site * numbers + kind * 128 + name)) (sym e)
+    subst (λ y. Seeking work y n (site * numbers + kind * nameRows + name)) (sym e)
     (record {
       some = omega arith;
       sized = omega arith;
@@ -106,18 +107,18 @@ nth-in {work} {x} {site} {count} {v} {n} {r} e l f =
     }
 
 -- Codes of site, kind and name are one to one.
-row-test : (rs : List Taught) (site kind name i : ℕ) → kind < 8 → name < 128
-    → rowAt rs i .name < 128
+row-test : (rs : List Taught) (site kind name i : ℕ) → kind < kinds → name < nameRows
+    → rowAt rs i .name < nameRows
     → hasCode (nameCodeAt rs) (nameCode site kind name) i ≡ isRow rs site kind name i
 unfolding nameCode isRow
 row-test rs site kind name i k l m =
     let s : ℕ = siteOfRow rs i in
-    let b : kindNumber (rowAt rs i .kind) < 8 = kind-low (rowAt rs i .kind) in
-    split (eqb (siteOfRow rs i * 4096 + kindNumber (rowAt rs i .kind) * 128 + rowAt rs i .name)
-    (site * 4096 + kind * 128 + name))
+    let b : kindNumber (rowAt rs i .kind) < kinds = kind-low (rowAt rs i .kind) in
+    split (eqb (siteOfRow rs i * numbers + kindNumber (rowAt rs i .kind) * nameRows + rowAt rs i .name)
+    (site * numbers + kind * nameRows + name))
     (λ y.
-    let z : siteOfRow rs i * 4096 + kindNumber (rowAt rs i .kind) * 128 + rowAt rs i .name
-    ≡ site * 4096 + kind * 128 + name =
+    let z : siteOfRow rs i * numbers + kindNumber (rowAt rs i .kind) * nameRows + rowAt rs i .name
+    ≡ site * numbers + kind * nameRows + name =
     eqb-true _ _ y in
     y ∙ sym (and-true _ _ (eq-eqb site (siteOfRow rs i) (omega arith))
     (and-true _ _ (eq-eqb kind (kindNumber (rowAt rs i .kind)) (omega arith))
@@ -129,19 +130,19 @@ row-test rs site kind name i k l m =
     let a : site ≡ siteOfRow rs i = eqb-true _ _ p in
     let d : kind ≡ kindNumber (rowAt rs i .kind) = eqb-true _ _ u in
     let e : name ≡ rowAt rs i .name = eqb-true _ _ v in
-    let z : siteOfRow rs i * 4096 + kindNumber (rowAt rs i .kind) * 128 + rowAt rs i .name
-    ≡ site * 4096 + kind * 128 + name =
+    let z : siteOfRow rs i * numbers + kindNumber (rowAt rs i .kind) * nameRows + rowAt rs i .name
+    ≡ site * numbers + kind * nameRows + name =
     omega arith in
-    eqb-false (siteOfRow rs i * 4096 + kindNumber (rowAt rs i .kind) * 128 + rowAt rs i .name)
-    (site * 4096 + kind * 128 + name) y z)))
+    eqb-false (siteOfRow rs i * numbers + kindNumber (rowAt rs i .kind) * nameRows + rowAt rs i .name)
+    (site * numbers + kind * nameRows + name) y z)))
 
-pub found-learned : {work : List ℕ} {x : Index} {site kind name n r : ℕ} → x ≡ nameIndex → kind < 8
-    → name < nameRows → Found work x n 0 (site * numbers + kind * 128 + name) r
+pub found-learned : {work : List ℕ} {x : Index} {site kind name n r : ℕ} → x ≡ nameIndex → kind < kinds
+    → name < nameRows → Found work x n 0 (site * numbers + kind * nameRows + name) r
     → FoundLearned work site kind name n r
 unfolding nameCode
 found-learned {work} {x} {site} {kind} {name} {n} {r} e k l f =
-    let g : Found work nameIndex n 0 (site * numbers + kind * 128 + name) r =
-    subst (λ y. Found work y n 0 (site * numbers + kind * 128 + name) r) e f in
+    let g : Found work nameIndex n 0 (site * numbers + kind * nameRows + name) r =
+    subst (λ y. Found work y n 0 (site * numbers + kind * nameRows + name) r) e f in
     record {
       is = g .is;
       within = g .within;
@@ -172,11 +173,11 @@ production-is {work} {row} low =
           let c : getD work (learnedCodes + row) 0 ≡ codeAt (siteOfRow rs) row =
           ap (λ j. getD work (learnedCodes + j) 0) (sym z)
           ∙ h .bySite .coded .cells row l (omega arith) in
-          let b : kindNumber (rowAt rs row .kind) < 8 = kind-low (rowAt rs row .kind) in
+          let b : kindNumber (rowAt rs row .kind) < kinds = kind-low (rowAt rs row .kind) in
           let m : rowAt rs row .name < nameRows = h .names row l in
           record {
-            kind = ap (λ j. j % numbers / 128) k ∙ (omega arith);
-            name = ap (λ j. j % 128) k ∙ (omega arith);
+            kind = ap (λ j. j % numbers / nameRows) k ∙ (omega arith);
+            name = ap (λ j. j % nameRows) k ∙ (omega arith);
             number = ap (λ j. j % numbers) c ∙ code-number (siteOfRow rs) row (omega arith);
             uriRow =
                 below-in uriRows (getD work (learnedUriRows + row) 0)
@@ -192,9 +193,9 @@ pub production-made : {work : List ℕ} {row u v : ℕ} → row < learnedRows
     → v ≡ below nameRows (getD work (learnedNameRows + row) 0)
     → ProductionAt work row
     (record {
-      kind = getD work (learnedNameCodes + row) 0 % numbers / 128;
+      kind = getD work (learnedNameCodes + row) 0 % numbers / nameRows;
       name =
-          getD work (learnedNameCodes + row) 0 % 128;
+          getD work (learnedNameCodes + row) 0 % nameRows;
       number =
           getD work (learnedCodes + row) 0 % numbers;
       uri = u;
@@ -204,9 +205,9 @@ unfolding productionIn
 production-made {work} {row} {u} {v} low d e =
     subst (λ y. ProductionAt work row
     (record {
-      kind = getD work (learnedNameCodes + row) 0 % numbers / 128;
+      kind = getD work (learnedNameCodes + row) 0 % numbers / nameRows;
       name =
-          getD work (learnedNameCodes + row) 0 % 128;
+          getD work (learnedNameCodes + row) 0 % nameRows;
       number =
           getD work (learnedCodes + row) 0 % numbers;
       uri = u;
@@ -214,9 +215,9 @@ production-made {work} {row} {u} {v} low d e =
     })) (sym e)
     (subst (λ y. ProductionAt work row
     (record {
-      kind = getD work (learnedNameCodes + row) 0 % numbers / 128;
+      kind = getD work (learnedNameCodes + row) 0 % numbers / nameRows;
       name =
-          getD work (learnedNameCodes + row) 0 % 128;
+          getD work (learnedNameCodes + row) 0 % nameRows;
       number =
           getD work (learnedCodes + row) 0 % numbers;
       uri = y;

@@ -10,6 +10,7 @@ use Rattle.text.specs.Text.{Text}
 use Rattle.spec_exi.specs.Event.{QName, Event, Kind, CH, kindOf, nameOf}
 use Rattle.spec_exi.specs.Tables.{Placed, nameText}
 use Rattle.spec_exi.specs.Grammar.{Production, kindNumber, Site, tagOf, contentOf, Learned}
+use Rattle.event_code.specs.Numbers.{numberSE, numberAT, kinds}
 use Rattle.mem_layout.specs.Layout.{learnedNameHeads, learnedCodeHeads, learnedCounts}
 use Rattle.mem_layout.specs.Layout.{learnedBuckets}
 use Rattle.mem_layout.specs.Layout.{learnedNameCodes, learnedNameNexts, learnedCodes}
@@ -43,7 +44,7 @@ siteOfRow rs i = rowAt rs i .site
 
 -- Site, kind and name in one number.
 unfoldable pub nameCode : ℕ → ℕ → ℕ → ℕ
-nameCode site kind name = site * 4096 + kind * 128 + name
+nameCode site kind name = site * numbers + kind * nameRows + name
 
 abbrev pub nameCodeAt : List Taught → ℕ → ℕ
 nameCodeAt rs i = nameCode (rowAt rs i .site) (kindNumber (rowAt rs i .kind)) (rowAt rs i .name)
@@ -94,8 +95,8 @@ pub record LearnedHold (work : List ℕ) (n : ℕ) (rs : List Taught) : Type 0 w
 unfoldable pub productionIn : List ℕ → ℕ → cells.Production
 productionIn work row =
     record {
-      kind = getD work (learnedNameCodes + row) 0 % numbers / 128;
-      name = getD work (learnedNameCodes + row) 0 % 128;
+      kind = getD work (learnedNameCodes + row) 0 % numbers / nameRows;
+      name = getD work (learnedNameCodes + row) 0 % nameRows;
       number = getD work (learnedCodes + row) 0 % numbers;
       uri = below uriRows (getD work (learnedUriRows + row) 0);
       local = below nameRows (getD work (learnedNameRows + row) 0);
@@ -133,7 +134,7 @@ siteAt name s = cond (eqb (s % 2) 1) (tagOf (name (s / 2))) (contentOf (name (s 
 
 -- The names of these kinds are carried.
 unfoldable pub isNamed : Kind → Bool
-isNamed k = eqb (kindNumber k) 2 || eqb (kindNumber k) 3
+isNamed k = eqb (kindNumber k) numberSE || eqb (kindNumber k) numberAT
 
 -- The production of a row, where its name lies there.
 unfoldable pub productionOf : (ℕ → ℕ → QName Placed) → Taught → Production
@@ -175,7 +176,7 @@ pub record Sited (work : List ℕ) (site n : ℕ) : Type 0 where
 pub record Findable (work : List ℕ) (site kind name n : ℕ) : Type 0 where
   pub room : workCells ≤ length work
   pub low : site < sites
-  pub kindLow : kind < 8
+  pub kindLow : kind < kinds
   pub nameLow : name < nameRows
   pub few : n ≤ learnedRows
 
@@ -187,7 +188,7 @@ pub record Addable (work : List ℕ) (n site kind name : ℕ) : Type 0 where
   pub room : workCells ≤ length work
   pub few : n < learnedRows
   pub low : site < sites
-  pub kindLow : kind < 8
+  pub kindLow : kind < kinds
   pub nameLow : name < nameRows
 
 -- ---- what they answer: what the cells say and bounds, on any memory; the meaning where memory is
@@ -220,7 +221,7 @@ pub record IsProduction (rs : List Taught) (i : ℕ) (r : cells.Production) : Ty
 
 pub record ProductionAt (work : List ℕ) (row : ℕ) (r : cells.Production) : Type 0 where
   pub is : r ≡ productionIn work row
-  pub kindLow : r .kind < 32
+  pub kindLow : r .kind < numbers / nameRows
   pub nameLow : r .name < nameRows
   pub small : r .number < numbers
   pub uriRowLow : r .uri < uriRows

@@ -84,7 +84,13 @@ pub fn find(work: &[u32], site: u32, kind: u32, name: u32, n: u32) -> u32
     requires { ⌜ Findable (now work) site kind name n ⌝ }
     ensures { λ r. ⌜ FoundLearned (now (work .entry)) site kind name n r ⌝ }
 {
-    mem_index::find(work, by_name(), n, 0, site * NUMBERS + kind * 128 + name)
+    mem_index::find(
+        work,
+        by_name(),
+        n,
+        0,
+        site * NUMBERS + kind * NAME_ROWS + name,
+    )
 }
 
 // The production in a row.
@@ -95,8 +101,8 @@ pub fn production_at(work: &[u32], row: u32) -> Production
     let i = row as usize;
     let code = work[LEARNED_NAME_CODES + i];
     Production {
-        kind: code % NUMBERS / 128,
-        name: code % 128,
+        kind: code % NUMBERS / NAME_ROWS,
+        name: code % NAME_ROWS,
         number: work[LEARNED_CODES + i] % NUMBERS,
         uri: mem_chain::falling(work, LEARNED_URI_ROWS + i, URI_ROWS),
         local: mem_chain::falling(work, LEARNED_NAME_ROWS + i, NAME_ROWS),
@@ -129,7 +135,7 @@ pub fn add(work: &mut [u32], n: u32, site: u32, kind: u32, name: u32, uri: u32, 
         now (work .exit) ≡ withLearned (now (work .entry)) n site kind name uri local ⌝ }
 {
     put_rows(work, n, uri, local);
-    mem_index::enter(work, by_name(), n, site * NUMBERS + kind * 128 + name);
+    mem_index::enter(work, by_name(), n, site * NUMBERS + kind * NAME_ROWS + name);
     mem_index::join(work, by_site(), LEARNED_COUNTS, n, site);
 }
 

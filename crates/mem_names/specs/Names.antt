@@ -13,7 +13,8 @@ use Rattle.mem_layout.specs.Layout.{namePlaces, nameSizes, nameCodes, nameTextN
 use Rattle.mem_layout.specs.Layout.{nameFirsts, uriRows, workCells, openingNames}
 use Rattle.mem_chain.specs.Chain.{firstThat, lastThat, below, linked, walkedFrom, Chained}
 use Rattle.mem_index.specs.declared.Index.{Index}
-use Rattle.mem_index.specs.Index.{numbers, numberAt, isNumbered, Numbered, countIn, nthIn, joined}
+use Rattle.mem_index.specs.Index.{numbers, stride, numberAt, isNumbered, Numbered, countIn, nthIn}
+use Rattle.mem_index.specs.Index.{joined}
 use Rattle.mem_entries.specs.Texts.{hashOf, rowHas, withText, Names, Source, storeOf}
 use Rattle.mem_entries.specs.Entries.{Entries, entryAt, keyAt, textAt, hasTextAt, given, Alike}
 use Rattle.mem_entries.specs.Entries.{named, Keyed}
@@ -63,7 +64,7 @@ nameIndex =
     }
 
 unfoldable pub nameSpot : ℕ → ℕ → ℕ
-nameSpot h k = (h % 64 + k * 37) % 64
+nameSpot h k = (h % nameBuckets + k * stride) % nameBuckets
 
 -- Names by URI and text: a row that repeats another is in no chain.
 unfoldable pub nameBucket : Entries → ℕ → ℕ

@@ -5,6 +5,7 @@
 // specs/.
 ghost use mathlib.Core.Path.{_≡_};
 ghost use Prim.Native.Nat.{_<_};
+ghost use Rattle.mem_layout.specs.Layout.{uriRows};
 ghost use Rattle.mem_names.specs.Uris.{uriHasText, UriRow, FindableUri, FoundUri, UriAt};
 ghost use Rattle.mem_names.specs.Uris.{uriStore, withUri};
 ghost use Rattle.mem_names.specs.Names.{nameIndex, nameSpot, NameSpot, rowIsName, NameRow};
@@ -13,6 +14,7 @@ ghost use Rattle.mem_names.specs.Names.{NthName, NameAt, withCells, with
 ghost use Rattle.mem_names.specs.Names.{nameStore};
 use mem_index::Index;
 use mem_index::NUMBERS;
+use mem_index::STRIDE;
 use mem_layout::NAME_BUCKETS;
 use mem_layout::NAME_CODE_HEADS;
 use mem_layout::NAME_CODE_NEXTS;
@@ -116,10 +118,10 @@ fn by_uri() -> Index
 
 // The bucket of a URI and a text of this hash.
 fn spot(h: u32, uri: u32) -> u32
-    requires { ⌜ uri < 16 ⌝ }
+    requires { ⌜ uri < uriRows ⌝ }
     ensures { λ r. ⌜ NameSpot h uri r ⌝ }
 {
-    (h % NAME_BUCKETS + uri * 37) % NAME_BUCKETS
+    (h % NAME_BUCKETS + uri * STRIDE) % NAME_BUCKETS
 }
 
 fn name_has(work: &[u32], opening: &[u32], store: &[u32], row: usize, uri: u32, x: &[u32]) -> bool

@@ -20,6 +20,7 @@ use Rattle.spec_exi.specs.Grammar.{isAttribute, attributeName, withAttribute, t
 use Rattle.spec_exi.specs.Grammar as grammar
 use Rattle.spec_exi.specs.Context.{Context, after}
 use Rattle.mem_entries.specs.Entries.{named}
+use Rattle.event_code.specs.Numbers.{numberSE}
 use Rattle.mem_rows.specs.Rows.{Learnt, Rows, placedAt, nameAt, siteAt, kindAt, carries, carriedAt}
 use Rattle.mem_rows.specs.Rows.{productionOf, learntAs, learnedOf, grammarsOf, isAmong, stateOf}
 use Rattle.mem_rows.specs.Rows.{modeAfter, openedAfter, ModeFits, tablesOf, contextOf, tagIn}
@@ -54,13 +55,13 @@ module _ {v : Rows} (x : Valid v) (n : ℕ) (h : n < length (v .names)) where
 module _ {w v : Rows} (j : Joined w v) (r : Refers w) where
   -- Where an element starts, its name has this row.
   pub grammars-after : Valid v → (n : ℕ) (e : Event Text)
-      → (kindNumber (kindOf e) ≡ 2 → (n < length (v .names)) × (nameOf e ≡ some (nameAt v n)))
+      → (kindNumber (kindOf e) ≡ numberSE → (n < length (v .names)) × (nameOf e ≡ some (nameAt v n)))
       → grammarsOf (afterGrammar (kindNumber (kindOf e)) n v) ≡ grammarsAfter (grammarsOf w) e
   unfolding afterGrammar grammarsAfter kindNumber
   grammars-after x n e f =
-      split (eqb (kindNumber (kindOf e)) 2)
+      split (eqb (kindNumber (kindOf e)) numberSE)
       (λ t.
-      let (h, q) = f (eqb-true (kindNumber (kindOf e)) 2 t) in
+      let (h, q) = f (eqb-true (kindNumber (kindOf e)) numberSE t) in
       rw (t, q) (enters x n h ∙ ap (λ gs. grammar.withGrammar gs (some (nameAt v n))) same))
       (λ t. rw t same)
     where
@@ -180,7 +181,7 @@ pub record EventRows (w v : Rows) (mode : ℕ) (opened : List ℕ) (n : ℕ) (b 
   pub fits : ModeFits mode (length opened)
   pub opens : All (λ m. m < length (w .names)) opened
   pub leads : Leads v n (length opened) e
-  pub name : kindNumber (kindOf e) ≡ 2 → n < length (v .names)
+  pub name : kindNumber (kindOf e) ≡ numberSE → n < length (v .names)
   pub attribute : kindNumber (kindOf e) ≡ kindNumber AT → nameOf e ≡ some (nameAt v n)
   -- what it teaches, and where
   pub taught-is : b ≡ true

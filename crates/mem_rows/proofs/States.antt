@@ -16,7 +16,8 @@ use Rattle.spec_exi.specs.Event.{attribute, characters, comment, instruction, k
 use Rattle.spec_exi.specs.Grammar.{State, kindNumber, openElements, inContent, closed, stateAfter}
 use Rattle.spec_exi.specs.Grammar.{siteOf, tagOf, contentOf, document, docContent, docEnd, finished}
 use Rattle.spec_exi.specs.Grammar.{startTag, elementContent}
-use Rattle.mem_rows.specs.Rows.{Rows, nameAt, inTag, inElement, stateOf, modeAfter, openedAfter}
+use Rattle.event_code.specs.Numbers.{inTag, inElement, numberED, numberSE, numberEE}
+use Rattle.mem_rows.specs.Rows.{Rows, nameAt, stateOf, modeAfter, openedAfter}
 use Rattle.mem_rows.specs.Rows.{ModeFits, siteAt, siteNumber}
 
 -- The open elements of a state are those that it was made of.
@@ -62,9 +63,9 @@ in-content (suc (suc (suc (suc m)))) [] f = absurd (omega (arith, f .inner (omeg
 -- What an event needs of the state: the document starts and ends outside of every element, an element
 -- ends inside, and the name of one that starts has this row.
 pub record Leads (w : Rows) (n depth : ℕ) (e : Event Text) : Type 0 where
-  pub outside : kindNumber (kindOf e) ≤ 1 → depth ≡ 0
-  pub inside : kindNumber (kindOf e) ≡ 4 → 0 < depth
-  pub named : kindNumber (kindOf e) ≡ 2 → nameOf e ≡ some (nameAt w n)
+  pub outside : kindNumber (kindOf e) ≤ numberED → depth ≡ 0
+  pub inside : kindNumber (kindOf e) ≡ numberEE → 0 < depth
+  pub named : kindNumber (kindOf e) ≡ numberSE → nameOf e ≡ some (nameAt w n)
 
 some-same : {A : Type 0} {a b : A} → some a ≡ some b → a ≡ b
 some-same {A} {a} e = ap (λ (o : Option A). elim o [ none ↦ a | some x ↦ x ]) e

@@ -15,6 +15,7 @@ use Rattle.spec_exi.specs.Grammar.{Production, Site, tagOf, contentOf, Learned,
 use Rattle.spec_exi.specs.Grammar.{docContent, docEnd, finished, startTag, elementContent, kindNumber}
 use Rattle.spec_exi.specs.Grammar.{Tag}
 use Rattle.spec_exi.specs.Context.{Context}
+use Rattle.event_code.specs.Numbers.{inDocContent, inDocEnd, isOver, inTag, inElement}
 use Rattle.mem_entries.specs.Entries.{Entries, entryAt, named}
 use Rattle.mem_names.specs.Uris.{uriAt, uriText}
 
@@ -116,24 +117,6 @@ isAmong n [] = false
 isAmong n (g ∷ gs) = eqb g n || isAmong n gs
 
 -- ---- the grammar's state, by its number and the open elements, the innermost first
-
-abbrev pub inDocument : ℕ
-inDocument = 0
-
-abbrev pub inDocContent : ℕ
-inDocContent = 1
-
-abbrev pub inDocEnd : ℕ
-inDocEnd = 2
-
-abbrev pub isOver : ℕ
-isOver = 3
-
-abbrev pub inTag : ℕ
-inTag = 4
-
-abbrev pub inElement : ℕ
-inElement = 5
 
 unfoldable pub stateOf : ℕ → List (QName Text) → State
 stateOf mode [] = getD (document ∷ docContent ∷ docEnd ∷ []) mode finished

@@ -8,6 +8,7 @@ use lib.ListN.{length, getD}
 use Rattle.spec_exi.specs.Tables.{Placed, Entry, local, nameAllowed}
 use Rattle.mem_entries.specs.Entries.{entryAt, textAt}
 use Rattle.mem_names.specs.Uris.{uriText}
+use Rattle.event_code.specs.Numbers.{numberSE, numberAT, numberCH}
 use Rattle.mem_rows.specs.Rows.{Learnt, Rows, nameAt, kindAt, carries}
 
 abbrev pub noLearnt : Learnt
@@ -24,9 +25,9 @@ pub record KeysBelow (most : ℕ) (es : List (Entry ℕ)) : Type 0 where
 -- tag, and carries such a name, or 0.
 pub record LearntFits (names : ℕ) (l : Learnt) : Type 0 where
   pub site : l .site / 2 < names
-  pub from : 2 ≤ l .kind
-  pub upTo : l .kind ≤ 5
-  pub tag : l .kind ≡ 3 → l .site % 2 ≡ 1
+  pub from : numberSE ≤ l .kind
+  pub upTo : l .kind ≤ numberCH
+  pub tag : l .kind ≡ numberAT → l .site % 2 ≡ 1
   pub name : l .name < names
   pub plain : carries (kindAt (l .kind)) ≡ false → l .name ≡ 0
 

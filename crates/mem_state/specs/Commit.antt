@@ -16,6 +16,8 @@ use Rattle.mem_values.specs.Values.{withValue}
 use Rattle.mem_learned.specs.Learned.{withLearned}
 use Rattle.mem_learned.specs.Grammars.{withGrammarOf}
 use Rattle.mem_rows.specs.Rows.{modeAfter}
+use Rattle.event_code.specs.Numbers.{kinds}
+use Rattle.mem_chain.specs.Chain.{maxCount}
 use Rattle.mem_state.specs.declared.Core.{Core}
 use Rattle.mem_state.specs.declared.Strings.{Strings}
 use Rattle.mem_state.specs.declared.Growth.{Growth}
@@ -131,14 +133,14 @@ pub record LearnPre (work : List ℕ) (n : ℕ) (g : Growth) : Type 0 where
   pub room : workCells ≤ length work
   pub few : g .teaches ≡ true → n < learnedRows
   pub site : g .site < sites
-  pub kind : g .kind < 8
+  pub kind : g .kind < kinds
   pub name : g .name < nameRows
 
 pub record GrowPre (work : List ℕ) (c : Core) (g : Growth) : Type 0 where
   pub room : workCells ≤ length work
   pub few : g .teaches ≡ true → c .learned < learnedRows
   pub site : g .site < sites
-  pub kind : g .kind < 8
+  pub kind : g .kind < kinds
   pub name : g .name < nameRows
 
 pub record One (b : Bool) (r : ℕ) : Type 0 where
@@ -146,13 +148,13 @@ pub record One (b : Bool) (r : ℕ) : Type 0 where
   pub most : r ≤ 1
 
 pub record CountPre (c : Core) : Type 0 where
-  pub uris : c .uris ≤ 65536
-  pub names : c .names ≤ 65536
-  pub values : c .values ≤ 65536
-  pub learned : c .learned ≤ 65536
-  pub grammars : c .grammars ≤ 65536
+  pub uris : c .uris ≤ maxCount
+  pub names : c .names ≤ maxCount
+  pub values : c .values ≤ maxCount
+  pub learned : c .learned ≤ maxCount
+  pub grammars : c .grammars ≤ maxCount
 
 pub record TurnPre (c : Core) (kind n : ℕ) : Type 0 where
-  pub few : c .depth ≤ 65536
-  pub early : n ≤ 65536
+  pub few : c .depth ≤ maxCount
+  pub early : n ≤ maxCount
   pub some : kind ≡ kindNumber EE → 0 < c .depth

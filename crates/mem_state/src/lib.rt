@@ -12,19 +12,13 @@ ghost use Rattle.mem_state.specs.Commit.{LearnPre, GrowPre, CountPre, Tu
 use event_code::AT;
 use event_code::ED;
 use event_code::EE;
+use event_code::IN_DOC_CONTENT;
+use event_code::IN_DOC_END;
+use event_code::IN_ELEMENT;
+use event_code::IN_TAG;
+use event_code::IS_OVER;
 use event_code::SD;
 use event_code::SE;
-
-// The grammar's states by their numbers (specs of mem_rows have the same names).
-pub const IN_DOC_CONTENT: u32 = event_code::IN_DOC_CONTENT;
-
-pub const IN_DOC_END: u32 = event_code::IN_DOC_END;
-
-pub const IS_OVER: u32 = event_code::IS_OVER;
-
-pub const IN_TAG: u32 = event_code::IN_TAG;
-
-pub const IN_ELEMENT: u32 = event_code::IN_ELEMENT;
 
 // The position in the stream; the code points in the store; the rows of each table; the grammar's
 // state, by its number; the row of the innermost open element's name, or 0; how many are open; and

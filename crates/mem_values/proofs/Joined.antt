@@ -119,12 +119,12 @@ pub add-steps : (work : List ℕ) (n owner place size h : ℕ) {a b d : List ℕ
     → x ≡ valueIndex
     → a ≡ withText work (valuePlaces + n % valueRing) (valueSizes + n % valueRing) place size
     → b ≡ joined a x valueCounts n owner
-    → d ≡ linked b (valueTextHeads + h % 1024) valueTextNexts valueRing n
+    → d ≡ linked b (valueTextHeads + h % valueBuckets) valueTextNexts valueRing n
     → d ≡ withValue work n owner place size h
 unfolding withValue
 add-steps work n owner place size h {a} {b} {d} {x} e s j l =
     l
-    ∙ ap (λ m. linked m (valueTextHeads + h % 1024) valueTextNexts valueRing n)
+    ∙ ap (λ m. linked m (valueTextHeads + h % valueBuckets) valueTextNexts valueRing n)
     (j ∙ ap (λ y. joined a y valueCounts n owner) e
     ∙ ap (λ m. joined m valueIndex valueCounts n owner) s)
 
@@ -149,7 +149,7 @@ module _ (work : List ℕ) (n owner place size h : ℕ) where
 
   pub added-length : length (withValue work n owner place size h) ≡ length work
   unfolding withValue mid cells
-  added-length = linked-length mid (valueTextHeads + h % 1024) valueTextNexts valueRing n
+  added-length = linked-length mid (valueTextHeads + h % valueBuckets) valueTextNexts valueRing n
       ∙ mid-length
 
   cells-other : (j : ℕ) → (j ≡ valuePlaces + n % valueRing → ⊥)
@@ -172,7 +172,7 @@ module _ (work : List ℕ) (n owner place size h : ℕ) where
     unfolding withValue mid cells
     last-other j f g =
         let t : n % valueRing < valueRing = row in
-        linked-other mid (valueTextHeads + h % 1024) valueTextNexts valueRing n j
+        linked-other mid (valueTextHeads + h % valueBuckets) valueTextNexts valueRing n j
         (λ e. f (omega arith)) (λ e. g (omega arith) (omega arith))
 
     -- A cell outside the value table is as it was.
@@ -305,12 +305,12 @@ module _ (work : List ℕ) (n owner place size h : ℕ) where
       unfolding withValue mid cells new
       text-last =
           let r : workCells ≤ length work = t .room in
-          chained-more mid valueTextHeads valueBuckets valueTextNexts valueRing n (h % 1024)
+          chained-more mid valueTextHeads valueBuckets valueTextNexts valueRing n (h % valueBuckets)
           (omega arith) (omega arith)
           (omega arith) (omega (arith, mid-length)) (textBucket es) (textBucket after)
-          (λ i l. ap (λ (e : Entry ℕ). hashOf (e .string .text) % 1024) (entry-same i l))
-          (ap (λ (e : Entry ℕ). hashOf (e .string .text) % 1024) entry-here
-          ∙ ap (λ k. k % 1024) (sym hash))
+          (λ i l. ap (λ (e : Entry ℕ). hashOf (e .string .text) % valueBuckets) (entry-same i l))
+          (ap (λ (e : Entry ℕ). hashOf (e .string .text) % valueBuckets) entry-here
+          ∙ ap (λ k. k % valueBuckets) (sym hash))
           text-mid
 
       -- A cell of the places' or sizes' column.

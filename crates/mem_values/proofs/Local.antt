@@ -73,7 +73,7 @@ value-is {work} {g} =
       means = λ store stored n es h l near.
           let c = h .rows g l near in
           let k = h .byOwner .coded .cells g l near in
-          let few : g < 4096 = omega (arith, h .byOwner .few) in
+          let few : g < numbers = omega (arith, h .byOwner .few) in
           record {
             owner = ap (λ x. x / numbers) k ∙ code-key (keyAt es) g few;
             number = ap (λ x. x % numbers) k ∙ code-number (keyAt es) g few;

@@ -6,7 +6,7 @@ use mathlib.Core.List.{List}
 use lib.ListN.{getD}
 use borrow.Author.Tests.{eq-eqb}
 use native.Mathlib.Omega.{arith}
-use Rattle.mem_layout.specs.Layout.{valueRing, valueTextHeads, valueTextNexts}
+use Rattle.mem_layout.specs.Layout.{valueRing, valueTextHeads, valueTextNexts, valueBuckets}
 use Rattle.mem_chain.specs.Chain.{below, inBucket}
 use Rattle.mem_chain.proofs.Turn.{Turn, Answer, turn-start, turn-end, turn-row, turn-ring}
 use Rattle.mem_chain.proofs.Turn.{turn-here}
@@ -26,14 +26,14 @@ pub record Premise (work store x : List ℕ) (h n low : ℕ) : Type 0 where
 
 abbrev pub Seeking : List ℕ → List ℕ → List ℕ → ℕ → ℕ → ℕ → ℕ → Type 0
 Seeking work store x h n low c =
-    Turn (Premise work store x h n low) work (valueTextHeads + h % 1024) valueTextNexts valueRing n
+    Turn (Premise work store x h n low) work (valueTextHeads + h % valueBuckets) valueTextNexts valueRing n
     low
-    (rowHasText work store x) (λ p. inBucket (textBucket (p .values)) (h % 1024))
+    (rowHasText work store x) (λ p. inBucket (textBucket (p .values)) (h % valueBuckets))
     (λ p. hasTextAt (p .values) x) c
 
 module _ {work store x : List ℕ} {h n low : ℕ} where
   found : {r : ℕ}
-      → Answer (Premise work store x h n low) work (valueTextHeads + h % 1024) valueTextNexts
+      → Answer (Premise work store x h n low) work (valueTextHeads + h % valueBuckets) valueTextNexts
       valueRing n
       low (rowHasText work store x) (λ p. hasTextAt (p .values) x) r
       → FoundText work store x h n low r
@@ -47,13 +47,13 @@ module _ {work store x : List ℕ} {h n low : ℕ} where
             a .newest (record { stored = stored; values = es; holds = t; hash = b; near = near });
       }
 
-  pub seek-start : (c : ℕ) → c ≡ below (n + 1) (getD work (valueTextHeads + h % 1024) 0)
+  pub seek-start : (c : ℕ) → c ≡ below (n + 1) (getD work (valueTextHeads + h % valueBuckets) 0)
       → Seeking work store x h n low c
   seek-start c e =
-      turn-start (λ p. p .near) (λ p. p .holds .byText .thread (h % 1024) (omega arith))
-      (λ p i m t. eq-eqb (textBucket (p .values) i) (h % 1024)
-      (ap (λ y. hashOf y % 1024) (text-is (textAt (p .values) i) x t)
-      ∙ ap (λ k. k % 1024) (sym (p .hash)))) c e
+      turn-start (λ p. p .near) (λ p. p .holds .byText .thread (h % valueBuckets) (omega arith))
+      (λ p i m t. eq-eqb (textBucket (p .values) i) (h % valueBuckets)
+      (ap (λ y. hashOf y % valueBuckets) (text-is (textAt (p .values) i) x t)
+      ∙ ap (λ k. k % valueBuckets) (sym (p .hash)))) c e
 
   module _ {c : ℕ} (t : Seeking work store x h n low c) where
     pub seek-end : c ≤ low → FoundText work store x h n low 0

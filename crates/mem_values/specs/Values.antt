@@ -27,7 +27,7 @@ valueIndex =
 
 -- Values by text.
 abbrev pub textBucket : Entries → ℕ → ℕ
-textBucket es i = hashOf (textAt es i) % 1024
+textBucket es i = hashOf (textAt es i) % valueBuckets
 
 unfoldable pub rowHasText : List ℕ → Text → Text → ℕ → Bool
 rowHasText work store x row = rowHas work store (valuePlaces + row) (valueSizes + row) x
@@ -44,7 +44,7 @@ valueIn work row =
 -- What a search by text finds in memory.
 unfoldable pub foundIn : List ℕ → Text → Text → ℕ → ℕ → ℕ → ℕ
 foundIn work store x h n low =
-    walkedFrom work (valueTextHeads + h % 1024) valueTextNexts valueRing n low
+    walkedFrom work (valueTextHeads + h % valueBuckets) valueTextNexts valueRing n low
     (rowHasText work store x)
 
 -- Work memory with value n: its text, its number, its link.
@@ -57,7 +57,7 @@ withValue work n owner place size h =
     valueCounts
     n
     owner)
-    (valueTextHeads + h % 1024)
+    (valueTextHeads + h % valueBuckets)
     valueTextNexts
     valueRing
     n

@@ -11,9 +11,10 @@ use Rattle.spec_fields.proofs.Tests.{split}
 use Rattle.text.specs.Text.{Text}
 use Rattle.spec_exi.specs.Event.{QName}
 use Rattle.spec_exi.specs.Grammar.{isFinished}
-use Rattle.mem_rows.specs.Rows.{Rows, nameAt, inTag, isOver, stateOf, ModeFits, contextOf}
+use Rattle.mem_rows.specs.Rows.{Rows, nameAt, stateOf, ModeFits, contextOf}
 use Rattle.mem_state.specs.declared.Core.{Core}
 use Rattle.mem_state.specs.Holds.{Stores, Bounded, Represents}
+use Rattle.event_code.specs.Numbers.{isOver, inTag}
 
 finished-mode : (mode : ℕ) (qs : List (QName Text)) → ModeFits mode (length qs)
     → isFinished (stateOf mode qs) ≡ eqb mode isOver

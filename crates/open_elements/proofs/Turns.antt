@@ -14,10 +14,11 @@ use Rattle.spec_exi.specs.Event.{SD, ED, SE, AT, EE, CH, CM, PI}
 use Rattle.spec_exi.specs.Grammar.{kindNumber}
 use Rattle.grammar_codes.specs.Table.{Stands}
 use Rattle.mem_layout.specs.Layout.{nameRows}
-use Rattle.mem_rows.specs.Rows.{Rows, ModeFits, modeAfter, openedAfter, inTag}
+use Rattle.mem_rows.specs.Rows.{Rows, ModeFits, modeAfter, openedAfter}
 use Rattle.mem_state.specs.declared.Core.{Core}
 use Rattle.mem_state.specs.Holds.{Bounded, Topped}
 use Rattle.mem_state.specs.Commit.{topAfter, depthAfter, turned, counted}
+use Rattle.event_code.specs.Numbers.{inTag, numberSE, numberEE}
 use Rattle.open_elements.specs.Opened.{Turned}
 
 -- ---- the grammar's state
@@ -83,7 +84,7 @@ module _ (kind name : ℕ) (opened : List ℕ) {c : Core} (size : length opened 
     pub opened-turned : Turned c d opened (openedAfter kind name opened)
     unfolding openedAfter depthAfter topAfter kindNumber
     opened-turned =
-        split (eqb kind 2)
+        split (eqb kind numberSE)
         (λ a.
         let x : d .depth ≡ c .depth + 1 = depth ∙ rw a in
         let y : d .top ≡ name = top-is ∙ rw a in
@@ -92,9 +93,9 @@ module _ (kind name : ℕ) (opened : List ℕ) {c : Core} (size : length opened 
           stays = λ h. absurd (omega arith);
           leaves = λ h. absurd (omega arith);
         }))
-        (λ a. split (eqb kind 4)
+        (λ a. split (eqb kind numberEE)
         (λ e.
-        let p : 0 < c .depth = inside (eqb-true kind 4 e) in
+        let p : 0 < c .depth = inside (eqb-true kind numberEE e) in
         let x : d .depth ≡ c .depth - 1 = depth ∙ rw (a, e) in
         rw (a, e) (record {
           enters = λ h. absurd (omega arith);

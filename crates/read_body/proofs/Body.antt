@@ -7,9 +7,8 @@ use mathlib.Core.List.{List, append-nil}
 use lib.ListN.{length, take, drop, replicate}
 use lib.Seq.{length-take-le}
 use Rattle.spec_fields.specs.Bits.{unpack, isPadding}
-use Rattle.spec_fields.specs.Refusal.{Refusal, numberOf, tail, refused, accepted}
+use Rattle.spec_fields.specs.Refusal.{Refusal, numberOf, tail, refused, accepted, numberTail}
 use Rattle.spec_exi.specs.Settings.{Settings}
-use Rattle.spec_exi.specs.Sizes.{cellsPerEvent}
 use Rattle.spec_exi.specs.Event.{Event}
 use Rattle.spec_exi.specs.Tables.{Placed}
 use Rattle.spec_exi.specs.Reader.{Reading, ending, readReply}
@@ -85,7 +84,7 @@ module _ {s : Settings} {stream events text work : List ℕ} {st : State}
   module _ (none : r .number ≡ 0) {padded : Bool}
       (e : padded ≡ isPadding (drop (r .state .core .at) (unpack stream))) where
     pub run-tail : padded ≡ false → {reply : declared.BodyReply}
-        → reply ≡ refusalOf 13 (r .index)
+        → reply ≡ refusalOf numberTail (r .index)
         → RunPost s stream events text work st events′ text′ reply
     unfolding numberOf ending shifted
     run-tail f is =
@@ -127,7 +126,7 @@ module _ {s : Settings} {stream events text work : List ℕ} {st : State}
             ))
 
         attempted : Attempted (answerFrom s stream text st w) events text events′ text′ reply
-        unfolding replyOf readReply eventsFilled textFilled cellsPerEvent
+        unfolding replyOf readReply eventsFilled textFilled
         attempted =
             record {
               reply = rw (accepts, stored, count h);

@@ -8,12 +8,13 @@ use Rattle.spec_fields.specs.Refusal.{Answer}
 use Rattle.spec_exi.specs.Settings.{Settings}
 use Rattle.spec_exi.specs.Sizes.{sizes, maxStream, maxEvents}
 use Rattle.spec_exi.specs.Reader.{Reading, readEvents}
-use Rattle.mem_rows.specs.Rows.{Rows, isOver}
+use Rattle.mem_rows.specs.Rows.{Rows}
 use Rattle.mem_state.specs.Holds.{inStore, Topped, Represents, contextAt}
 use Rattle.read_literal.specs.Literal.{ZeroFrom}
 use Rattle.open_elements.specs.declared.State.{State}
 use Rattle.open_elements.specs.Opened.{openedIn}
 use Rattle.read_run.specs.Run.{EventsLaid, TextLaid}
+use Rattle.event_code.specs.Numbers.{isOver}
 use Rattle.read_body.specs.declared.BodyReply as declared
 use Rattle.read_body.specs.Reply.{Attempted, Filled}
 

@@ -6,6 +6,7 @@ ghost use lib.ListN.{drop};
 ghost use Rattle.spec_fields.specs.Bits.{unpack, isPadding};
 ghost use Rattle.settings.specs.Meant.{settingsFrom};
 ghost use Rattle.read_run.specs.Run.{AdvancePre};
+ghost use Rattle.spec_exi.specs.Sizes.{maxEvents};
 ghost use Rattle.read_body.specs.Reply.{refusalOf};
 ghost use Rattle.read_body.specs.Body.{PlaceIn, RunPost, BodyPost};
 use open_elements::State;
@@ -24,7 +25,7 @@ pub struct BodyReply {
 
 // A refusal's reply.
 pub fn refused(number: u32, index: usize) -> BodyReply
-    requires { ⌜ index ≤ 4096 ⌝ }
+    requires { ⌜ index ≤ maxEvents ⌝ }
     ensures { λ r. ⌜ r ≡ refusalOf number index ⌝ }
 {
     BodyReply {

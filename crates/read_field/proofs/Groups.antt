@@ -9,7 +9,7 @@ use lib.ListN.{length, drop}
 use lib.Dec.{leb, ltb}
 use borrow.Author.Tests.{lt-ltb, le-ltb, le-leb, lt-leb, ltb-true}
 use Rattle.spec_fields.specs.Bits.{Bits, unpack}
-use Rattle.spec_fields.specs.Refusal.{ended, number, numberOf}
+use Rattle.spec_fields.specs.Refusal.{ended, number, numberOf, numberEnded, numberNumber}
 use Rattle.spec_fields.specs.Parser.{Result, Parser, bad, got, return, fail, need, andThen, _>>=_, _>>_}
 use Rattle.spec_fields.specs.Field.{octet, maxOctets, maxUnsigned, grouped, unsigned}
 use Rattle.spec_fields.proofs.Tests.{split}
@@ -116,7 +116,7 @@ module _ (k weight low : ℕ) (bs : Bits) where
 -- ---- at a position
 
 module _ {s : List ℕ} {at : ℕ} where
-  pub unsigned-past : InStream s at → 8 * length s < at + 8 → Refused 5 ≡ fieldAt unsigned s at
+  pub unsigned-past : InStream s at → 8 * length s < at + 8 → Refused numberEnded ≡ fieldAt unsigned s at
   unfolding numberOf
   unsigned-past h l = sym (field-bad unsigned s at ended (unsigned-ended (drop at (unpack s)) (octet-past s at (h .place) l)))
 
@@ -140,11 +140,11 @@ module _ {s : List ℕ} {at first place left weight low : ℕ} (g : Going s at f
   still : (k : ℕ) → left ≡ k → onward 4 128 first (drop at (unpack s)) ≡ onward k weight low (drop place (unpack s))
   still k e = g .same ∙ ap (λ j. onward j weight low (drop place (unpack s))) e
 
-  pub going-none : left ≤ 0 → Refused 7 ≡ fieldAt (onward 4 128 first) s at
+  pub going-none : left ≤ 0 → Refused numberNumber ≡ fieldAt (onward 4 128 first) s at
   unfolding onward grouped fail _>>=_ andThen numberOf
   going-none h = sym (field-bad (onward 4 128 first) s at number (still 0 (omega arith)))
 
-  pub going-past : 0 < left → 8 * length s < place + 8 → Refused 5 ≡ fieldAt (onward 4 128 first) s at
+  pub going-past : 0 < left → 8 * length s < place + 8 → Refused numberEnded ≡ fieldAt (onward 4 128 first) s at
   unfolding numberOf
   going-past some h =
       let e = onward-ended (left - 1) weight low (drop place (unpack s)) (octet-past s place (g .inside) h) in
@@ -181,14 +181,14 @@ module _ {s : List ℕ} {at first place left weight low o : ℕ} (t : Turn s at 
       let l : o ≤ 255 = omega (arith, t .peeked .small) in
       mul-le-mul weight-small l
 
-  pub turn-zero : o ≡ 0 → Refused 7 ≡ fieldAt (onward 4 128 first) s at
+  pub turn-zero : o ≡ 0 → Refused numberNumber ≡ fieldAt (onward 4 128 first) s at
   unfolding numberOf
   turn-zero z =
       let e = onward-zero (left - 1) weight low (drop place (unpack s)) next z in
       sym (field-bad (onward 4 128 first) s at number (same ∙ e))
 
   module _ (b : 0 < o) (l : o < 128) where
-    pub turn-large : 2147483647 < low + weight * o → Refused 7 ≡ fieldAt (onward 4 128 first) s at
+    pub turn-large : 2147483647 < low + weight * o → Refused numberNumber ≡ fieldAt (onward 4 128 first) s at
     unfolding numberOf maxUnsigned
     turn-large m =
         let e = onward-large (left - 1) weight low (drop place (unpack s)) next b l m in

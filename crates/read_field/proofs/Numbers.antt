@@ -9,7 +9,7 @@ use lib.Bits.{bitAnd}
 use lib.Dec.{leb}
 use borrow.Author.Tests.{leb-true, leb-false}
 use Rattle.spec_fields.specs.Bits.{Bits, valueOf, unpack, octetsFrom, octetsFor}
-use Rattle.spec_fields.specs.Refusal.{ended, numberOf}
+use Rattle.spec_fields.specs.Refusal.{ended, numberOf, numberEnded}
 use Rattle.spec_fields.specs.Parser.{bad, got, return, andThen, _>>=_, times}
 use Rattle.spec_fields.specs.Field.{bitPacked, byteAligned, bit, octet, littleValue, numberField}
 use Rattle.spec_fields.proofs.Tests.{split}
@@ -107,7 +107,8 @@ module _ (s : List ℕ) (at : ℕ) where
       field-got (numberField bitPacked n) s at (ahead n bs) (at + n) l
       (rw (← drop-drop n at (unpack s)) g)
 
-  pub bits-past : (n : ℕ) → InStream s at → 8 * length s < at + n → Refused 5 ≡ fieldAt (numberField bitPacked n) s at
+  pub bits-past : (n : ℕ) → InStream s at → 8 * length s < at + n
+      → Refused numberEnded ≡ fieldAt (numberField bitPacked n) s at
   unfolding numberOf
   bits-past n h l =
       let e = bits-ended n (drop at (unpack s)) (omega (arith, left, h .place)) in
@@ -148,7 +149,7 @@ module _ (s : List ℕ) (at : ℕ) where
         field-got (numberField byteAligned n) s at v (at + k * 8) l
         (rw (← e, ← drop-drop (8 * k) at (unpack s)) g)
 
-    octets-past : 8 * length s < at + k * 8 → Refused 5 ≡ fieldAt (numberField byteAligned n) s at
+    octets-past : 8 * length s < at + k * 8 → Refused numberEnded ≡ fieldAt (numberField byteAligned n) s at
     unfolding numberOf octetsFor
     octets-past l =
         let e = octets-ended n (drop at (unpack s)) (omega (arith, left, h .place)) in

@@ -10,7 +10,7 @@ use lib.Seq.{drop-cons}
 use lib.Dec.{eqb}
 use borrow.Author.Tests.{eq-eqb, ne-eqb}
 use Rattle.spec_fields.specs.Bits.{unpack}
-use Rattle.spec_fields.specs.Refusal.{numberOf, header}
+use Rattle.spec_fields.specs.Refusal.{numberOf, header, numberHeader}
 use Rattle.spec_fields.specs.Parser.{Parser, need, _>>_}
 use Rattle.spec_fields.specs.Field.{octet}
 use Rattle.spec_exi.specs.Settings.{Settings, headerOf}
@@ -19,15 +19,15 @@ use Rattle.read_field.specs.declared.Field.the-variants.{Value, Refused}
 use Rattle.read_field.specs.View.{fieldAt}
 use Rattle.read_contract.specs.Outcome.{Declined, Gotten}
 use Rattle.read_contract.proofs.Outcome.{refused-outcome, gotten-outcome, declined-then, gotten-declined, then-got, need-true, need-declined, refused-declined, octet-gotten, return-got}
-use Rattle.read_header.specs.Header.{headerOctets, Passes}
+use Rattle.read_header.specs.Header.{headerOctets, Passes, headerSize, cookieSize}
 
 -- The octets before this one stand there.
 pub record Passing (stream : List ℕ) (first at i : ℕ) : Type 0 where
   pub answer : readHeader (drop first headerOctets) (unpack stream) ≡ readHeader (drop i headerOctets) (drop at (unpack stream))
   pub there : at ≤ 8 * length stream
-  pub few : i ≤ 5
+  pub few : i ≤ headerSize
 
-pub passing-start : (stream : List ℕ) (first : ℕ) → first ≤ 5 → Passing stream first 0 first
+pub passing-start : (stream : List ℕ) (first : ℕ) → first ≤ headerSize → Passing stream first 0 first
 passing-start stream first l = record { answer = refl; there = omega arith; few = l }
 
 -- What follows an octet where h is asked.
@@ -38,17 +38,17 @@ module _ {stream : List ℕ} {first at i : ℕ} (h : Passing stream first at i) 
   declined : {n : ℕ} → Declined (readHeader (drop i headerOctets)) stream at n → Passes (drop first headerOctets) stream (record { number = n; at = 0 })
   declined d = record { outcome = refused-outcome (record { refusal = d .refusal; result = h .answer ∙ d .result; is = d .is }); refused = λ _. refl }
 
-  pub all-passed : 5 ≤ i → Passes (drop first headerOctets) stream (record { number = 0; at = at })
+  pub all-passed : headerSize ≤ i → Passes (drop first headerOctets) stream (record { number = 0; at = at })
   unfolding readHeader
   all-passed l =
-      let e : i ≡ 5 = omega (arith, h .few) in
+      let e : i ≡ headerSize = omega (arith, h .few) in
       record {
         outcome = gotten-outcome refl
             (record { value = tt; result = h .answer ∙ rw e (return-got tt (drop at (unpack stream))); after = omega arith; inside = h .there }) tt;
         refused = λ b. absurd (omega arith);
       }
 
-  module _ (inside : i < 5) where
+  module _ (inside : i < headerSize) where
     one-more : drop i headerOctets ≡ getD headerOctets i 0 ∷ drop (i + 1) headerOctets
     one-more = rw (add-one i) (drop-cons headerOctets i 0 inside)
 
@@ -58,7 +58,8 @@ module _ {stream : List ℕ} {first at i : ℕ} (h : Passing stream first at i) 
         declined (rw one-more (declined-then (following (getD headerOctets i 0) (drop (i + 1) headerOctets)) (refused-declined octet stream at e)))
 
     module _ {v q : ℕ} (e : fieldAt octet stream at ≡ Value v q) where
-      pub octet-other : (v ≡ getD headerOctets i 0 → ⊥) → Passes (drop first headerOctets) stream (record { number = 4; at = 0 })
+      pub octet-other : (v ≡ getD headerOctets i 0 → ⊥)
+          → Passes (drop first headerOctets) stream (record { number = numberHeader; at = 0 })
       unfolding readHeader numberOf
       octet-other n =
           let hs : List ℕ = drop (i + 1) headerOctets in
@@ -84,6 +85,6 @@ pub header-with : (s : Settings) → s .cookie ≡ true → headerOf s ≡ heade
 unfolding headerOf
 header-with s e = rw e
 
-pub header-without : (s : Settings) → s .cookie ≡ false → headerOf s ≡ drop 4 headerOctets
+pub header-without : (s : Settings) → s .cookie ≡ false → headerOf s ≡ drop cookieSize headerOctets
 unfolding headerOf
 header-without s e = rw e

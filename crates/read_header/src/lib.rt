@@ -15,8 +15,13 @@ pub struct Passed {
     pub at: usize,
 }
 
+// Octets of the cookie, and of the header with it.
+const COOKIE_SIZE: usize = 4;
+
+const HEADER_SIZE: usize = COOKIE_SIZE + 1;
+
 // The octets of the header (EXI 5): the cookie "$EXI", then bits 10, no options, version 1.
-const OCTETS: [u32; 5] = [36, 69, 88, 73, 128];
+const OCTETS: [u32; HEADER_SIZE] = [36, 69, 88, 73, 128];
 
 // The octets of the header from one on.
 fn read_octets(stream: &[u8], first: usize) -> Passed
@@ -25,7 +30,7 @@ fn read_octets(stream: &[u8], first: usize) -> Passed
 {
     let mut at: usize = 0;
     let mut i = first;
-    while i < 5 {
+    while i < HEADER_SIZE {
         match read_field::octet(stream, at) {
             Field::Refused(k) => {
                 return Passed {
@@ -56,5 +61,5 @@ pub fn read_header(o: Settings, stream: &[u8]) -> Passed
     if o.cookie {
         return read_octets(stream, 0);
     }
-    read_octets(stream, 4)
+    read_octets(stream, COOKIE_SIZE)
 }

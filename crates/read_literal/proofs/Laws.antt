@@ -9,7 +9,7 @@ use lib.ListN.{length, drop, set, replicate, length-append, length-drop, length-
 use lib.Dec.{leb, T}
 use borrow.Author.Tests.{le-leb, lt-leb}
 use Rattle.spec_fields.specs.Bits.{unpack}
-use Rattle.spec_fields.specs.Refusal.{numberOf, character, limit}
+use Rattle.spec_fields.specs.Refusal.{numberOf, character, limit, numberCharacter, numberLimit}
 use Rattle.spec_fields.specs.Parser.{return, times}
 use Rattle.spec_fields.specs.Field.{unsigned}
 use Rattle.spec_fields.proofs.Pack.{length-unpack}
@@ -57,7 +57,7 @@ module _ (stream : List ℕ) (at : ℕ) {v q : ℕ} (l : at ≤ 8 * length strea
       let (g, same) = character-gotten t in
       sym (view.field-got (readCharacter base) stream at v q (g .inside) (rw same at (g .result)))
 
-  pub character-not : isChar v ≡ false → Refused 8 ≡ fieldAt (readCharacter base) stream at
+  pub character-not : isChar v ≡ false → Refused numberCharacter ≡ fieldAt (readCharacter base) stream at
   unfolding readCharacter numberOf
   character-not t =
       let d = gotten-declined _ (unsigned-gotten stream at l e) (need-declined (isChar v) character (return v) t) in
@@ -108,7 +108,7 @@ module _ {s : List ℕ} {j k : ℕ} (p : Place s j k) where
         record { refused = λ _. sym (character-refused s (8 * j + k) (sym answer ∙ z)); read = λ l. absurd (omega (arith, declined-number d)) }
 
     module _ {v q : ℕ} (z : f ≡ Value v q) where
-      pub point-not : isChar v ≡ false → PointRead s j k (record { number = 8; value = 0; behind = j })
+      pub point-not : isChar v ≡ false → PointRead s j k (record { number = numberCharacter; value = 0; behind = j })
       point-not t = record { refused = λ _. sym (character-not s (8 * j + k) (p .inside) (sym answer ∙ z) t); read = λ l. absurd (omega arith) }
 
       pub point-is : isChar v ≡ true → PointRead s j k (record { number = 0; value = v; behind = q / 8 })
@@ -243,13 +243,13 @@ module _ {stream : List ℕ} {at : ℕ} {text : List ℕ} {stored n : ℕ} (fit 
 -- ---- a literal
 
 abbrev overLimit : ℕ → declared.Literal
-overLimit at = record { number = 12; next = at; left = 0; hash = 0 }
+overLimit at = record { number = numberLimit; next = at; left = 0; hash = 0 }
 
 nothing-cleared : (text : List ℕ) {stored : ℕ} → stored ≤ maxStore → Cleared text stored text
 nothing-cleared text {stored} h = record { cells = 0; room = omega arith; text-is = laid-none text stored }
 
 module _ {stream : List ℕ} {at : ℕ} {text : List ℕ} {stored n : ℕ} (fit : LiteralFit stream at text stored) where
-  module _ (d : (s : Settings) (t : Tables) → length (t .store) ≡ stored → Outcome (readLiteral sizes s t n) stream at 12 at (Laid text stored n text)) where
+  module _ (d : (s : Settings) (t : Tables) → length (t .store) ≡ stored → Outcome (readLiteral sizes s t n) stream at numberLimit at (Laid text stored n text)) where
     over-limit : LiteralRead stream at text stored n text (overLimit at)
     over-limit =
         record {
@@ -263,19 +263,19 @@ module _ {stream : List ℕ} {at : ℕ} {text : List ℕ} {stored n : ℕ} (fit 
           waits = λ z. absurd (omega arith);
         }
 
-  pub literal-long : 4096 < n → LiteralRead stream at text stored n text (overLimit at)
+  pub literal-long : maxString < n → LiteralRead stream at text stored n text (overLimit at)
   unfolding readLiteral maxString numberOf
-  literal-long h = over-limit (λ s t e. need-failed (leb n 4096) limit _ (lt-leb n 4096 h))
+  literal-long h = over-limit (λ s t e. need-failed (leb n maxString) limit _ (lt-leb n maxString h))
 
-  pub literal-full : n ≤ 4096 → 16384 < stored + n
+  pub literal-full : n ≤ maxString → maxStore < stored + n
       → LiteralRead stream at text stored n text (overLimit at)
   unfolding readLiteral maxString maxStore numberOf
   literal-full l h =
       over-limit (λ s t e.
-      need-passed (leb n 4096) limit (le-leb n 4096 l)
-      (need-failed (leb (length (t .store) + n) 16384) limit _ (lt-leb (length (t .store) + n) 16384 (omega arith))))
+      need-passed (leb n maxString) limit (le-leb n maxString l)
+      (need-failed (leb (length (t .store) + n) maxStore) limit _ (lt-leb (length (t .store) + n) maxStore (omega arith))))
 
-  module _ (l : n ≤ 4096) (h : stored + n ≤ 16384) {text′ : List ℕ} {r : declared.Literal} (c : CharactersRead stream at text stored n text′ r) where
+  module _ (l : n ≤ maxString) (h : stored + n ≤ maxStore) {text′ : List ℕ} {r : declared.Literal} (c : CharactersRead stream at text stored n text′ r) where
     characters-wait : 0 < r .left → (s : Settings) (t : Tables) → length (t .store) ≡ stored → Waits (readCharacter s) (readLiteral sizes s t n) stream at (r .next) (r .left)
     unfolding readLiteral readCharacter maxString maxStore
     characters-wait z s t e =
@@ -283,8 +283,8 @@ module _ {stream : List ℕ} {at : ℕ} {text : List ℕ} {stored n : ℕ} (fit 
         record {
           after = w .after;
           inside = w .inside;
-          comes = awaits-need (leb n 4096) limit (le-leb n 4096 l)
-              (awaits-need (leb (length (t .store) + n) 16384) limit (le-leb (length (t .store) + n) 16384 (omega arith))
+          comes = awaits-need (leb n maxString) limit (le-leb n maxString l)
+              (awaits-need (leb (length (t .store) + n) maxStore) limit (le-leb (length (t .store) + n) maxStore (omega arith))
               (awaits-then (λ x. return (literal, laid t x)) (w .comes)));
         }
 
@@ -293,8 +293,8 @@ module _ {stream : List ℕ} {at : ℕ} {text : List ℕ} {stored n : ℕ} (fit 
     literal-read =
         record {
           outcome = λ s t e.
-              need-passed (leb n 4096) limit (le-leb n 4096 l)
-              (need-passed (leb (length (t .store) + n) 16384) limit (le-leb (length (t .store) + n) 16384 (omega arith))
+              need-passed (leb n maxString) limit (le-leb n maxString l)
+              (need-passed (leb (length (t .store) + n) maxStore) limit (le-leb (length (t .store) + n) maxStore (omega arith))
               (outcome-map (λ x. (literal, laid t x)) (c .outcome)
               (λ z x y. record { form = refl; place = e; size = y .1; text-is = y .0 })));
           inside = c .inside;

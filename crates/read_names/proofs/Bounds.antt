@@ -14,6 +14,7 @@ use Rattle.read_field.specs.View.{fieldAt, InStream, NumberIn}
 use Rattle.read_contract.proofs.Outcome.{unsigned-gotten}
 use Rattle.read_literal.specs.declared.Literal as declared
 use Rattle.read_literal.specs.Literal.{LiteralFit, LiteralRead}
+use Rattle.mem_index.specs.Index.{numbers}
 use Rattle.read_names.specs.Uris.{UriPre, UriSought}
 use Rattle.read_names.specs.Names.{NamePre, NameSought}
 
@@ -54,7 +55,7 @@ uri-find-asks fit = record { room = fit .room; few = omega (arith, fit .few) }
 
 module _ {stream : List ℕ} {at : ℕ} {text : List ℕ} {stored : ℕ} {work : List ℕ} {names uri : ℕ}
     (fit : NamePre stream at text stored work names uri) where
-  pub name-choice-asks : {among : ℕ} → among ≤ 4096 → NumberIn stream at among 65536
+  pub name-choice-asks : {among : ℕ} → among ≤ numbers → NumberIn stream at among 65536
   unfolding maxStream
   name-choice-asks h = omega (arith, fit .literal)
 

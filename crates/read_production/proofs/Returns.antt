@@ -29,6 +29,7 @@ use Rattle.grammar_match.specs.Here.{siteIn, CodeRows, learnedHere}
 use Rattle.grammar_match.proofs.Here.{site-half, site-low, count-asks, count-inside, levels-here}
 use Rattle.grammar_match.proofs.Here.{outer-here, inner-here, top-row, table-empty}
 use Rattle.grammar_match.proofs.Codes.{count-is}
+use Rattle.event_code.specs.Numbers.{inTag, inElement}
 use Rattle.read_production.specs.declared.ProductionRead.{ProductionRead}
 use Rattle.read_production.specs.Answers.{refusedAs, fixedAs}
 use Rattle.read_production.specs.Levels.{PartRead, FixedPre, FixedRead, FixedAt, ownCount}
@@ -43,7 +44,7 @@ use Rattle.read_production.proofs.Codes.{fixed-is, learned-is}
 
 pub own-most : (mode : ℕ) {own : ℕ} → own ≡ ownCount mode → own ≤ 1
 own-most mode e =
-    split (eqb mode 5) (λ y. omega (arith, rw y at e)) (λ y. omega (arith, rw y at e))
+    split (eqb mode inElement) (λ y. omega (arith, rw y at e)) (λ y. omega (arith, rw y at e))
 
 module _ {stream : List ℕ} {at top learned : ℕ} {work : List ℕ}
     (h : ProductionPre stream at top learned work) where
@@ -141,7 +142,7 @@ module _ (s : Settings) (mode : ℕ) {stream : List ℕ} {at top learned : ℕ} 
 
   -- ---- outside an element
 
-  pub outer-read : mode < 4 → {d : ProductionRead} → FixedAt s mode stream at at d
+  pub outer-read : mode < inTag → {d : ProductionRead} → FixedAt s mode stream at at d
       → ProductionPost s stream at mode top learned work d
   outer-read l {d} f =
       fixed-all f (λ w store opened valid rows.
@@ -165,7 +166,7 @@ module _ (s : Settings) (mode : ℕ) {stream : List ℕ} {at top learned : ℕ} 
 
   -- ---- in an element
 
-  module _ (inner : 4 ≤ mode) {site count own : ℕ} (e : site ≡ siteIn mode top)
+  module _ (inner : inTag ≤ mode) {site count own : ℕ} (e : site ≡ siteIn mode top)
       (counted : CountedAt work site count) (o : own ≡ ownCount mode) {number value next : ℕ}
       (g : PartRead (s .alignment) stream at (count + own + 1) number value next) where
     module _ {w : Rows} {opened : List ℕ} (valid : Valid w)

@@ -6,7 +6,7 @@ use mathlib.Core.Bool.{true}
 use mathlib.Core.List.{List}
 use mathlib.Core.Option.{some}
 use lib.ListN.{length, getElem?}
-use Rattle.spec_fields.specs.Refusal.{numberOf}
+use Rattle.spec_fields.specs.Refusal.{numberOf, numberCode}
 use Rattle.spec_exi.specs.Sizes.{maxLearned}
 use Rattle.spec_exi.specs.Grammar.{Production, kindNumber, learnedIn}
 use Rattle.mem_chain.specs.Chain.{lastThat}
@@ -26,6 +26,7 @@ use Rattle.mem_state.proofs.Taught.{keys-of, site-same}
 use Rattle.mem_state.proofs.Taught.{taught-count, taught-row, learns-of}
 use Rattle.grammar_match.proofs.Unfit.{kind-number}
 use Rattle.grammar_match.proofs.Rows.{site-key, production-is, first-is}
+use Rattle.event_code.specs.Numbers.{numberSE, numberCH}
 use Rattle.read_production.specs.Answers.{refusedAs}
 use Rattle.read_production.specs.Learned.{LearnedPre, IsLearned, LearnedRead}
 
@@ -149,7 +150,7 @@ module _ {work : List ℕ} {site count v learned r : ℕ}
     (nth : NthLearned work site count v learned r) (at next : ℕ) where
   refused-as : ((w : Rows) → Valid w → LearnedHold work learned (taughtIn w)
       → site / 2 < length (w .names) → CountedAt work site count → v < count → ⊥)
-      → LearnedRead work site count v learned at next (refusedAs 6 at)
+      → LearnedRead work site count v learned at next (refusedAs numberCode at)
   unfolding numberOf
   refused-as never =
       record {
@@ -160,14 +161,14 @@ module _ {work : List ℕ} {site count v learned r : ℕ}
       }
 
   -- There is none.
-  pub learned-none : r ≡ 0 → LearnedRead work site count v learned at next (refusedAs 6 at)
+  pub learned-none : r ≡ 0 → LearnedRead work site count v learned at next (refusedAs numberCode at)
   learned-none z =
       refused-as
       (λ w x hold there counted l. row-there x site there hold counted l nth z)
 
   module _ (n : r ≡ 0 → ⊥) {p : cell.Production} (g : ProductionAt work (r - 1) p) where
     -- No learned production has such a kind.
-    pub learned-low : p .kind < 2 → LearnedRead work site count v learned at next (refusedAs 6 at)
+    pub learned-low : p .kind < numberSE → LearnedRead work site count v learned at next (refusedAs numberCode at)
     learned-low k =
         refused-as (λ w x hold there counted l.
         omega (
@@ -176,7 +177,7 @@ module _ {work : List ℕ} {site count v learned r : ℕ}
           x .refers .learned (r - 1) (low x site there hold counted l nth n) .from,
         ))
 
-    pub learned-high : 5 < p .kind → LearnedRead work site count v learned at next (refusedAs 6 at)
+    pub learned-high : numberCH < p .kind → LearnedRead work site count v learned at next (refusedAs numberCode at)
     learned-high k =
         refused-as (λ w x hold there counted l.
         omega (
@@ -185,7 +186,7 @@ module _ {work : List ℕ} {site count v learned r : ℕ}
           x .refers .learned (r - 1) (low x site there hold counted l nth n) .upTo,
         ))
 
-    pub learned-found : 2 ≤ p .kind → p .kind ≤ 5
+    pub learned-found : numberSE ≤ p .kind → p .kind ≤ numberCH
         → LearnedRead work site count v learned at next
         (record {
           number = 0;

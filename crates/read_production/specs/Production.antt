@@ -13,12 +13,12 @@ use Rattle.spec_exi.specs.Grammar.{Production, Code, kindNumber, fits, firstFit
 use Rattle.spec_exi.specs.Grammar.{sameCode}
 use Rattle.spec_exi.specs.Context.{levelsIn}
 use Rattle.spec_exi.specs.Reader.{readCode}
-use Rattle.event_code.specs.Numbers.{numberSE, numberCH}
+use Rattle.event_code.specs.Numbers.{numberSE, numberCH, inTag}
 use Rattle.grammar_codes.specs.Table.{Stands}
 use Rattle.mem_layout.specs.Layout.{uriRows, nameRows, workCells}
 use Rattle.mem_entries.specs.Entries.{keyAt}
 use Rattle.mem_rows.specs.Rows.{Rows, kindAt, carries, carriedAt}
-use Rattle.mem_rows.specs.Rows.{contextOf, inTag}
+use Rattle.mem_rows.specs.Rows.{contextOf}
 use Rattle.mem_rows.specs.Valid.{Valid}
 use Rattle.read_contract.specs.Outcome.{Outcome}
 use Rattle.grammar_match.specs.Here.{CodeRows, learnedHere, codeHere}

@@ -113,7 +113,6 @@ pub events-next : {events events′ events″ : List ℕ} {first n : ℕ} (row :
     → events″ ≡ take (cellsPerEvent * n) events′ ++ row
     ++ drop (cellsPerEvent * n + cellsPerEvent) events′
     → EventsLaid events first events″ (n + 1)
-unfolding cellsPerEvent
 events-next {events} {first = first} row h room long is =
     record {
       cells = h .cells ++ row;

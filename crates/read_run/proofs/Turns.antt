@@ -7,7 +7,7 @@ use mathlib.Core.List.{List, [], _∷_, _++_}
 use lib.ListN.{length, take, drop, getD, set, length-append}
 use Rattle.text.specs.Text.{Text}
 use Rattle.spec_fields.specs.Bits.{unpack}
-use Rattle.spec_fields.specs.Refusal.{numberOf}
+use Rattle.spec_fields.specs.Refusal.{numberOf, numberLimit}
 use Rattle.spec_exi.specs.Settings.{Settings}
 use Rattle.spec_exi.specs.Sizes.{sizes, maxEvents, maxStore, maxNames, cellsPerEvent}
 use Rattle.spec_exi.specs.Sizes.{eventCells}
@@ -17,7 +17,7 @@ use Rattle.spec_exi.specs.Reader.{step}
 use Rattle.event.specs.Cells.{cellsOf, cellsOfAll}
 use Rattle.event.proofs.Laws.{cells-length, cells-size}
 use Rattle.mem_layout.specs.Layout.{nameRows}
-use Rattle.mem_rows.specs.Rows.{Rows, isOver, contextOf}
+use Rattle.mem_rows.specs.Rows.{Rows, contextOf}
 use Rattle.mem_state.specs.declared.Core.{Core}
 use Rattle.mem_state.specs.Holds.{inStore, Topped, Represents, contextAt}
 use Rattle.mem_state.proofs.Joins.{holds-grown}
@@ -31,6 +31,7 @@ use Rattle.open_elements.specs.declared.State.{State}
 use Rattle.open_elements.specs.Opened.{openedIn, innermostIn, withTop, Kept}
 use Rattle.open_elements.proofs.Opened.{last-top, innermost-is, innermost-small}
 use Rattle.open_elements.proofs.Tops.{represents-top, bounded-top, stored-row, same-rows}
+use Rattle.event_code.specs.Numbers.{isOver}
 use Rattle.read_run.specs.Events.{Steps, none-read}
 use Rattle.read_run.specs.Run.{AdvancePre}
 use Rattle.read_run.specs.Run.{TextLaid, Running, Progress, Refuses, AdvancePost}
@@ -102,7 +103,7 @@ module _ {s : Settings} {stream events text work : List ℕ} {st : State} {first
     (pre : AdvancePre stream events text work st first) {events′ text′ work′ : List ℕ} {t : State}
     {n : ℕ} (i : Progress s stream events text work st first events′ text′ work′ t n) where
   cells-fit : cellsPerEvent * n ≤ length events
-  unfolding cellsPerEvent eventCells
+  unfolding eventCells
   cells-fit = omega (arith, i .upTo, pre .cells)
 
   pub same-events : length events′ ≡ length events
@@ -115,7 +116,7 @@ module _ {s : Settings} {stream events text work : List ℕ} {st : State} {first
   store-room = omega (arith, pre .room, same-text)
 
   pub turn-asks : n < maxEvents → StepPre stream events′ text′ work′ (t .core) (cellsPerEvent * n) n
-  unfolding cellsPerEvent eventCells
+  unfolding eventCells
   turn-asks h =
       record {
         size = pre .size;
@@ -142,7 +143,7 @@ module _ {s : Settings} {stream events text work : List ℕ} {st : State} {first
   module _ (going : t .core .mode ≡ isOver → ⊥) where
     pub turn-full : maxEvents ≤ n
         → AdvancePost s stream events text work st first events′ text′ work′
-        (record { number = 12; index = n; state = t })
+        (record { number = numberLimit; index = n; state = t })
     unfolding numberOf
     turn-full l =
         record {
@@ -315,7 +316,6 @@ module _ {s : Settings} {stream events text work : List ℕ} {st : State} {first
                 (sym opened-is)
 
             running : Running s stream events text st first w events″ text″ work″ later (n + 1)
-            unfolding cellsPerEvent
             running =
                 record {
                   es = before .es ++ reads .value .0 ∷ [];

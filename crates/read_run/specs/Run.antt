@@ -13,12 +13,13 @@ use Rattle.spec_exi.specs.Event.{Event}
 use Rattle.spec_exi.specs.Tables.{Placed}
 use Rattle.spec_exi.specs.Reader.{step}
 use Rattle.mem_layout.specs.Layout.{nameRows, workCells}
-use Rattle.mem_rows.specs.Rows.{Rows, isOver}
+use Rattle.mem_rows.specs.Rows.{Rows}
 use Rattle.mem_state.specs.Holds.{inStore, Bounded, Topped, Represents, contextAt}
 use Rattle.read_contract.specs.Outcome.{Declined}
 use Rattle.read_literal.specs.Literal.{laidAt}
 use Rattle.open_elements.specs.declared.State.{State}
 use Rattle.open_elements.specs.Opened.{openedIn}
+use Rattle.event_code.specs.Numbers.{isOver}
 use Rattle.read_run.specs.declared.Advanced.{Advanced}
 use Rattle.event.specs.Cells.{cellsOfAll}
 use Rattle.read_run.specs.Events.{Steps}

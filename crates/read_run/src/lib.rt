@@ -3,8 +3,8 @@
 ghost use mathlib.Core.Path.{_≡_};
 ghost use Rattle.settings.specs.Meant.{settingsFrom};
 ghost use Rattle.read_run.specs.Run.{AdvancePre, AdvancePost};
+use event_code::IS_OVER;
 use mem_state::Core;
-use mem_state::IS_OVER;
 use open_elements::State;
 use refusal::LIMIT;
 use settings::Settings;

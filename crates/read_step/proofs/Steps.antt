@@ -10,7 +10,7 @@ use Rattle.spec_fields.proofs.Tests.{T-is, is-T, left, right}
 use Rattle.spec_exi.specs.Settings.{Settings}
 use Rattle.spec_exi.specs.Event.{Kind, EE}
 use Rattle.spec_exi.specs.Grammar.{kindNumber}
-use Rattle.event_code.specs.Numbers.{numberED, inTag, inElement}
+use Rattle.event_code.specs.Numbers.{numberED, inTag, inElement, numberSE, numberAT, numberEE, numberCH}
 use Rattle.mem_state.specs.declared.Core.{Core}
 use Rattle.read_production.specs.declared.ProductionRead.{ProductionRead}
 use Rattle.read_production.specs.Production.{ProductionBounds}
@@ -36,17 +36,17 @@ module _ {b : Bool} {s : Settings} {stream work : List ℕ} {c : Core} {p : Prod
       }
 
   -- The end tag in an element's content.
-  module _ (e : eqb (p .kind) 4 && eqb (c .mode) 5 ≡ true) where
+  module _ (e : eqb (p .kind) numberEE && eqb (c .mode) inElement ≡ true) where
     pub at-end : p .kind ≡ kindNumber EE
     unfolding kindNumber
     at-end =
-        eqb-true (p .kind) 4
-        (T-is (eqb (p .kind) 4) (left (eqb (p .kind) 4) (eqb (c .mode) 5) (is-T _ e)))
+        eqb-true (p .kind) numberEE
+        (T-is (eqb (p .kind) numberEE) (left (eqb (p .kind) numberEE) (eqb (c .mode) inElement) (is-T _ e)))
 
     pub in-content : c .mode ≡ inElement
     in-content =
-        eqb-true (c .mode) 5
-        (T-is (eqb (c .mode) 5) (right (eqb (p .kind) 4) (eqb (c .mode) 5) (is-T _ e)))
+        eqb-true (c .mode) inElement
+        (T-is (eqb (c .mode) inElement) (right (eqb (p .kind) numberEE) (eqb (c .mode) inElement) (is-T _ e)))
 
   -- Start and end of the document stand outside of elements.
   pub outside : p .kind ≤ numberED → c .mode < inTag
@@ -60,7 +60,7 @@ module _ {s : Settings} {stream work : List ℕ} {c : Core} {p : ProductionRead}
       record { next = h .code .post .inside; bounds = bounds h; learned = h .is; kind = e }
 
   -- It is SE, AT, EE or CH.
-  pub is-end : (p .kind ≡ 2 → ⊥) → (p .kind ≡ 3 → ⊥) → (p .kind ≡ 5 → ⊥) → p .kind ≡ kindNumber EE
+  pub is-end : (p .kind ≡ numberSE → ⊥) → (p .kind ≡ numberAT → ⊥) → (p .kind ≡ numberCH → ⊥) → p .kind ≡ kindNumber EE
   unfolding kindNumber
   is-end a d f =
       let i = bounds h .inner (h .is) in omega (arith, a, d, f, i .from, i .upTo)

@@ -14,6 +14,7 @@ use Rattle.read_contract.proofs.Outcome.{unsigned-gotten}
 use Rattle.read_literal.specs.declared.Literal as declared
 use Rattle.read_literal.specs.Literal.{LiteralFit, LiteralRead}
 use Rattle.read_partition.specs.declared.StringRead.{StringRead}
+use Rattle.mem_index.specs.Index.{numbers}
 use Rattle.read_values.specs.Values.{HitPre, NewPre, ValuePre, SoughtPre, JoinsWithin}
 
 pub in-stream : {stream : List ℕ} {at : ℕ} {text : List ℕ} {stored : ℕ}
@@ -35,7 +36,7 @@ number-fits {stream} {at} fit answer z =
 
 module _ {stream : List ℕ} {at : ℕ} {stored : ℕ} {work : List ℕ} {values owner : ℕ}
     (fit : HitPre stream at stored work values owner) where
-  pub choice-asks : {among : ℕ} → among ≤ 4096 → NumberIn stream at among 65536
+  pub choice-asks : {among : ℕ} → among ≤ numbers → NumberIn stream at among 65536
   unfolding maxStream
   choice-asks h = omega (arith, fit .size, fit .place)
 

@@ -12,7 +12,7 @@ use Rattle.spec_exi.specs.Sizes.{sizes, maxEvents, maxStore, maxOpen, readerWor
 use Rattle.spec_exi.specs.Context.{start}
 use Rattle.spec_exi.specs.Reader.{readEvents}
 use Rattle.mem_layout.specs.Layout.{workCells, zeroCells}
-use Rattle.mem_initial.specs.Initial.{zeroed, initialText, withText, withRows, startRows, startAt}
+use Rattle.mem_initial.specs.Initial.{zeroed, initialText, withText, withRows, startRows, startAt, initialSize}
 use Rattle.mem_initial.specs.Initial.{Layable}
 use Rattle.mem_initial.proofs.Initial.{store-sourced, heads-zero, start-represents, start-topped}
 use Rattle.mem_initial.proofs.Initial.{start-bounded, start-means}
@@ -31,20 +31,20 @@ zeros-at (suc n) zero = refl
 zeros-at (suc n) (suc k) = zeros-at n k
 
 -- The text store behind the initial entries.
-text-zeros : (text : List ℕ) → text ≡ replicate (length text) 0 → 99 ≤ length text
-    → length (withText text 0) ≡ length text → ZeroFrom (withText text 0) 99
+text-zeros : (text : List ℕ) → text ≡ replicate (length text) 0 → initialSize ≤ length text
+    → length (withText text 0) ≡ length text → ZeroFrom (withText text 0) initialSize
 unfolding withText
 text-zeros text e h same =
-    let size : length initialText ≡ 99 =
-    omega (arith, same, length-append initialText (drop 99 text), length-drop 99 text) in
+    let size : length initialText ≡ initialSize =
+    omega (arith, same, length-append initialText (drop initialSize text), length-drop initialSize text) in
     record {
       zero = λ k l.
-          let i : k ≡ length initialText + (k - 99) = omega arith in
-          ap (λ n. getD (initialText ++ drop 99 text) n 0) i
-          ∙ getD-append-add initialText (drop 99 text) (k - 99) 0
-          ∙ getD-drop 99 text (k - 99) 0
-          ∙ ap (λ (m : List ℕ). getD m (99 + (k - 99)) 0) e
-          ∙ zeros-at (length text) (99 + (k - 99));
+          let i : k ≡ length initialText + (k - initialSize) = omega arith in
+          ap (λ n. getD (initialText ++ drop initialSize text) n 0) i
+          ∙ getD-append-add initialText (drop initialSize text) (k - initialSize) 0
+          ∙ getD-drop initialSize text (k - initialSize) 0
+          ∙ ap (λ (m : List ℕ). getD m (initialSize + (k - initialSize)) 0) e
+          ∙ zeros-at (length text) (initialSize + (k - initialSize));
     }
 
 -- ---- the start
@@ -58,7 +58,7 @@ module _ {stream events text work : List ℕ} (h : StreamReady stream events tex
   unfolding readerWork
   rows-ask e = record { room = omega (arith, h .rows); near = omega arith }
 
-  pub text-asks : 0 + 99 ≤ length text
+  pub text-asks : 0 + initialSize ≤ length text
   unfolding maxStore
   text-asks = omega (arith, h .room)
 

@@ -8,11 +8,12 @@ use lib.ListN.{length, drop, replicate, length-replicate}
 use lib.Dec.{leb, ltb}
 use borrow.Author.Tests.{le-leb, lt-leb, ltb-true, ltb-false}
 use Rattle.spec_fields.specs.Bits.{unpack}
-use Rattle.spec_fields.specs.Refusal.{Refusal, numberOf, room, settings, long, Answer, refused}
+use Rattle.spec_fields.specs.Refusal.{Refusal, numberOf, room, settings, long, Answer, refused, numberRoom, numberLong}
+use Rattle.spec_fields.specs.Refusal.{numberSettings}
 use Rattle.spec_fields.proofs.Tests.{split}
 use Rattle.spec_exi.specs.Settings.{meaningful, settingsOf, headerOf}
 use Rattle.spec_exi.specs.Settings as format
-use Rattle.spec_exi.specs.Sizes.{sizes, maxStream, maxEvents, maxStore, cellsPerEvent}
+use Rattle.spec_exi.specs.Sizes.{sizes, maxStream, maxEvents, maxStore}
 use Rattle.spec_exi.specs.Sizes.{eventCells, readerWork}
 use Rattle.spec_exi.specs.Context.{start}
 use Rattle.spec_exi.specs.Reader.{Reading, readReply, readEvents, readBody, readStream}
@@ -91,50 +92,50 @@ fits a b c k m n e =
 
 abbrev short : List ℕ → List ℕ → List ℕ → Bool
 short events text work =
-    ltb (length events) 36864 || ltb (length text) 16384 || ltb (length work) 18432
+    ltb (length events) eventCells || ltb (length text) maxStore || ltb (length work) readerWork
 
 module _ (s : SettingNumbers) (stream : List ℕ) {events text : List ℕ} (work : List ℕ)
     (h : Cleared events text) where
-  lent-is : (leb 36864 (length events) && leb 16384 (length text) && leb 18432 (length work))
+  lent-is : (leb eventCells (length events) && leb maxStore (length text) && leb readerWork (length work))
       ≡ not (short events text work)
-  lent-is = enough (length events) (length text) (length work) 36864 16384 18432
+  lent-is = enough (length events) (length text) (length work) eventCells maxStore readerWork
 
-  pub no-room : short events text work ≡ true → {r : declared.BodyReply} → r ≡ refusalOf 1 0
+  pub no-room : short events text work ≡ true → {r : declared.BodyReply} → r ≡ refusalOf numberRoom 0
       → Filled (answerOf s stream (lent events text work)) events text events text r
-  unfolding answerOf readerRoom format-reader.read readSized enoughToRead eventCells cellsPerEvent
+  unfolding answerOf readerRoom format-reader.read readSized enoughToRead eventCells
       maxEvents maxStore readerWork numberOf
-  no-room f is = filled-refused h room 1 (rw (lent-is, f)) refl is
+  no-room f is = filled-refused h room numberRoom (rw (lent-is, f)) refl is
 
   module _ (few : short events text work ≡ false) {asked : Bool}
       (meant : asked ≡ meaningful (numbersOf s)) where
-    pub no-meaning : not asked ≡ true → {r : declared.BodyReply} → r ≡ refusalOf 2 0
+    pub no-meaning : not asked ≡ true → {r : declared.BodyReply} → r ≡ refusalOf numberSettings 0
         → Filled (answerOf s stream (lent events text work)) events text events text r
-    unfolding answerOf readerRoom format-reader.read readSized enoughToRead eventCells cellsPerEvent
+    unfolding answerOf readerRoom format-reader.read readSized enoughToRead eventCells
         maxEvents maxStore readerWork numberOf
-    no-meaning f is = filled-refused h settings 2 (rw (lent-is, few, ← meant, f)) refl is
+    no-meaning f is = filled-refused h settings numberSettings (rw (lent-is, few, ← meant, f)) refl is
 
     module _ (fine : not asked ≡ false) where
-      pub too-long : 16384 < length stream → {r : declared.BodyReply} → r ≡ refusalOf 3 0
+      pub too-long : maxStream < length stream → {r : declared.BodyReply} → r ≡ refusalOf numberLong 0
           → Filled (answerOf s stream (lent events text work)) events text events text r
       unfolding answerOf readerRoom format-reader.read readSized enoughToRead eventCells
-          cellsPerEvent maxEvents maxStore readerWork maxStream numberOf
+          maxEvents maxStore readerWork maxStream numberOf
       too-long l is =
-          filled-refused h long 3
-          (rw (lent-is, few, ← meant, fine, lt-leb (length stream) 16384 l)) refl is
+          filled-refused h long numberLong
+          (rw (lent-is, few, ← meant, fine, lt-leb (length stream) maxStream l)) refl is
 
-      module _ (small : length stream ≤ 16384) where
+      module _ (small : length stream ≤ maxStream) where
         pub stream-asks : StreamReady stream events text work
-        unfolding eventCells cellsPerEvent maxEvents maxStore readerWork maxStream
+        unfolding eventCells maxEvents maxStore readerWork maxStream
         stream-asks =
             let (a, b, c) =
-            fits (length events) (length text) (length work) 36864 16384 18432 few in
+            fits (length events) (length text) (length work) eventCells maxStore readerWork few in
             record { size = small; cells = a; room = b; rows = c; cleared = h }
 
         answer-stream : answerOf s stream (lent events text work)
             ≡ readStream sizes (settingsOf (numbersOf s)) stream
         unfolding answerOf readerRoom format-reader.read readSized enoughToRead eventCells
-            cellsPerEvent maxEvents maxStore readerWork maxStream
-        answer-stream = rw (lent-is, few, ← meant, fine, le-leb (length stream) 16384 small)
+            maxEvents maxStore readerWork maxStream
+        answer-stream = rw (lent-is, few, ← meant, fine, le-leb (length stream) maxStream small)
 
         pub stream-answered : {o : Settings} {events′ text′ : List ℕ} {r : declared.BodyReply}
             → o ≡ settingsMeant s

@@ -8,7 +8,8 @@ use lib.ListN.{length, replicate}
 use Rattle.text.specs.Text.{Text, text}
 use Rattle.spec_fields.specs.Refusal.{Refusal, numberOf, room, settings, long, header, ended, code}
 use Rattle.spec_fields.specs.Refusal.{number, character, reference, loose, name, limit, tail, shape}
-use Rattle.spec_fields.specs.Refusal.{place}
+use Rattle.spec_fields.specs.Refusal.{place, numberStructure, numberBadStamp, numberBadMovement}
+use Rattle.spec_fields.specs.Refusal.{numberNotLater}
 
 -- The word of the scope's table.
 unfoldable pub nameOf : Refusal → Text
@@ -37,10 +38,10 @@ refusals =
 -- Numbers and words of the readings' own refusals.
 unfoldable pub ofReadings : List (ℕ × Text)
 ofReadings =
-    (16, text "STRUCTURE")
-    ∷ (17, text "BAD_STAMP")
-    ∷ (18, text "BAD_MOVEMENT")
-    ∷ (19, text "NOT_LATER")
+    (numberStructure, text "STRUCTURE")
+    ∷ (numberBadStamp, text "BAD_STAMP")
+    ∷ (numberBadMovement, text "BAD_MOVEMENT")
+    ∷ (numberNotLater, text "NOT_LATER")
     ∷ []
 
 -- All numbers with their words.

@@ -27,6 +27,19 @@ pub const MAX_STORE: usize = 16384;
 pub const CELLS_PER_EVENT: usize = 9;
 
 pub const EVENT_CELLS: usize = CELLS_PER_EVENT * MAX_EVENTS;
+
+// Of a list of readings: the events before its first child; a child, and in it the attribute with
+// the movement and the end (the one with the stamp is the second event); the events after the last.
+pub const OPENING_CELLS: usize = 2 * CELLS_PER_EVENT;
+
+pub const READING_CELLS: usize = 4 * CELLS_PER_EVENT;
+
+pub const MOVEMENT_EVENT: usize = 2 * CELLS_PER_EVENT;
+
+pub const LAST_EVENT: usize = 3 * CELLS_PER_EVENT;
+
+pub const ENDING_CELLS: usize = 2 * CELLS_PER_EVENT;
+
 // Work memory of the reader, and of the writer.
 pub const READER_WORK: usize = 18432;
 

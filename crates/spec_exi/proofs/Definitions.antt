@@ -10,7 +10,7 @@ use Rattle.text.specs.Text.{text, eqText, isEmpty, isChar, allChars, inside, pa
 use Rattle.text.specs.Names.{isLetter, isXml, hasPair, endsIn}
 use Rattle.text.proofs.Names.{nameDefinitions}
 use Rattle.spec_exi.specs.Sizes.{maxStream, maxEvents, maxOpen, maxUris, maxNames, maxValues}
-use Rattle.spec_exi.specs.Sizes.{maxGrammars, maxLearned, maxString, maxStore, cellsPerEvent}
+use Rattle.spec_exi.specs.Sizes.{maxGrammars, maxLearned, maxString, maxStore}
 use Rattle.spec_exi.specs.Sizes.{readerWork, eventCells, writerWork}
 use Rattle.spec_exi.specs.Settings.{meaningful, settingsOf, headerOf}
 use Rattle.spec_exi.specs.Event.{kindOf, nameOf, stringsOf, mapName, mapEvent, eqName}
@@ -56,9 +56,8 @@ unfolding bitsOf valueOf each unpack octetsFrom octetsFor pack allZero isPadding
     fail present need andThen _>>=_ _>>_ times bit octet littleEndian littleValue numberBits
     numberField widthFrom width choiceBits choice maxOctets maxUnsigned groups unsignedBits grouped
     unsigned text eqText isEmpty isChar allChars inside part nameDefinitions isLetter isXml
-    hasPair endsIn
-    maxStream maxEvents maxOpen maxUris
-    maxNames maxValues maxGrammars maxLearned maxString maxStore cellsPerEvent readerWork eventCells
+    hasPair endsIn maxStream maxEvents maxOpen maxUris
+    maxNames maxValues maxGrammars maxLearned maxString maxStore readerWork eventCells
     writerWork meaningful settingsOf headerOf kindOf nameOf stringsOf mapName mapEvent eqName
     nameText eventText spanOf partition namesOf valuesOf allValues hasText indexOf partitionsOf
     eqForm hitOr firstHit formOf stringBits formBits newUri newName newEntry newValue laid added

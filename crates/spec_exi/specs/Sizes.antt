@@ -43,7 +43,7 @@ unfoldable pub maxStore : ℕ
 maxStore = 16384
 
 -- cells of an event (ours: docs/MEMORY.md; scope, "What is bought")
-unfoldable pub cellsPerEvent : ℕ
+abbrev pub cellsPerEvent : ℕ
 cellsPerEvent = 9
 
 -- cells of work memory (ours: docs/MEMORY.md; scope, "Sizes")

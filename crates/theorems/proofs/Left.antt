@@ -37,11 +37,11 @@ module _ (n : ℕ) where
   past-events : (a : Answer Reading)
       → drop (cellsPerEvent * readReply a .events) (eventsFilled n a)
       ≡ replicate (n - cellsPerEvent * readReply a .events) 0
-  unfolding readReply eventsFilled cellsPerEvent
+  unfolding readReply eventsFilled
   past-events (refused k i) = rw (sub-zero n)
   past-events (accepted x) =
       rw (cells-size (x .events))
-      (drop-at (cellsOfAll (x .events)) _ (9 * length (x .events)) (cells-size (x .events)))
+      (drop-at (cellsOfAll (x .events)) _ (cellsPerEvent * length (x .events)) (cells-size (x .events)))
 
   past-text : (a : Answer Reading)
       → drop (readReply a .codePoints) (textFilled n a)
@@ -137,12 +137,12 @@ module _ {s : SettingNumbers} {stream : List ℕ} (c : ReadCall s stream) where
   module _ (x : Reading) (q : read (readerRoom (c .before)) (numbersOf s) stream ≡ accepted x) where
     -- The counted cells are the events'.
     pub events-left : eventsLeft c ≡ cellsOfAll (x .events)
-    unfolding reader.answerOf replyOf readReply eventsFilled cellsPerEvent
+    unfolding reader.answerOf replyOf readReply eventsFilled
     events-left =
         let count = ap (λ y. y .events) (c .post .reply ∙ ap readReply q) in
         let cells = c .post .events ∙ ap (eventsFilled (length (c .before .events))) q in
-        ap₂ (λ (n : ℕ) (l : List ℕ). take (9 * n) l) count cells
-        ∙ take-at (cellsOfAll (x .events)) _ (9 * length (x .events)) (cells-size (x .events))
+        ap₂ (λ (n : ℕ) (l : List ℕ). take (cellsPerEvent * n) l) count cells
+        ∙ take-at (cellsOfAll (x .events)) _ (cellsPerEvent * length (x .events)) (cells-size (x .events))
 
     -- The counted code points are the store.
     pub text-left : textLeft c ≡ x .store

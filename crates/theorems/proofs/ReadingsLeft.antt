@@ -66,11 +66,11 @@ module _ (n : ℕ) where
   past-events : (a : Answer codec.Reading)
       → drop (cellsPerEvent * listReply a .events) (eventsFilled n a)
       ≡ replicate (n - cellsPerEvent * listReply a .events) 0
-  unfolding listReply eventsFilled cellsPerEvent
+  unfolding listReply eventsFilled
   past-events (refused k i) = rw (sub-zero n)
   past-events (accepted x) =
       rw (cells-size (x .events))
-      (drop-at (cellsOfAll (x .events)) _ (9 * length (x .events)) (cells-size (x .events)))
+      (drop-at (cellsOfAll (x .events)) _ (cellsPerEvent * length (x .events)) (cells-size (x .events)))
 
   past-text : (a : Answer codec.Reading)
       → drop (listReply a .codePoints) (textFilled n a)
@@ -118,10 +118,10 @@ past-list : {A : Type 0} (f : A → codec.Reading) (events text events′ text�
     → events′ ≡ filled (λ y. cellsOfAll (f y .events)) (length events) a
     → text′ ≡ filled (λ y. f y .store) (length text) a
     → (x : A) → a ≡ done x → PastList (f x) events text events′ text′
-unfolding filled cellsPerEvent
+unfolding filled
 past-list f events text events′ text′ a e g x h =
     let cells = cells-size (f x .events) in
-    let n = 9 * length (f x .events) in
+    let n = cellsPerEvent * length (f x .events) in
     let is = e ∙ ap (filled (λ y. cellsOfAll (f y .events)) (length events)) h in
     let text-is = g ∙ ap (filled (λ y. f y .store) (length text)) h in
     record {

@@ -173,12 +173,12 @@ module _ {stamps movements : List ℕ} (c : ToListCall stamps movements) where
     laid-number = ap (λ (y : codec.ReadReply). y .number) (c .post .reply ∙ ap listReply q)
 
     pub laid-events : eventsLaid c ≡ cellsOfAll (x .events)
-    unfolding to.answerOf to.replyOf listReply eventsFilled cellsPerEvent
+    unfolding to.answerOf to.replyOf listReply eventsFilled
     laid-events =
         let count = ap (λ (y : codec.ReadReply). y .events) (c .post .reply ∙ ap listReply q) in
         let cells = c .post .events ∙ ap (eventsFilled (length (c .before .events))) q in
-        ap₂ (λ (n : ℕ) (l : List ℕ). take (9 * n) l) count cells
-        ∙ take-at (cellsOfAll (x .events)) _ (9 * length (x .events)) (cells-size (x .events))
+        ap₂ (λ (n : ℕ) (l : List ℕ). take (cellsPerEvent * n) l) count cells
+        ∙ take-at (cellsOfAll (x .events)) _ (cellsPerEvent * length (x .events)) (cells-size (x .events))
 
     pub laid-text : textLaid c ≡ x .store
     unfolding to.answerOf to.replyOf listReply textFilled

@@ -24,15 +24,16 @@ use Rattle.write_partition.proofs.Strings.{string-length}
 use Rattle.write_values.specs.Values.{own, all, valueBits}
 use Rattle.write_qname.specs.Premise.{partAt}
 use Rattle.write_qname.proofs.Puts.{count-length}
+use Rattle.write_string.specs.Fits.{maxStringBits}
 use Rattle.write_content.specs.declared.Content.{Content}
-use Rattle.write_content.specs.Writing.{stringMost, namedBits, valuedBits, contentBits}
+use Rattle.write_content.specs.Writing.{namedBits, valuedBits, contentBits}
 use Rattle.write_content.specs.Writing.{ValuePuttable, Puttable, PutContentPre}
 use Rattle.write_content.proofs.Puts.{named-length, named-asks}
 
 module _ (c : Core) (x : Content) (text work : List ℕ) (few : c .values ≤ maxValues) (a : Alignment)
   where
     value-length : (v : Part) → ValuePuttable x (partAt text v)
-        → length (valuedBits work c x (partAt text v) a) ≤ stringMost
+        → length (valuedBits work c x (partAt text v) a) ≤ maxStringBits
     unfolding valuedBits valueBits hitBits maxString maxValues
     value-length v p =
         split (eqb (x .partition) own)
@@ -56,7 +57,7 @@ module _ (c : Core) (x : Content) (text work : List ℕ) (few : c .values ≤ ma
 module _ (carried : Bool) {stream : List ℕ} {at : ℕ} {c : Core} {x : Content}
     {text work : List ℕ} (a : Alignment) where
   pub content-length : (e : declared.Event) → PutContentPre stream at e c x text work
-      → length (contentBits text work e carried c x a) ≤ 3 * stringMost
+      → length (contentBits text work e carried c x a) ≤ 3 * maxStringBits
   unfolding contentBits Puttable maxString
   content-length StartDocument h = omega arith
   content-length EndDocument h = omega arith

@@ -20,7 +20,7 @@ use Rattle.mem_state.specs.declared.Core.{Core}
 use Rattle.mem_state.specs.declared.Strings.{Strings}
 use Rattle.write_field.specs.Written.{blankFrom, farthest, Put}
 use Rattle.write_field.proofs.Written.{put-blank, put-then}
-use Rattle.write_string.specs.Fits.{StringFits}
+use Rattle.write_string.specs.Fits.{StringFits, maxStringBits}
 use Rattle.write_partition.specs.Writable.{Written}
 use Rattle.write_partition.proofs.Strings.{string-length}
 use Rattle.write_values.specs.Values.{valueBits, PutValuePre}
@@ -28,7 +28,7 @@ use Rattle.write_qname.specs.Premise.{partAt}
 use Rattle.write_qname.specs.Qnames.{qnameBits}
 use Rattle.write_qname.proofs.Puts.{qname-length}
 use Rattle.write_content.specs.declared.Content.{Content}
-use Rattle.write_content.specs.Writing.{stringMost, namedBits, valuedBits, contentBits}
+use Rattle.write_content.specs.Writing.{namedBits, valuedBits, contentBits}
 use Rattle.write_content.specs.Writing.{NamePuttable, ValuePuttable, Puttable, PutNamedPre}
 use Rattle.write_content.specs.Writing.{PutValuedPre, PutTextPre, PutContentPre}
 
@@ -50,7 +50,7 @@ module _ {stream : List ℕ} {at : ℕ} {uri local : Part} {c : Core} {s : Strin
 
   pub named-length : (a : Alignment) (carried : Bool)
       → length (namedBits work carried c s (partAt text uri) (partAt text local) a)
-      ≤ 2 * stringMost
+      ≤ 2 * maxStringBits
   unfolding namedBits
   named-length a true = omega arith
   named-length a false = qname-length (h .known) a
@@ -128,7 +128,7 @@ module _ {stream : List ℕ} {at : ℕ} {e : declared.Event} {c : Core} {x : Con
       }
 
   pub valued-asks : {mid : List ℕ} {next : ℕ} → T (blankFrom mid next)
-      → next + stringMost ≤ farthest → {v : Part} → ValuePuttable x (partAt text v)
+      → next + maxStringBits ≤ farthest → {v : Part} → ValuePuttable x (partAt text v)
       → PutValuedPre mid next v c x text work
   valued-asks b n p =
       record {

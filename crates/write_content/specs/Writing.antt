@@ -8,7 +8,7 @@ use lib.Dec.{T}
 use Rattle.spec_fields.specs.Bits.{Bits}
 use Rattle.spec_fields.specs.Field.{Alignment}
 use Rattle.text.specs.Text.{Text}
-use Rattle.spec_exi.specs.Sizes.{maxString, maxUris, maxValues}
+use Rattle.spec_exi.specs.Sizes.{maxUris, maxValues}
 use Rattle.spec_exi.specs.Tables.{stringBits}
 use Rattle.event.specs.declared.Part.{Part}
 use Rattle.event.specs.declared.Event as declared
@@ -23,11 +23,8 @@ use Rattle.write_partition.specs.Writable.{Written}
 use Rattle.write_values.specs.Values.{own, all, valueBits}
 use Rattle.write_qname.specs.Premise.{partAt}
 use Rattle.write_qname.specs.Qnames.{qnameBits, PutNamePre}
+use Rattle.write_string.specs.Fits.{maxStringBits}
 use Rattle.write_content.specs.declared.Content.{Content}
-
--- Of a string at most, its number counted.
-abbrev pub stringMost : ℕ
-stringMost = 40 * (maxString + 2)
 
 -- ---- the bits
 
@@ -84,7 +81,7 @@ pub record PutNamedPre (stream : List ℕ) (at : ℕ) (uri local : Part) (c : Co
 pub record PutValuedPre (stream : List ℕ) (at : ℕ) (value : Part) (c : Core) (x : Content)
     (text work : List ℕ) : Type 0 where
   pub blank : T (blankFrom stream at)
-  pub near : at + stringMost ≤ farthest
+  pub near : at + maxStringBits ≤ farthest
   pub room : workCells ≤ length work
   pub low : x .strings .owner < nameRows
   pub few : c .values ≤ maxValues
@@ -92,13 +89,13 @@ pub record PutValuedPre (stream : List ℕ) (at : ℕ) (value : Part) (c : Core)
 
 pub record PutTextPre (stream : List ℕ) (at : ℕ) (value : Part) (text : List ℕ) : Type 0 where
   pub blank : T (blankFrom stream at)
-  pub near : at + stringMost ≤ farthest
+  pub near : at + maxStringBits ≤ farthest
   pub written : Written (partAt text value)
 
 pub record PutContentPre (stream : List ℕ) (at : ℕ) (e : declared.Event) (c : Core) (x : Content)
     (text work : List ℕ) : Type 0 where
   pub blank : T (blankFrom stream at)
-  pub near : at + 3 * stringMost ≤ farthest
+  pub near : at + 3 * maxStringBits ≤ farthest
   pub room : workCells ≤ length work
   pub few : c .uris ≤ maxUris
   pub few-values : c .values ≤ maxValues

@@ -20,7 +20,7 @@ use Rattle.mem_rows.specs.Rows.{Rows, carries, contextOf}
 use Rattle.mem_rows.specs.Valid.{Valid}
 use Rattle.mem_state.specs.declared.Core.{Core}
 use Rattle.grammar_codes.specs.declared.Place.{Place}
-use Rattle.grammar_codes.specs.Table.{tableOf, valuesAt, codeAt, afterLearned, PlaceAt}
+use Rattle.grammar_codes.specs.Table.{tableOf, valuesAt, codeAt, afterLearned, PlaceAt, maxLevels}
 use Rattle.grammar_codes.proofs.Places.{has-place}
 use Rattle.grammar_match.specs.Here.{CountedHere, CodeRows, learnedHere}
 use Rattle.grammar_match.proofs.Codes.{count-is, table-bits, learned-bits}
@@ -28,6 +28,7 @@ use Rattle.write_content.specs.declared.Content.{Content}
 use Rattle.write_content.specs.Writing.{contentBits}
 use Rattle.write_production.specs.declared.Code.{Code}
 use Rattle.write_production.specs.Codes.{placedBits, codeBitsAs}
+use Rattle.event_code.specs.Numbers.{inTag}
 
 -- ---- the code
 
@@ -36,7 +37,7 @@ module _ {work : List ℕ} {learned mode top : ℕ} {w : Rows} {opened : List �
     (counted : CountedHere work mode top (code .count)) where
   -- Of the table's production.
   pub fixed-code-bits : {kind : ℕ} {p : Place}
-      → PlaceAt (s .comments) (s .instructions) mode kind p → p .level < 3
+      → PlaceAt (s .comments) (s .instructions) mode kind p → p .level < maxLevels
       → code .learned ≡ false
       → codeBitsAs s mode p code
       ≡ codeBits (s .alignment) (levelsIn s (contextOf w (replicate stored 0) mode opened))
@@ -49,7 +50,7 @@ module _ {work : List ℕ} {learned mode top : ℕ} {w : Rows} {opened : List �
       (has-place at low .level)))
 
   -- Of a learned one.
-  pub learned-code-bits : (p : Place) → code .learned ≡ true → 4 ≤ mode → code .part < code .count
+  pub learned-code-bits : (p : Place) → code .learned ≡ true → inTag ≤ mode → code .part < code .count
       → codeBitsAs s mode p code
       ≡ codeBits (s .alignment) (levelsIn s (contextOf w (replicate stored 0) mode opened))
       (code .part ∷ [])

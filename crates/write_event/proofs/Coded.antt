@@ -17,7 +17,7 @@ use Rattle.spec_exi.specs.Grammar.{State, Production, Code, kindNumber, isWildc
 use Rattle.spec_exi.specs.Grammar.{firstFit}
 use Rattle.spec_exi.specs.Context.{nameItems, items}
 use Rattle.grammar_codes.specs.declared.Place.{Place}
-use Rattle.grammar_codes.specs.Table.{FixedCode, afterLearned, PlaceAt}
+use Rattle.grammar_codes.specs.Table.{FixedCode, afterLearned, PlaceAt, maxLevels}
 use Rattle.grammar_codes.proofs.Places.{has-place}
 use Rattle.grammar_codes.proofs.Teaches.{reached-unnamed}
 use Rattle.grammar_match.specs.Here.{siteIn, CodeRows, learnedHere, codeHere}
@@ -31,6 +31,7 @@ use Rattle.mem_rows.proofs.Learned.{learned-at}
 use Rattle.write_partition.specs.Writable.{tablesIn}
 use Rattle.write_qname.specs.Qnames.{nameAs, NameHits}
 use Rattle.write_content.specs.Contents.{itemsAs, NamedHits}
+use Rattle.event_code.specs.Numbers.{inTag}
 use Rattle.write_event.proofs.Names.{row-hits, RowFits, fit-row, row-kind, row-plain, row-name}
 
 -- ---- strings, by whether the name is written
@@ -76,10 +77,10 @@ module _ {work : List ℕ} {learned mode top : ℕ} {w : Rows} {opened : List �
   fitting-row : (e : Event Text) {y : ℕ × Production}
       → firstFit (learnedHere w mode opened) e ≡ some y → RowFits w e (y .1)
   fitting-row e {y} f =
-      split (ltb mode 4)
-      (λ t. absurd (Option·none-ne-some _ (sym (outer-none valid rows e (ltb-true mode 4 t)) ∙ f)))
+      split (ltb mode inTag)
+      (λ t. absurd (Option·none-ne-some _ (sym (outer-none valid rows e (ltb-true mode inTag t)) ∙ f)))
       (λ t.
-      let l = ltb-false mode 4 t in
+      let l = ltb-false mode inTag t in
       fit-row w e (siteIn mode top)
       (all-backward (all-at noLearnt (w .learned) (valid .refers .learned)))
       (sym (ap (λ ps. firstFit ps e) (inner-here rows l
@@ -88,7 +89,7 @@ module _ {work : List ℕ} {learned mode top : ℕ} {w : Rows} {opened : List �
 
   -- Where the event's code carries a name, both its strings are in their tables.
   module _ (s : Settings) (stored : ℕ) {kind : ℕ} {p : Place}
-      (at : PlaceAt (s .comments) (s .instructions) mode kind p) (low : p .level < 3)
+      (at : PlaceAt (s .comments) (s .instructions) mode kind p) (low : p .level < maxLevels)
       (e : Event Text) (k : kindNumber (kindOf e) ≡ kind) where
     pub code-hits : {x : Code} → codeHere s w (replicate stored 0) mode opened e ≡ some x
         → isWildcard (x .production .qname) ≡ false → NamedHits (tablesIn w stored) e

@@ -25,7 +25,7 @@ use Rattle.event.specs.Cells.{meaning}
 use Rattle.mem_rows.specs.Rows.{Rows, nameAt, carries, stateOf, contextOf}
 use Rattle.mem_state.specs.declared.Core.{Core}
 use Rattle.grammar_codes.specs.declared.Place.{Place}
-use Rattle.grammar_codes.specs.Table.{PlaceAt}
+use Rattle.grammar_codes.specs.Table.{PlaceAt, maxLevels}
 use Rattle.grammar_match.specs.Here.{CodeRows, codeHere}
 use Rattle.grammar_match.proofs.Codes.{no-code, code-there}
 use Rattle.write_partition.specs.Writable.{tablesIn}
@@ -60,13 +60,13 @@ module _ {opening text work : List ℕ} {c : Core} {w : Rows} {opened : List ℕ
   kind-same = ap kindNumber (same-kind (part text) (meaning e)) ∙ sym k
 
   module _ {p : Place} (at : PlaceAt (s .comments) (s .instructions) (c .mode) kind p) where
-    pub shape-fault : p .level ≡ 3
+    pub shape-fault : p .level ≡ maxLevels
         → numberOf shape ≡ faultNumber (faultOf sizes s (contextIn c w opened) text (meaning e))
     shape-fault z =
         fault-shape s (contextIn c w opened) text (meaning e)
         (no-code (prepared .valid) rows s (replicate (c .stored) 0) at x kind-same z)
 
-    module _ (low : p .level < 3) where
+    module _ (low : p .level < maxLevels) where
       some-code : (z : grammar.Code)
           × (codeHere s w (replicate (c .stored) 0) (c .mode) opened x ≡ some z)
       some-code = code-there (prepared .valid) rows s (replicate (c .stored) 0) at x kind-same low

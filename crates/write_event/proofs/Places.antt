@@ -8,7 +8,7 @@ use lib.ListN.{length, getD}
 use Rattle.spec_exi.specs.Event.{Kind, SD}
 use Rattle.spec_exi.specs.Grammar.{unnamed, kindNumber, atLevel, below}
 use Rattle.grammar_codes.specs.declared.Place.{Place}
-use Rattle.grammar_codes.specs.Table.{tableOf, levelAt, codeAt, Stands, PlaceAt}
+use Rattle.grammar_codes.specs.Table.{tableOf, levelAt, codeAt, Stands, PlaceAt, maxLevels}
 use Rattle.grammar_codes.proofs.Table.{kind-stands}
 use Rattle.grammar_codes.proofs.Places.{has-place}
 
@@ -19,7 +19,7 @@ code-kind [] level v h = absurd (omega arith)
 code-kind (l ∷ ls) zero v h = refl
 code-kind (l ∷ ls) (suc level) v h = code-kind ls level v (omega arith)
 
-module _ {c i : Bool} {mode kind : ℕ} {p : Place} (at : PlaceAt c i mode kind p) (l : p .level < 3)
+module _ {c i : Bool} {mode kind : ℕ} {p : Place} (at : PlaceAt c i mode kind p) (l : p .level < maxLevels)
   where
     pub place-stands : Stands mode kind
     unfolding levelAt

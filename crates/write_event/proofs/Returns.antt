@@ -6,7 +6,7 @@ use mathlib.Core.Bool.{Bool, true, false, cond, not}
 use mathlib.Core.List.{List, _++_, map}
 use lib.ListN.{replicate}
 use borrow.Author.Tests.{not-true, not-false}
-use Rattle.spec_fields.specs.Refusal.{numberOf, place, limit, shape}
+use Rattle.spec_fields.specs.Refusal.{numberOf, place, limit, shape, numberLimit, numberShape, numberPlace}
 use Rattle.spec_fields.proofs.Tests.{split}
 use Rattle.text.specs.Text.{Text, inside, part}
 use Rattle.spec_exi.specs.Sizes.{sizes}
@@ -27,7 +27,7 @@ use Rattle.mem_state.specs.declared.Growth.{Growth}
 use Rattle.mem_state.specs.Holds.{Ahead, Topped}
 use Rattle.mem_state.proofs.Strung.{strings-ahead}
 use Rattle.grammar_codes.specs.declared.Place.{Place}
-use Rattle.grammar_codes.specs.Table.{PlaceAt}
+use Rattle.grammar_codes.specs.Table.{PlaceAt, maxLevels}
 use Rattle.grammar_match.specs.Here.{CodeRows}
 use Rattle.grammar_match.proofs.Here.{site-low}
 use Rattle.grammar_update.specs.Growth.{growthOf, allowedIn, fitsIn}
@@ -90,19 +90,19 @@ module _ (opening text : List ℕ) {work : List ℕ} {c : Core} (s : Settings) (
 
   module _ {kind : ℕ} (k : kind ≡ kindNumber (kindOf (meaning e))) {p : Place}
       (at : PlaceAt (s .comments) (s .instructions) (c .mode) kind p) where
-    pub shape-stops : p .level ≡ 3 → JudgePost s opening text e work c (refusedAs 14 c)
+    pub shape-stops : p .level ≡ maxLevels → JudgePost s opening text e work c (refusedAs numberShape c)
     unfolding numberOf
     shape-stops z =
         refused-post 14 (omega arith) (λ w opened stands top.
         shape-fault (prepared stands) (code-rows (stands .represents) (pre .bounded) top) s e k at
         z)
 
-    module _ (ne : p .level ≡ 3 → ⊥) where
-      low : p .level < 3
+    module _ (ne : p .level ≡ maxLevels → ⊥) where
+      low : p .level < maxLevels
       low = omega (arith, at .few, ne)
 
       module _ {fit : Bool} (f : fit ≡ every (inside text) (stringsOf (meaning e))) where
-        pub place-stops : not fit ≡ true → JudgePost s opening text e work c (refusedAs 15 c)
+        pub place-stops : not fit ≡ true → JudgePost s opening text e work c (refusedAs numberPlace c)
         unfolding numberOf
         place-stops n =
             refused-post 15 (omega arith) (λ w opened stands top.
@@ -261,13 +261,13 @@ module _ (opening text : List ℕ) {work : List ℕ} {c : Core} (s : Settings) (
                     }
 
                 limited : may ≡ true → fitsIn c g ≡ false
-                    → JudgePost s opening text e work c (refusedAs 12 c)
+                    → JudgePost s opening text e work c (refusedAs numberLimit c)
                 unfolding numberOf
                 limited m f =
                     refused-post 12 (omega arith)
                     (λ w opened stands top. grammar-fault stands top true false m f)
 
-                repeated : may ≡ false → JudgePost s opening text e work c (refusedAs 14 c)
+                repeated : may ≡ false → JudgePost s opening text e work c (refusedAs numberShape c)
                 unfolding numberOf
                 repeated m =
                     refused-post 14 (omega arith)

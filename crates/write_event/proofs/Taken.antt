@@ -17,7 +17,7 @@ use Rattle.mem_rows.specs.Valid.{learntAt, Valid}
 use Rattle.mem_state.specs.declared.Core.{Core}
 use Rattle.mem_state.specs.Holds.{Ahead}
 use Rattle.grammar_codes.specs.declared.Place.{Place}
-use Rattle.grammar_codes.specs.Table.{tableOf, codeAt, afterLearned, PlaceAt}
+use Rattle.grammar_codes.specs.Table.{tableOf, codeAt, afterLearned, PlaceAt, maxLevels}
 use Rattle.grammar_codes.proofs.Places.{has-place}
 use Rattle.grammar_match.specs.Here.{CodeRows, learnedHere, codeHere}
 use Rattle.grammar_match.specs.Found.{NamedBy, Finds}
@@ -53,7 +53,7 @@ row-named w l k e t = rw (e, t)
 module _ {work : List ℕ} {c : Core} {w v : Rows} {opened : List ℕ} (valid : Valid w)
     (rows : CodeRows work (c .learned) (c .mode) (c .top) w opened) (ahead-valid : Valid v)
     (ahead : Ahead w v) (s : Settings) {kind name : ℕ} {p : Place}
-    (at : PlaceAt (s .comments) (s .instructions) (c .mode) kind p) (low : p .level < 3)
+    (at : PlaceAt (s .comments) (s .instructions) (c .mode) kind p) (low : p .level < maxLevels)
     {code : Code} (h : CodeHere work c kind name code) (e : Event Text)
     (k : kindNumber (kindOf e) ≡ kind) (n : NamedBy v e name) where
   finds : Finds w (c .mode) (c .top) name opened e (h .row)

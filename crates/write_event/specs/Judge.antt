@@ -42,6 +42,8 @@ use Rattle.write_content.specs.Contents.{stoppedAs, ContentBounds}
 use Rattle.write_content.specs.Writing.{contentBits, Puttable}
 use Rattle.write_production.specs.declared.Code.{Code}
 use Rattle.write_production.specs.Codes.{InTable, codeBitsAs}
+use Rattle.mem_index.specs.Index.{numbers}
+use Rattle.grammar_codes.specs.Table.{maxLevels}
 use Rattle.write_event.specs.declared.EventJudged.{EventJudged}
 use Rattle.write_event.specs.Step as step
 
@@ -69,7 +71,7 @@ abbrev pub refusedAs : ℕ → Core → EventJudged
 refusedAs number c =
     record {
       number = number;
-      place = record { level = 3; value = 0 };
+      place = record { level = maxLevels; value = 0 };
       code = record { learned = false; count = 0; part = 0 };
       content = stoppedAs number (c .stored);
       growth = noGrowth;
@@ -113,7 +115,7 @@ JudgedRows c r = step.RowBounds c (r .content .strings) (r .growth) (r .content 
 pub record BitBounds (s : Settings) (text : List ℕ) (e : declared.Event) (c : Core)
     (r : EventJudged) : Type 0 where
   pub place : InTable s (c .mode) (r .place)
-  pub count : r .code .count ≤ 4096
+  pub count : r .code .count ≤ numbers
   pub strings : ContentBounds c (r .content .strings)
   pub puttable : Puttable e c (r .content) text
 

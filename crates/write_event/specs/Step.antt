@@ -8,7 +8,7 @@ use lib.Dec.{T}
 use Rattle.spec_fields.specs.Bits.{Bits}
 use Rattle.text.specs.Text.{Text, Span, part}
 use Rattle.spec_exi.specs.Settings.{Settings}
-use Rattle.spec_exi.specs.Sizes.{sizes, maxEvents, maxString, maxStore}
+use Rattle.spec_exi.specs.Sizes.{sizes, maxEvents, maxStore}
 use Rattle.spec_exi.specs.Event.{Event, mapEvent}
 use Rattle.spec_exi.specs.Context.{next}
 use Rattle.spec_exi.specs.Strict.{eventBits}
@@ -32,12 +32,9 @@ use Rattle.write_partition.specs.Writable.{Writable}
 use Rattle.write_partition.specs.Judged.{faultNumber}
 use Rattle.write_qname.specs.Premise.{listStores, contextIn, Begun}
 use Rattle.write_content.specs.Contents.{ContentBounds}
+use Rattle.write_string.specs.Fits.{maxStringBits}
 
 -- ---- how many bits there can be
-
--- Of a string: its number, its length and each code point.
-abbrev pub maxStringBits : ℕ
-maxStringBits = 40 * (maxString + 2)
 
 -- Of an event: its code, and three strings.
 abbrev pub maxEventBits : ℕ

@@ -9,7 +9,7 @@ use lib.ListN.{length, replicate, length-append}
 use lib.Dec.{eqb, ltb}
 use borrow.Author.Tests.{eqb-true, eqb-false, eq-eqb, ltb-true, lt-ltb, le-ltb, not-true, not-false}
 use Rattle.spec_fields.specs.Field.{Alignment}
-use Rattle.spec_fields.specs.Refusal.{numberOf, name, limit}
+use Rattle.spec_fields.specs.Refusal.{numberOf, name, limit, numberName, numberLimit}
 use Rattle.spec_fields.proofs.Tests.{split}
 use Rattle.text.specs.Text.{Text}
 use Rattle.spec_exi.specs.Sizes.{sizes, maxString, maxStore, maxNames}
@@ -81,7 +81,7 @@ module _ (attr : Bool) (u x : Text) (names stored h : ℕ) {fault : ℕ}
         ∙ ap (λ l. faultNumber (firstFailed ((nameAllowed (local attr u) x, name) ∷ (l, limit) ∷ []))) (sym q)
         ∙ sym (number-then (literalTests x stored) (others attr u x names) f z)
 
-    pub name-forbidden : not b ≡ true → {r : StringJudged} → r ≡ refusedAs 11 stored → Post r
+    pub name-forbidden : not b ≡ true → {r : StringJudged} → r ≡ refusedAs numberName stored → Post r
     unfolding faultNumber firstFailed numberOf
     name-forbidden n e =
         subst Post (sym e)
@@ -92,7 +92,7 @@ module _ (attr : Bool) (u x : Text) (names stored h : ℕ) {fault : ℕ}
         })
 
     module _ (n : not b ≡ false) where
-      pub name-full : maxNames ≤ names → {r : StringJudged} → r ≡ refusedAs 12 stored → Post r
+      pub name-full : maxNames ≤ names → {r : StringJudged} → r ≡ refusedAs numberLimit stored → Post r
       unfolding faultNumber firstFailed numberOf
       name-full l e =
           subst Post (sym e)
@@ -198,7 +198,7 @@ module _ (attr : Bool) (w : Rows) (u : ℕ) (x : Text) (names stored : ℕ) (val
           hit = λ _ _. record { id = id; form = found-form };
         }
 
-    reserved-means : attr && isReserved (uriText (w .uris) u) x ≡ true → Means false (refusedAs 11 stored)
+    reserved-means : attr && isReserved (uriText (w .uris) u) x ≡ true → Means false (refusedAs numberName stored)
     unfolding textAllowed
     reserved-means taken =
         record {
@@ -298,7 +298,7 @@ module _ (opening text : List ℕ) (attr : Bool) (u x : Text) {names uri stored 
   Told w place r y =
       NameMeans attr w (nameAdded (r .joins) uri w (record { place = place; text = x })) uri stored y x work r
 
-  pub name-long : maxString < length x → {r : StringJudged} → r ≡ refusedAs 12 stored → Left r
+  pub name-long : maxString < length x → {r : StringJudged} → r ≡ refusedAs numberLimit stored → Left r
   name-long h e =
       subst Left (sym e)
       (record {
@@ -345,14 +345,14 @@ module _ (opening text : List ℕ) (attr : Bool) (u x : Text) {names uri stored 
         }
 
     module _ (ne : row ≡ 0 → ⊥) {b : Bool} (known : b ≡ isReserved u x) where
-      pub name-reserved : attr && b ≡ true → {r : StringJudged} → r ≡ refusedAs 11 stored → Left r
+      pub name-reserved : attr && b ≡ true → {r : StringJudged} → r ≡ refusedAs numberName stored → Left r
       name-reserved taken e =
           subst Left (sym e)
           (record {
             refused = λ _. refl;
             bounds = λ z. absurd (omega (arith, z));
             meant = λ w v l few hold inside is place.
-                subst (λ y. attr && isReserved y x ≡ true → Told w place (refusedAs 11 stored) y) is
+                subst (λ y. attr && isReserved y x ≡ true → Told w place (refusedAs numberName stored) y) is
                 (λ t. reserved-means attr w uri x names stored v l few (hold .count) inside (p .store) work place
                 (nameSource opening text) hold (row - 1) (omega (arith, found-is (w .names) hold)) t)
                 (ap (λ c. attr && c) (sym known) ∙ taken);

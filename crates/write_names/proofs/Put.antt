@@ -17,13 +17,14 @@ use Rattle.write_field.proofs.Lengths.{choice-length}
 use Rattle.write_field.proofs.Written.{put-blank, put-then}
 use Rattle.write_string.specs.Fits.{StringFits}
 use Rattle.write_partition.specs.Bits.{hitBits}
+use Rattle.mem_layout.specs.Layout.{uriRows}
 use Rattle.write_names.specs.Uris.{uriBits, PutUriPre}
 use Rattle.write_names.specs.Names.{nameBits, PutNamePre}
 
 -- ---- a URI
 
 module _ {stream : List ℕ} {at uris row : ℕ} {joins : Bool} {x : Text} (p : PutUriPre stream at uris row joins x) where
-  pub uris-low : uris ≤ 16
+  pub uris-low : uris ≤ uriRows
   unfolding maxUris
   uris-low = p .few
 

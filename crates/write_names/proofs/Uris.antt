@@ -9,7 +9,7 @@ use lib.ListN.{length, replicate, length-append, length-map}
 use lib.Dec.{eqb, ltb}
 use borrow.Author.Tests.{eqb-true, eqb-false, ltb-true, lt-ltb, le-ltb}
 use Rattle.spec_fields.specs.Field.{Alignment}
-use Rattle.spec_fields.specs.Refusal.{numberOf, name, limit}
+use Rattle.spec_fields.specs.Refusal.{numberOf, name, limit, numberLimit}
 use Rattle.spec_fields.proofs.Tests.{split}
 use Rattle.text.specs.Text.{Text}
 use Rattle.spec_exi.specs.Sizes.{sizes, maxString, maxStore, maxUris}
@@ -65,7 +65,7 @@ module _ (x : Text) (uris stored : ℕ) {fault : ℕ}
         ap (λ b. faultNumber (firstFailed ((b, limit) ∷ []))) (sym e)
         ∙ sym (number-then (literalTests x stored) (left uris) f z)
 
-    pub uri-full : maxUris ≤ uris → {r : StringJudged} → r ≡ refusedAs 12 stored
+    pub uri-full : maxUris ≤ uris → {r : StringJudged} → r ≡ refusedAs numberLimit stored
         → NewUriPost x uris stored r
     unfolding faultNumber firstFailed numberOf
     uri-full h e =
@@ -198,7 +198,7 @@ pub new-asks : {work : List ℕ} {x : Text} {uris stored : ℕ} → UriPre work 
 new-asks p short = record { store = p .store; short = short }
 
 pub uri-long : {opening text : List ℕ} {x : Text} {uris stored : ℕ} {work : List ℕ} → maxString < length x
-    → {r : StringJudged} → r ≡ refusedAs 12 stored → UriPost opening text x uris stored work r
+    → {r : StringJudged} → r ≡ refusedAs numberLimit stored → UriPost opening text x uris stored work r
 uri-long {opening} {text} {x} {uris} {stored} {work} h e =
     subst (UriPost opening text x uris stored work) (sym e)
     (record {

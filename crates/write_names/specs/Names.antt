@@ -27,6 +27,7 @@ use Rattle.write_partition.specs.Writable.{Written, Writable, Few, tablesIn, na
 use Rattle.write_partition.specs.Judged.{faultNumber, literalTests, refusedAs, literalAs}
 use Rattle.write_partition.specs.Judged.{StringMeans, IsHit}
 use Rattle.write_partition.specs.Bits.{hitBits}
+use Rattle.write_string.specs.Fits.{maxStringBits}
 
 -- ---- a literal
 
@@ -92,7 +93,7 @@ pub record NamePost (opening text : List ℕ) (attr : Bool) (uri : ℕ) (u x : T
 pub record PutNamePre (stream : List ℕ) (at uri row : ℕ) (joins : Bool) (x : Text) (work : List ℕ)
     : Type 0 where
   pub blank : T (blankFrom stream at)
-  pub near : at + 40 * (maxString + 2) ≤ farthest
+  pub near : at + maxStringBits ≤ farthest
   pub room : workCells ≤ length work
   pub low : uri < uriRows
   pub row-low : row < nameRows

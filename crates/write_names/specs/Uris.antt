@@ -22,6 +22,7 @@ use Rattle.write_partition.specs.declared.StringJudged.{StringJudged}
 use Rattle.write_partition.specs.Writable.{Written, Writable, Few, tablesIn, uriSource}
 use Rattle.write_partition.specs.Judged.{faultNumber, literalTests, refusedAs, literalAs}
 use Rattle.write_partition.specs.Judged.{StringMeans, IsHit}
+use Rattle.write_string.specs.Fits.{maxStringBits}
 
 -- ---- a literal
 
@@ -78,7 +79,7 @@ pub record UriPost (opening text : List ℕ) (x : Text) (uris stored : ℕ) (wor
 
 pub record PutUriPre (stream : List ℕ) (at uris row : ℕ) (joins : Bool) (x : Text) : Type 0 where
   pub blank : T (blankFrom stream at)
-  pub near : at + 40 * (maxString + 2) ≤ farthest
+  pub near : at + maxStringBits ≤ farthest
   pub few : uris ≤ maxUris
   pub old : joins ≡ false → row < uris
   pub new : joins ≡ true → Written x

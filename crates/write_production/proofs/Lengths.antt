@@ -11,6 +11,7 @@ use Rattle.grammar_codes.specs.declared.Place.{Place}
 use Rattle.grammar_codes.specs.Table.{tableOf, levelAt, valuesAt, fixedBits}
 use Rattle.grammar_codes.proofs.Bits.{bits-here, bits-on, level-there}
 use Rattle.write_field.proofs.Lengths.{choice-length}
+use Rattle.mem_index.specs.Index.{numbers}
 use Rattle.write_production.specs.declared.Code.{Code}
 use Rattle.write_production.specs.Codes.{placedBits, codeBitsAs, InTable}
 use Rattle.write_production.proofs.Codes.{few-values}
@@ -19,14 +20,14 @@ module _ (s : Settings) (mode : ℕ) (p : Place) (t : InTable s mode p) where
   there : p .level < length (tableOf (s .comments) (s .instructions) mode)
   there = level-there (s .comments) (s .instructions) mode (p .level) (t .value)
 
-  part-length : (j n v : ℕ) → n ≤ 4096
+  part-length : (j n v : ℕ) → n ≤ numbers
       → length (choiceBits (s .alignment) (n + valuesAt (s .comments) (s .instructions) mode j) v) ≤ 16
   part-length j n v h =
       choice-length (s .alignment) (n + valuesAt (s .comments) (s .instructions) mode j) v
       (omega (arith, few-values (s .comments) (s .instructions) mode j))
 
   -- From level j on, so many levels further.
-  parts-length : (j k n : ℕ) → n ≤ 4096 → p .level ≡ j + k → k ≤ 2
+  parts-length : (j k n : ℕ) → n ≤ numbers → p .level ≡ j + k → k ≤ 2
       → length (fixedBits (s .alignment) (drop j (tableOf (s .comments) (s .instructions) mode)) n k
       (p .value)) ≤ 16 + k * 16
   parts-length j zero n h e l =
@@ -46,7 +47,7 @@ module _ (s : Settings) (mode : ℕ) (p : Place) (t : InTable s mode p) where
         parts-length (suc j) k 0 (omega arith) (omega arith) (omega arith),
       ))
 
-  pub code-length : (code : Code) → code .count ≤ 4096 → length (codeBitsAs s mode p code) ≤ 48
+  pub code-length : (code : Code) → code .count ≤ numbers → length (codeBitsAs s mode p code) ≤ 48
   unfolding codeBitsAs placedBits
   code-length code h =
       split (code .learned)

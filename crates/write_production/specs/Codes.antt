@@ -11,8 +11,9 @@ use Rattle.spec_exi.specs.Settings.{Settings}
 use Rattle.event_code.specs.Numbers.{inElement}
 use Rattle.mem_chain.specs.Chain.{below}
 use Rattle.grammar_codes.specs.declared.Place.{Place}
-use Rattle.grammar_codes.specs.Table.{tableOf, levelAt, valuesAt, fixedBits}
+use Rattle.grammar_codes.specs.Table.{tableOf, levelAt, valuesAt, fixedBits, maxLevels}
 use Rattle.write_field.specs.Written.{blankFrom, farthest}
+use Rattle.mem_index.specs.Index.{numbers}
 use Rattle.write_production.specs.declared.Code.{Code}
 
 -- ---- the bits
@@ -46,14 +47,14 @@ firstBits a mode count v = choiceBits a (count + ownValues mode) v
 
 -- The place is one of the table's.
 pub record InTable (s : Settings) (mode : ℕ) (p : Place) : Type 0 where
-  pub level : p .level < 3
+  pub level : p .level < maxLevels
   pub value : p .value < length (levelAt (s .comments) (s .instructions) mode (p .level))
 
 pub record FixedPre (s : Settings) (stream : List ℕ) (at mode : ℕ) (p : Place) (count : ℕ)
     : Type 0 where
   pub blank : T (blankFrom stream at)
   pub near : at + 48 ≤ farthest
-  pub few : count ≤ 4096
+  pub few : count ≤ numbers
   pub place : InTable s mode p
 
 pub record LowerPre (s : Settings) (stream : List ℕ) (at mode : ℕ) (p : Place) : Type 0 where
@@ -66,7 +67,7 @@ pub record CodePre (s : Settings) (stream : List ℕ) (at mode : ℕ) (p : Place
     : Type 0 where
   pub blank : T (blankFrom stream at)
   pub near : at + 48 ≤ farthest
-  pub few : code .count ≤ 4096
+  pub few : code .count ≤ numbers
   pub place : InTable s mode p
 
 pub record FirstPre (stream : List ℕ) (at count v : ℕ) : Type 0 where

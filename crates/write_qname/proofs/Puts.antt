@@ -27,13 +27,14 @@ use Rattle.write_partition.proofs.Strings.{string-length}
 use Rattle.write_names.specs.Uris.{uriBits, PutUriPre}
 use Rattle.write_names.specs.Names.{nameBits}
 use Rattle.write_names.specs.Names as names
+use Rattle.write_string.specs.Fits.{maxStringBits}
 use Rattle.write_qname.specs.Premise.{partAt}
 use Rattle.write_qname.specs.Qnames.{qnameBits, PutNamePre}
 
 -- ---- how long a string may get
 
 uri-length : (a : Alignment) (uris row : ℕ) (joins : Bool) (x : Text) → uris ≤ maxUris
-    → (joins ≡ true → Written x) → length (uriBits uris row joins x a) ≤ 40 * (maxString + 2)
+    → (joins ≡ true → Written x) → length (uriBits uris row joins x a) ≤ maxStringBits
 unfolding uriBits maxUris maxString
 uri-length a uris row true x few new =
     omega (
@@ -62,7 +63,7 @@ count-length a work counts key k id =
 
 name-length : (a : Alignment) (work : List ℕ) (uri row : ℕ) (joins : Bool) (x : Text)
     → (joins ≡ true → Written x)
-    → length (nameBits work uri row joins x a) ≤ 40 * (maxString + 2)
+    → length (nameBits work uri row joins x a) ≤ maxStringBits
 unfolding nameBits maxString
 name-length a work uri row true x new = omega (arith, string-length 1 x, new refl .short)
 name-length a work uri row false x new =
@@ -72,7 +73,7 @@ module _ {stream : List ℕ} {at : ℕ} {uri local : Part} {c : Core} {s : Strin
     (h : PutNamePre stream at uri local c s text work) where
   pub qname-length : (a : Alignment)
       → length (qnameBits work c s (partAt text uri) (partAt text local) a)
-      ≤ 2 * (40 * (maxString + 2))
+      ≤ 2 * maxStringBits
   unfolding qnameBits
   qname-length a =
       omega (

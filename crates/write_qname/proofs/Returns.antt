@@ -12,7 +12,7 @@ use Rattle.spec_exi.specs.Sizes.{sizes, maxUris, maxNames}
 use Rattle.spec_exi.specs.Event.{QName}
 use Rattle.spec_exi.specs.Tables.{Tables}
 use Rattle.spec_exi.specs.Writer.{firstFailed, contentTests}
-use Rattle.mem_layout.specs.Layout.{uriRows}
+use Rattle.mem_layout.specs.Layout.{uriRows, nameRows}
 use Rattle.mem_rows.specs.Rows.{Rows}
 use Rattle.mem_state.specs.declared.Core.{Core}
 use Rattle.write_partition.specs.declared.StringJudged.{StringJudged}
@@ -50,7 +50,7 @@ module _ {opening text work : List ℕ} {c : Core} (pre : NamePre work c) {y : T
   unfolding maxUris
   row-of-uri =
       let b = post .bounds z in
-      row-low {most = 16} (u .joins) (pre .bounded .uris) (omega arith) (b .old)
+      row-low {most = uriRows} (u .joins) (pre .bounded .uris) (omega arith) (b .old)
       (λ j. (b .new j .0, b .new j .1))
 
   pub local-asks : names.NamePre work (c .names) (u .row) (u .stored)
@@ -133,7 +133,7 @@ module _ {opening text work : List ℕ} {c : Core} (pre : NamePre work c) (attr 
                 old = b .old;
                 value = refl;
                 uri = row-of-uri pre uri-post z;
-                name = row-low {most = 128} (l .joins) (pre .bounded .names) (omega arith)
+                name = row-low {most = nameRows} (l .joins) (pre .bounded .names) (omega arith)
                     (d .old) (λ j. (d .new j .0, d .new j .1));
                 owner = refl;
                 store = d .store;

@@ -8,7 +8,7 @@ use lib.Dec.{T}
 use Rattle.spec_fields.specs.Bits.{Bits}
 use Rattle.spec_fields.specs.Field.{Alignment}
 use Rattle.text.specs.Text.{Text}
-use Rattle.spec_exi.specs.Sizes.{sizes, maxString, maxStore, maxUris, maxNames}
+use Rattle.spec_exi.specs.Sizes.{sizes, maxStore, maxUris, maxNames}
 use Rattle.spec_exi.specs.Event.{QName}
 use Rattle.spec_exi.specs.Tables as tables
 use Rattle.spec_exi.specs.Tables.{Tables}
@@ -32,6 +32,7 @@ use Rattle.write_partition.specs.Writable.{Written, Writable, tablesIn}
 use Rattle.write_partition.specs.Judged.{faultNumber, IsHit}
 use Rattle.write_names.specs.Uris.{uriBits}
 use Rattle.write_names.specs.Names.{nameBits}
+use Rattle.write_string.specs.Fits.{maxStringBits}
 use Rattle.write_qname.specs.declared.NameJudged.{NameJudged}
 use Rattle.write_qname.specs.Premise.{listStores, Prepared, Inside}
 use Rattle.write_qname.specs.Premise.{partAt}
@@ -134,7 +135,7 @@ pub record NamePost (opening text : List ℕ) (attr : Bool) (uri local : Part) (
 pub record PutNamePre (stream : List ℕ) (at : ℕ) (uri local : Part) (c : Core) (s : Strings)
     (text work : List ℕ) : Type 0 where
   pub blank : T (blankFrom stream at)
-  pub near : at + 2 * (40 * (maxString + 2)) ≤ farthest
+  pub near : at + 2 * maxStringBits ≤ farthest
   pub room : workCells ≤ length work
   pub few : c .uris ≤ maxUris
   pub old : s .«new_uri» ≡ false → s .«uri_row» < c .uris

@@ -13,11 +13,11 @@ use mir.Val.{Fits}
 use borrow.Author.Tests.{ltb-true, ltb-false}
 use Rattle.spec_fields.proofs.Tests.{split}
 use Rattle.spec_fields.specs.Bits.{Bits}
-use Rattle.spec_fields.specs.Refusal.{Answer, refused, accepted}
+use Rattle.spec_fields.specs.Refusal.{Answer, refused, accepted, numberLimit, numberShape}
 use Rattle.text.specs.Text.{Text, Span, part}
 use Rattle.spec_exi.specs.Event.{Event, mapEvent}
 use Rattle.spec_exi.specs.Settings.{Settings}
-use Rattle.spec_exi.specs.Sizes.{sizes, maxEvents, maxString, maxNames}
+use Rattle.spec_exi.specs.Sizes.{sizes, maxEvents, maxString, maxNames, cellsPerEvent}
 use Rattle.spec_exi.specs.Context.{Context, next}
 use Rattle.spec_exi.specs.Strict.{eventBits}
 use Rattle.spec_exi.specs.Writer.{Stored, faultOf, writeEvents}
@@ -27,7 +27,7 @@ use Rattle.spec_exi.proofs.Alike.{fault-alike, write-alike}
 use Rattle.event.specs.Cells.{loadedFrom, eventsOf}
 use Rattle.event.proofs.Laws.{events-at, events-cut, events-end}
 use Rattle.mem_layout.specs.Layout.{nameRows}
-use Rattle.mem_rows.specs.Rows.{Rows, isOver}
+use Rattle.mem_rows.specs.Rows.{Rows}
 use Rattle.mem_state.specs.declared.Core.{Core}
 use Rattle.mem_state.specs.Holds.{Bounded, Topped}
 use Rattle.grammar_update.proofs.Turns.{after-late}
@@ -43,6 +43,7 @@ use Rattle.stepped.specs.declared.Stepped.{Stepped}
 use Rattle.stepped.specs.Stepped.{coreOf}
 use Rattle.write_event.specs.Step.{maxListBits, StepPre, StepPut, Stands}
 use Rattle.write_event.specs.Step.{StepLeaves, StepMeans, StepPost}
+use Rattle.event_code.specs.Numbers.{isOver}
 use Rattle.write_run.specs.declared.Run.{Run}
 use Rattle.write_run.specs.Events.{Steps, none-written}
 use Rattle.write_run.specs.Run.{stoppedAs, RunPre, Joins, none-joined, one-joined, Running}
@@ -61,7 +62,7 @@ answerAt s text t w n xs = writeEvents n sizes s (contextIn (t .core) w (openedI
 pub record Reached (s : Settings) (opening cells : List ℕ) (text : Text) (stream₀ work₀ : List ℕ)
     (st : State) (stream work : List ℕ) (t : State) (n cell : ℕ) : Type 0 where
   pub so-far : Progress s opening (eventsOf cells) text stream₀ work₀ st stream work t n
-  pub place : cell ≡ 9 * n
+  pub place : cell ≡ cellsPerEvent * n
   pub left : drop n (eventsOf cells) ≡ eventsOf (drop cell cells)
 
 pub reached-start : {s : Settings} {opening cells : List ℕ} {text : Text} {stream work : List ℕ}
@@ -169,9 +170,9 @@ index-few {r = r} p = elim (ℕ-discrete (r .number) 0) [
 
 -- The event in this cell is e, and there may be one more.
 pub record Next (cells : List ℕ) (n cell : ℕ) (e : Event Span) : Type 0 where
-  pub more : n ≡ 4096 → ⊥
-  pub whole : 9 ≤ length cells - cell
-  pub loaded : loadedFrom (take 9 (drop cell cells)) ≡ some e
+  pub more : n ≡ maxEvents → ⊥
+  pub whole : cellsPerEvent ≤ length cells - cell
+  pub loaded : loadedFrom (take cellsPerEvent (drop cell cells)) ≡ some e
 
 module _ {s : Settings} {opening cells : List ℕ} {text : Text} {stream₀ work₀ : List ℕ}
     {st : State} {stream work : List ℕ} {t : State} {n cell : ℕ}
@@ -184,9 +185,9 @@ module _ {s : Settings} {opening cells : List ℕ} {text : Text} {stream₀ work
 
     pub ended-early : (t .core .mode ≡ isOver → ⊥)
         → RunPost s opening (eventsOf cells) text stream₀ work₀ st stream work
-        (stoppedAs 14 n (t .core .at))
+        (stoppedAs numberShape n (t .core .at))
     ended-early other =
-        stop (i .so-far) 14 (λ z. absurd (omega arith))
+        stop (i .so-far) numberShape (λ z. absurd (omega arith))
         (λ v a b. rw none-left (stops-early (maxEvents - n) s
         (contextIn (t .core) v (openedIn t)) text
         (context-going (i .so-far .bounded) (a .represents) _ other)))
@@ -233,52 +234,52 @@ module _ {s : Settings} {opening cells : List ℕ} {text : Text} {stream₀ work
   module _ (inside : cell < length cells) where
     some-left : (x : Stored) × (xs : List Stored) × (drop n (eventsOf cells) ≡ x ∷ xs)
     some-left =
-        split (ltb (length cells) (cell + 9))
+        split (ltb (length cells) (cell + cellsPerEvent))
         (λ l. (
           none,
           [],
-          i .left ∙ events-cut cells cell inside (ltb-true (length cells) (cell + 9) l),
+          i .left ∙ events-cut cells cell inside (ltb-true (length cells) (cell + cellsPerEvent) l),
         ))
-        (λ l. (_, _, i .left ∙ events-at cells cell (ltb-false (length cells) (cell + 9) l)))
+        (λ l. (_, _, i .left ∙ events-at cells cell (ltb-false (length cells) (cell + cellsPerEvent) l)))
 
-    pub too-many : n ≡ 4096
+    pub too-many : n ≡ maxEvents
         → RunPost s opening (eventsOf cells) text stream₀ work₀ st stream work
-        (stoppedAs 12 n (t .core .at))
+        (stoppedAs numberLimit n (t .core .at))
     unfolding maxEvents
     too-many full =
         let (x, xs, e) = some-left in
         let z : maxEvents - n ≡ 0 = omega arith in
-        stop (i .so-far) 12 (λ y. absurd (omega arith))
+        stop (i .so-far) numberLimit (λ y. absurd (omega arith))
         (λ v a b. rw (e, z) (stops-full 0 s (contextIn (t .core) v (openedIn t)) text x xs))
 
-  module _ (more : n ≡ 4096 → ⊥) where
+  module _ (more : n ≡ maxEvents → ⊥) where
     one-less : maxEvents - n ≡ suc (maxEvents - (n + 1))
     unfolding maxEvents
     one-less = omega (arith, i .so-far .few, more)
 
     shape-here : {xs : List Stored} → eventsOf (drop cell cells) ≡ none ∷ xs
         → RunPost s opening (eventsOf cells) text stream₀ work₀ st stream work
-        (stoppedAs 14 n (t .core .at))
+        (stoppedAs numberShape n (t .core .at))
     shape-here {xs} e =
-        stop (i .so-far) 14 (λ z. absurd (omega arith))
+        stop (i .so-far) numberShape (λ z. absurd (omega arith))
         (λ v a b. rw (i .left, e, one-less) (stops-shape (maxEvents - (n + 1)) s
         (contextIn (t .core) v (openedIn t)) text xs))
 
-    pub cut-short : cell < length cells → length cells - cell < 9
+    pub cut-short : cell < length cells → length cells - cell < cellsPerEvent
         → RunPost s opening (eventsOf cells) text stream₀ work₀ st stream work
-        (stoppedAs 14 n (t .core .at))
+        (stoppedAs numberShape n (t .core .at))
     cut-short inside l = shape-here (events-cut cells cell inside (omega arith))
 
-    pub no-event : 9 ≤ length cells - cell → loadedFrom (take 9 (drop cell cells)) ≡ none
+    pub no-event : cellsPerEvent ≤ length cells - cell → loadedFrom (take cellsPerEvent (drop cell cells)) ≡ none
         → RunPost s opening (eventsOf cells) text stream₀ work₀ st stream work
-        (stoppedAs 14 n (t .core .at))
+        (stoppedAs numberShape n (t .core .at))
     no-event whole l =
         shape-here (events-at cells cell (omega arith)
-        ∙ ap (λ x. x ∷ eventsOf (drop (cell + 9) cells)) l)
+        ∙ ap (λ x. x ∷ eventsOf (drop (cell + cellsPerEvent) cells)) l)
 
   -- ---- the next is an event
 
-  pub turn-asks : RunPre stream₀ work₀ st → (n ≡ 4096 → ⊥) → StepPre stream work (t .core) n
+  pub turn-asks : RunPre stream₀ work₀ st → (n ≡ maxEvents → ⊥) → StepPre stream work (t .core) n
   unfolding maxEvents
   turn-asks pre more =
       record {
@@ -304,7 +305,7 @@ module _ {s : Settings} {opening cells : List ℕ} {text : Text} {stream₀ work
 
     module _ (h : Next cells n cell e) where
       abbrev later-events : List Stored
-      later-events = eventsOf (drop (cell + 9) cells)
+      later-events = eventsOf (drop (cell + cellsPerEvent) cells)
 
       first-is : drop n (eventsOf cells) ≡ some e ∷ later-events
       first-is =
@@ -455,7 +456,7 @@ module _ {s : Settings} {opening cells : List ℕ} {text : Text} {stream₀ work
             sym (drop-drop 1 n (eventsOf cells)) ∙ ap (λ (l : List Stored). drop 1 l) first-is
 
         pub turn-more : Reached s opening cells text stream₀ work₀ st stream′ work′ later (n + 1)
-            (cell + 9)
+            (cell + cellsPerEvent)
         unfolding maxString
         turn-more =
             record {

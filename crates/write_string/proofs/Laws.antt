@@ -18,7 +18,7 @@ use Rattle.text.proofs.Char.{char-bound}
 use Rattle.write_field.specs.Written.{blankFrom, Put, farthest}
 use Rattle.write_field.proofs.Written.{put-then, put-blank, put-nothing}
 use Rattle.write_field.proofs.Lengths.{unsigned-length}
-use Rattle.write_string.specs.Fits.{CharacterFits}
+use Rattle.write_string.specs.Fits.{CharacterFits, maxNumberBits}
 
 pub chars-small : (x : Text) (i : ℕ) → T (allChars x) → i < length x → getD x i 0 ≤ maxUnsigned
 unfolding allChars maxUnsigned
@@ -39,7 +39,7 @@ each-more (p ∷ x) (suc i) h =
 pub record Going (buf₀ : List ℕ) (at k : ℕ) (x : Text) (buf : List ℕ) (j i : ℕ) : Type 0 where
   pub passed : i ≤ length x
   pub put : Put buf₀ at (each unsignedBits (take i x)) buf (8 * j + k)
-  pub near : 8 * j + k ≤ at + 40 * i
+  pub near : 8 * j + k ≤ at + maxNumberBits * i
 
 module _ {buf₀ : List ℕ} {at : ℕ} (x : Text) where
   pub going-start : ((i : ℕ) → Fits w8 (getD buf₀ i 0)) → T (blankFrom buf₀ at)
@@ -50,7 +50,7 @@ module _ {buf₀ : List ℕ} {at : ℕ} (x : Text) where
       record { passed = omega arith; put = rw e (put-nothing known blank); near = omega arith }
 
   module _ {buf : List ℕ} {k j i : ℕ} (g : Going buf₀ at k x buf j i) where
-    pub going-asks : k < 8 → at + 40 * length x ≤ farthest → T (allChars x) → i < length x
+    pub going-asks : k < 8 → at + maxNumberBits * length x ≤ farthest → T (allChars x) → i < length x
         → CharacterFits buf j k (getD x i 0)
     going-asks inside near chars h =
         record {

@@ -18,7 +18,7 @@ ghost use Rattle.write_known.specs.Known.{LearnedPre};
 ghost use Rattle.write_tags.specs.Tags.{endedAt, TagPost, ElementPost};
 use event_code::EE;
 use mem_state::Core;
-use mem_state::IN_TAG;
+use event_code::IN_TAG;
 use stepped::Stepped;
 
 // ---- an element

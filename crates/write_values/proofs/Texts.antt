@@ -8,7 +8,7 @@ use lib.ListN.{length, replicate}
 use lib.Dec.{leb}
 use borrow.Author.Tests.{leb-true, leb-false, le-leb, lt-leb}
 use Rattle.spec_fields.specs.Field.{Alignment}
-use Rattle.spec_fields.specs.Refusal.{numberOf, character, name, limit}
+use Rattle.spec_fields.specs.Refusal.{numberOf, character, name, limit, numberLimit}
 use Rattle.spec_fields.proofs.Tests.{split}
 use Rattle.text.specs.Text.{Text}
 use Rattle.spec_exi.specs.Sizes.{sizes, maxString, maxStore}
@@ -168,7 +168,7 @@ module _ (number : ℕ) (x : Text) {stored : ℕ} (low : stored ≤ maxStore) wh
   abbrev role : Role
   role = roleOf number
 
-  pub text-long : maxString < length x → TextPost role x stored (refusedAs 12 stored)
+  pub text-long : maxString < length x → TextPost role x stored (refusedAs numberLimit stored)
   text-long h =
       refused-post (alone number) low (omega arith)
       (first-number role x stored (omega arith) (long-number x stored h))

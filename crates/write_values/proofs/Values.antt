@@ -9,7 +9,7 @@ use lib.Dec.{eqb, ltb}
 use borrow.Author.Tests.{eqb-true, eqb-false, eq-eqb, ne-eqb, ltb-true, le-ltb, lt-ltb, le-leb}
 use Rattle.spec_fields.specs.Bits.{Bits}
 use Rattle.spec_fields.specs.Field.{Alignment}
-use Rattle.spec_fields.specs.Refusal.{numberOf, name, limit}
+use Rattle.spec_fields.specs.Refusal.{numberOf, name, limit, numberCharacter, numberLimit}
 use Rattle.spec_fields.proofs.Tests.{split}
 use Rattle.text.specs.Text.{Text, isEmpty, allChars}
 use Rattle.spec_exi.specs.Sizes.{sizes, maxString, maxStore, maxValues}
@@ -58,11 +58,11 @@ module _ (x : Text) (values stored h : ℕ) (low : stored ≤ maxStore) where
       }
 
   pub new-much : maxStore - stored < length x
-      → NewValuePost x values stored h (refusedAs 12 stored)
+      → NewValuePost x values stored h (refusedAs numberLimit stored)
   new-much l = new-fault (too-much x stored low l) (omega arith)
 
   module _ (room : length x ≤ maxStore - stored) {chars : Bool} (e : chars ≡ allChars x) where
-    pub new-no-char : not chars ≡ true → NewValuePost x values stored h (refusedAs 8 stored)
+    pub new-no-char : not chars ≡ true → NewValuePost x values stored h (refusedAs numberCharacter stored)
     new-no-char t = new-fault (no-char x stored low room e t) (omega arith)
 
     module _ (t : not chars ≡ false) where
@@ -71,7 +71,7 @@ module _ (x : Text) (values stored h : ℕ) (low : stored ≤ maxStore) where
           ≡ faultNumber (firstFailed ((ltb values maxValues, limit) ∷ []))
       room-left = number-then (literalTests x stored) _ (no-fault x stored low room e t) refl
 
-      pub new-full : maxValues ≤ values → NewValuePost x values stored h (refusedAs 12 stored)
+      pub new-full : maxValues ≤ values → NewValuePost x values stored h (refusedAs numberLimit stored)
       unfolding firstFailed faultNumber numberOf
       new-full l =
           record {
@@ -123,7 +123,7 @@ module _ {text : List ℕ} {x : Text} {owner values stored : ℕ} {work : List �
             (record { valid = valid; writable = writable; few = few; stand = stand; row = row }) _ _;
       }
 
-  pub value-long : maxString < length x → ValuePost text x owner values stored work (refusedAs 12 stored)
+  pub value-long : maxString < length x → ValuePost text x owner values stored work (refusedAs numberLimit stored)
   value-long h =
       value-refused (omega arith) (λ w _ _ _. long-means (value (nameAt w owner)) w stored x h)
 

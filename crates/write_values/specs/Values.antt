@@ -10,7 +10,7 @@ use Rattle.spec_fields.specs.Bits.{Bits}
 use Rattle.spec_fields.specs.Field.{Alignment}
 use Rattle.spec_fields.specs.Refusal.{limit}
 use Rattle.text.specs.Text.{Text, allChars}
-use Rattle.spec_exi.specs.Sizes.{maxString, maxStore, maxValues}
+use Rattle.spec_exi.specs.Sizes.{maxStore, maxValues}
 use Rattle.spec_exi.specs.Tables.{value, stringBits}
 use Rattle.spec_exi.specs.Writer.{firstFailed}
 use Rattle.mem_layout.specs.Layout.{valueCounts, nameRows, workCells}
@@ -24,6 +24,7 @@ use Rattle.write_field.specs.Written.{blankFrom, farthest}
 use Rattle.write_partition.specs.Writable.{Written, Writable, Few}
 use Rattle.write_partition.specs.Judged.{faultNumber, literalTests, StringMeans}
 use Rattle.write_partition.specs.Bits.{hitBits}
+use Rattle.write_string.specs.Fits.{maxStringBits}
 use Rattle.write_values.specs.declared.ValueJudged.{ValueJudged}
 
 -- ---- the answers
@@ -118,7 +119,7 @@ pub record ValuePost (text : List ℕ) (x : Text) (owner values stored : ℕ) (w
 pub record PutValuePre (stream : List ℕ) (at partition owner values : ℕ) (x : Text)
     (work : List ℕ) : Type 0 where
   pub blank : T (blankFrom stream at)
-  pub near : at + 40 * (maxString + 2) ≤ farthest
+  pub near : at + maxStringBits ≤ farthest
   pub room : workCells ≤ length work
   pub low : owner < nameRows
   pub few : values ≤ maxValues

@@ -8,8 +8,8 @@ use lib.ListN.{length, replicate, length-replicate}
 use lib.Dec.{leb, ltb}
 use borrow.Author.Tests.{le-leb, lt-leb, ltb-true, ltb-false}
 use Rattle.spec_fields.specs.Bits.{Bits, unpack, octetsFor, pack}
-use Rattle.spec_fields.specs.Refusal.{Refusal, numberOf, room, settings, long, Answer, refused}
-use Rattle.spec_fields.specs.Refusal.{accepted}
+use Rattle.spec_fields.specs.Refusal.{Refusal, numberOf, room, settings, long, Answer, refused, numberRoom, numberLong}
+use Rattle.spec_fields.specs.Refusal.{accepted, numberSettings}
 use Rattle.spec_fields.proofs.Tests.{split}
 use Rattle.spec_fields.proofs.Refusal.{refusal-number}
 use Rattle.text.specs.Text.{Text}
@@ -143,13 +143,13 @@ module _ {s : format.Settings} {xs : List Stored} {store : Text} {stream mid : L
     some-bits (refused k i) e = absurd (omega (arith, refusal-number k, run-refused k i e .0))
     some-bits (accepted bs) e = (bs, e)
 
-    pub list-long : 16384 < (r .at + 7) / 8 → ListPut s xs store stream after (refusedAs 3 0)
+    pub list-long : maxStream < (r .at + 7) / 8 → ListPut s xs store stream after (refusedAs numberLong 0)
     unfolding maxStream numberOf
     list-long l =
         let (bs, e) = some-bits answer refl in
-        attempted-refused long 0 3 0 (answer-long bs e (omega (arith, octets-are bs e))) refl refl
+        attempted-refused long 0 numberLong 0 (answer-long bs e (omega (arith, octets-are bs e))) refl refl
 
-    pub list-put : (r .at + 7) / 8 ≤ 16384 → maxStream ≤ length stream
+    pub list-put : (r .at + 7) / 8 ≤ maxStream → maxStream ≤ length stream
         → ListPut s xs store stream after
         (record { number = 0; index = 0; octets = (r .at + 7) / 8 })
     unfolding maxStream
@@ -178,21 +178,21 @@ module _ (s : SettingNumbers) (stream events : List ℕ) (store : Text) (work : 
   answer-here = answerOf s events store (lent stream work)
 
   abbrev too-short : Bool
-  too-short = ltb (length stream) 16384 || ltb (length work) 18432
+  too-short = ltb (length stream) maxStream || ltb (length work) writerWork
 
-  lent-is : (leb 16384 (length stream) && leb 18432 (length work)) ≡ not too-short
-  lent-is = enough (length stream) (length work) 16384 18432
+  lent-is : (leb maxStream (length stream) && leb writerWork (length work)) ≡ not too-short
+  lent-is = enough (length stream) (length work) maxStream writerWork
 
   pub no-room : (after : List ℕ) → too-short ≡ true
-      → Attempted answer-here stream after (refusedAs 1 0)
-  unfolding answerOf writerRoom format-writer.write enoughToWrite maxStream readerWork numberOf
-  no-room after e = attempted-refused room 0 1 0 (rw (lent-is, e)) refl refl
+      → Attempted answer-here stream after (refusedAs numberRoom 0)
+  unfolding answerOf writerRoom format-writer.write enoughToWrite maxStream writerWork readerWork numberOf
+  no-room after e = attempted-refused room 0 numberRoom 0 (rw (lent-is, e)) refl refl
 
   module _ (few : too-short ≡ false) where
     pub list-asks : {zeros : List ℕ} → zeros ≡ replicate (length stream) 0 → ListFits zeros work
     unfolding maxStream writerWork readerWork
     list-asks e =
-        let (a, b) = fits (length stream) (length work) 16384 18432 few in
+        let (a, b) = fits (length stream) (length work) maxStream writerWork few in
         rw e (record {
           blank = zeros-blank (length stream);
           octets = rw (length-replicate {A = ℕ} (length stream) 0) a;
@@ -201,14 +201,14 @@ module _ (s : SettingNumbers) (stream events : List ℕ) (store : Text) (work : 
 
     module _ {asked : Bool} (meant : asked ≡ meaningful (numbersOf s)) where
       pub no-meaning : (after : List ℕ) → not asked ≡ true
-          → Attempted answer-here stream after (refusedAs 2 0)
-      unfolding answerOf writerRoom format-writer.write enoughToWrite maxStream readerWork numberOf
+          → Attempted answer-here stream after (refusedAs numberSettings 0)
+      unfolding answerOf writerRoom format-writer.write enoughToWrite maxStream writerWork readerWork numberOf
       no-meaning after e =
-          attempted-refused settings 0 2 0 (rw (lent-is, few, ← meant, e)) refl refl
+          attempted-refused settings 0 numberSettings 0 (rw (lent-is, few, ← meant, e)) refl refl
 
       answer-list : not asked ≡ false
           → answer-here ≡ writeList sizes (settingsOf (numbersOf s)) (eventsOf events) store
-      unfolding answerOf writerRoom format-writer.write enoughToWrite maxStream readerWork
+      unfolding answerOf writerRoom format-writer.write enoughToWrite maxStream writerWork readerWork
       answer-list e = rw (lent-is, few, ← meant, e)
 
       pub list-answered : {o : Settings} {zeros after : List ℕ} {r : declared.WriteReply}

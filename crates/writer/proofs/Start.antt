@@ -24,7 +24,7 @@ use Rattle.mem_entries.specs.Entries.{entryAt, textAt}
 use Rattle.mem_names.specs.Uris.{uriAt, uriText}
 use Rattle.mem_rows.specs.Rows.{withUri, withName}
 use Rattle.mem_state.specs.Holds.{Topped}
-use Rattle.mem_initial.specs.Initial.{zeroed, initialUris, initialNames, together, urisText}
+use Rattle.mem_initial.specs.Initial.{zeroed, initialUris, initialNames, together, urisText, initialSize}
 use Rattle.mem_initial.specs.Initial.{initialText, withRows, plusUris, plusNames, initialRows}
 use Rattle.mem_initial.specs.Initial.{startRows, startAt, Layable}
 use Rattle.mem_initial.proofs.Initial.{opening-sourced, heads-zero, start-represents, start-topped}
@@ -154,7 +154,7 @@ module _ {stream : List ℕ} {at : ℕ} {work : List ℕ} (h : BodyPre stream at
         ≡ writeEvents maxEvents sizes s (start s) store xs
     unfolding noneOpen startAt lastFirst
     answer-is s store xs =
-        rw begins (write-alike maxEvents sizes s (start-alike (replicate 99 0) refl s) store xs)
+        rw begins (write-alike maxEvents sizes s (start-alike (replicate initialSize 0) refl s) store xs)
 
     pub body-put : {s : Settings} {xs : List Stored} {store : Text} {stream′ work′ : List ℕ}
         {r : Run} → RunPost s opening xs store stream work₂ st stream′ work′ r

@@ -3,7 +3,7 @@ use Prim.Native.Nat.{_-_}
 use native.Mathlib.Omega.{arith}
 use Rattle.text.specs.Text.{text}
 use Rattle.spec_exi.specs.Tables.{xmlUri, xsiUri}
-use Rattle.mem_initial.specs.Initial.{initialUris, initialNames, together, urisText}
+use Rattle.mem_initial.specs.Initial.{initialUris, initialNames, together, urisText, initialSize}
 use Rattle.mem_initial.specs.Initial.{namesText, initialText}
 use Rattle.mem_initial.proofs.Turn.{Copied, none-copied, one-copied, all-copied}
 use borrow.Author.Needs.{needs}
@@ -14,7 +14,7 @@ abbrev Inv-loop : tie.InvT-loop
 Inv-loop cells₀ origin text i₀ cells i = Copied cells₀ origin cells i
 
 abbrev μ-loop : tie.MeasureT-loop
-μ-loop cells₀ origin text i₀ cells i = 99 - i
+μ-loop cells₀ origin text i₀ cells i = initialSize - i
 
 loop-holds : tie.Need-loop-holds Inv-loop μ-loop
 loop-holds c = none-copied _ _ (c .before .pre)

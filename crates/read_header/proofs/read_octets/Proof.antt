@@ -4,6 +4,7 @@ use Prim.Native.Nat.{_-_}
 use native.Mathlib.Omega.{arith}
 use borrow.Author.Needs.{needs}
 use Rattle.spec_exi.specs.Sizes.{maxStream}
+use Rattle.read_header.specs.Header.{headerSize}
 use Rattle.read_header.proofs.Header.{Passing, passing-start, all-passed, octet-missing, octet-other, octet-same}
 use Rattle.read_header.proofs.read_octets.Statement.{statement}
 use Rattle.read_header.proofs.read_octets.Tie as tie
@@ -12,7 +13,7 @@ abbrev Inv-loop : tie.InvT-loop
 Inv-loop stream first at₀ i₀ at i = Passing stream first at i
 
 abbrev μ-loop : tie.MeasureT-loop
-μ-loop stream first at₀ i₀ at i = 5 - i
+μ-loop stream first at₀ i₀ at i = headerSize - i
 
 loop-holds : tie.Need-loop-holds Inv-loop μ-loop
 loop-holds c = passing-start _ _ (c .before .pre .few)

@@ -1,5 +1,4 @@
 use native.Mathlib.Omega.{arith}
-use Rattle.spec_exi.specs.Sizes.{cellsPerEvent}
 use Rattle.spec_fields.specs.Refusal.{numberOf}
 use Rattle.read_event.proofs.Steps.{numbered}
 use Rattle.read_known.proofs.Values.{attribute-equal, attribute-stepped}
@@ -52,7 +51,6 @@ attribute-requires : tie.Need-attribute-requires
 attribute-requires c κs = (record { room = c .before .before .before .before .before .before .before .before .before .before .before .before .before .before .before .before .pre .0 .rows; low = c .before .before .before .before .before .before .before .before .before .before .before .before .before .before .before .before .pre .1 .bounds .uri }, record { room = c .before .before .before .before .before .before .before .before .before .before .before .before .before .before .before .before .pre .0 .rows; low = c .before .before .before .before .before .before .before .before .before .before .before .before .before .before .before .before .pre .1 .bounds .local })
 
 store-requires : tie.Need-store-requires
-unfolding cellsPerEvent
 store-requires c κs = c .before .before .before .before .before .before .before .before .before .before .before .before .before .before .before .before .before .before .pre .0 .cells
 
 keep-requires : tie.Need-keep-requires
@@ -71,7 +69,6 @@ same-length-7 : tie.Need-same-length-7
 same-length-7 c = search needs
 
 returns-3 : tie.Need-returns-3
-unfolding cellsPerEvent
 returns-3 c = rw (c .moved-on .ensures) (record { numbered = λ n early. record { steps = λ s a q. attribute-stepped (numbered (c .before .before .before .before .before .before .before .before .before .before .before .before .before .before .before .before .before .before .before .before .before .before .before .before .before .before .pre .0) early) q (c .before .before .before .before .before .before .before .before .before .before .before .before .before .before .before .before .before .before .before .before .before .before .before .before .before .before .pre .1 .learned) a (c .before .before .before .before .before .before .before .before .before .before .before .before .before .before .before .before .before .before .before .read-value .ensures .1) (c .before .before .before .before .before .before .before .before .before .before .before .before .before .before .before .before .before .before .before .before .before .before .before .before .before .before .pre .1 .kind) (c .before .before .before .before .before .before .before .before .before .before .before .before .before .before .before .before .before .before .before .read-value .ensures .0) (c .before .before .before .before .before .before .before .before .before .before .before .before .before .before .before .if1 .left) (c .before .before .before .before .before .before .before .before .before .before .before .before .before .is-marked .ensures) (c .before .before .before .before .before .before .before .before .before .before .before .before .if2 .left) (c .before .before .before .before .before .before .before .before .before .before .part-of .ensures) (c .before .before .before .before .before .before .before .before .before .attribute .ensures) (c .before .before .before .before .before .before .before .store .ensures) (c .before .before .before .keep .ensures) } })
 
 pub known-attribute-spec : {M : Type 1} → statement M

@@ -1,6 +1,5 @@
 use native.Mathlib.Omega.{arith}
 use Rattle.spec_exi.specs.Grammar.{kindNumber}
-use Rattle.spec_exi.specs.Sizes.{cellsPerEvent}
 use Rattle.read_known.proofs.Values.{characters-stepped}
 use Rattle.read_known.proofs.Values.{value-asks, join-asks, characters-stopped}
 use borrow.Author.Needs.{needs}
@@ -26,7 +25,6 @@ part-of-requires : tie.Need-part-of-requires
 part-of-requires c κs = search needs
 
 store-requires : tie.Need-store-requires
-unfolding cellsPerEvent
 store-requires c κs = c .before .before .before .before .before .before .before .before .before .before .before .before .before .pre .0 .cells
 
 join-value-requires : tie.Need-join-value-requires
@@ -51,7 +49,7 @@ same-length-5 : tie.Need-same-length-5
 same-length-5 c = search needs
 
 returns-2 : tie.Need-returns-2
-unfolding cellsPerEvent kindNumber
+unfolding kindNumber
 returns-2 c = rw (c .moved-on .ensures) (record { steps = λ s a q. characters-stepped (c .before .before .before .before .before .before .before .before .before .before .before .before .before .before .before .before .before .before .before .before .before .before .before .pre .0) q (c .before .before .before .before .before .before .before .before .before .before .before .before .before .before .before .before .before .before .before .before .before .before .before .pre .1 .learned) a (c .before .before .before .before .before .before .before .before .before .before .before .before .before .before .before .before .read-value .ensures .1) (c .before .before .before .before .before .before .before .before .before .before .before .before .before .before .before .before .before .before .before .before .before .before .before .pre .1 .kind) (c .before .before .before .before .before .before .before .before .before .before .before .before .before .before .before .before .read-value .ensures .0) (c .before .before .before .before .before .before .before .before .before .before .before .before .if1 .left) (c .before .before .before .before .before .before .before .before .before .before .before .part-of .ensures) (c .before .before .before .before .before .before .before .before .before .store .ensures) (c .before .before .before .before .before .join-value .ensures) (c .before .before .mode-after .ensures) (c .before .next-tag .ensures) })
 
 pub known-characters-spec : {M : Type 1} → statement M

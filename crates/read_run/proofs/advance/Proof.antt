@@ -3,7 +3,7 @@ use mathlib.Core.Path.{sym, subst, _∙_}
 use mathlib.Core.List.{List}
 use Prim.Native.Nat.{ℕ, _-_}
 use Rattle.settings.specs.Meant.{settingsFrom}
-use Rattle.spec_exi.specs.Sizes.{maxEvents, maxOpen, cellsPerEvent}
+use Rattle.spec_exi.specs.Sizes.{maxEvents, maxOpen}
 use Rattle.read_run.specs.Run.{Progress}
 use Rattle.read_run.proofs.Turns.{progress-start, same-events, same-text, turn-asks}
 use Rattle.read_run.proofs.Turns.{turn-over, turn-full, turn-refused, turn-more}
@@ -19,7 +19,7 @@ Inv-loop o stream first events₀ text₀ work₀ c₀ opened₀ n₀ events tex
     (record { core = c; opened = opened }) n
 
 abbrev μ-loop : tie.MeasureT-loop
-μ-loop o stream first events₀ text₀ work₀ c₀ opened₀ n₀ events text work c opened n = 4096 - n
+μ-loop o stream first events₀ text₀ work₀ c₀ opened₀ n₀ events text work c opened n = maxEvents - n
 
 loop-holds : tie.Need-loop-holds Inv-loop μ-loop
 loop-holds c =
@@ -60,7 +60,7 @@ mul-cell c =
     omega (arith, low)
 
 step-requires : tie.Need-step-requires Inv-loop μ-loop
-unfolding maxEvents cellsPerEvent
+unfolding maxEvents
 step-requires c κs =
     let pre = c .before .before .before .before .before .before .before .before .before .before .before .before
     .before .pre in
@@ -94,7 +94,7 @@ same-length-6 c =
     (c .before .before .before .before .work .given) ∙ inv .work-size
 
 returns-2 : tie.Need-returns-2 Inv-loop μ-loop
-unfolding maxEvents cellsPerEvent
+unfolding maxEvents
 returns-2 c =
     let pre = c .before .before .before .before .before .before .before .before .before .before .before .before
     .before .before .before .before .before .before .before .before .before .before .before .pre in
@@ -140,13 +140,14 @@ add-n c =
     omega (arith, low)
 
 loop-less : tie.Need-loop-less Inv-loop μ-loop
+unfolding maxEvents
 loop-less c =
     let low = c .before .before .before .before .before .before .before .before .before .before .before .before
     .before .before .before .if2 .left in
     omega (arith, low)
 
 loop-again : tie.Need-loop-again Inv-loop μ-loop
-unfolding maxEvents cellsPerEvent
+unfolding maxEvents
 loop-again c =
     let pre = c .before .before .before .before .before .before .before .before .before .before .before .before
     .before .before .before .before .before .before .before .before .before .before .before .before .before .pre

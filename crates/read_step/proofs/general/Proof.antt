@@ -1,6 +1,5 @@
 use Rattle.read_event.proofs.Steps.{event-asks, step-refused, join-asks, grow-asks, after-asks}
 use Rattle.read_event.proofs.Steps.{step-read}
-use Rattle.spec_exi.specs.Sizes.{cellsPerEvent}
 use mathlib.Core.Path.{_∙_}
 use native.Mathlib.Omega.{arith}
 use borrow.Author.Needs.{needs}
@@ -52,7 +51,6 @@ grow-requires c κs =
     grow-asks (pre .0) (read-event .ensures) (if1 .left) (join-strings .ensures)
 
 store-requires : tie.Need-store-requires
-unfolding cellsPerEvent
 store-requires c κs =
     let pre = c .before .before .before .before .before .before .before .before .before .before
     .before .before .before .before .before .before .before .before .before .before .pre in
@@ -85,7 +83,6 @@ same-length-5 : tie.Need-same-length-5
 same-length-5 c = search needs
 
 returns-2 : tie.Need-returns-2
-unfolding cellsPerEvent
 returns-2 c =
     let pre = c .before .before .before .before .before .before .before .before .before .before
     .before .before .before .before .before .before .before .before .before .before .before .before

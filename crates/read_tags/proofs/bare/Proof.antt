@@ -1,11 +1,9 @@
 use Rattle.read_tags.proofs.Plain.{stored-as}
-use Rattle.spec_exi.specs.Sizes.{cellsPerEvent}
 use borrow.Author.Needs.{needs}
 use Rattle.read_tags.proofs.bare.Statement.{statement}
 use Rattle.read_tags.proofs.bare.Tie as tie
 
 store-requires : tie.Need-store-requires
-unfolding cellsPerEvent
 store-requires c κs = c .before .before .pre .1 .0
 
 next-tag-requires : tie.Need-next-tag-requires
@@ -18,7 +16,6 @@ same-length : tie.Need-same-length
 same-length c = c .before .before .before .events .given
 
 returns : tie.Need-returns
-unfolding cellsPerEvent
 returns c =
     let store = c .before .before .before .before .store in
     stored-as (store .ensures) (c .before .next-tag .ensures) (c .moved-on .ensures)

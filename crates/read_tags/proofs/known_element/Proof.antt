@@ -1,5 +1,5 @@
 use Rattle.read_tags.proofs.Tags.{element-limit, element-stepped}
-use Rattle.spec_exi.specs.Sizes.{cellsPerEvent, maxOpen}
+use Rattle.spec_exi.specs.Sizes.{maxOpen}
 use Rattle.spec_fields.specs.Refusal.{numberOf}
 use mathlib.Core.Path.{refl}
 use native.Mathlib.Omega.{arith}
@@ -43,7 +43,6 @@ element-requires c κs =
     )
 
 store-requires : tie.Need-store-requires
-unfolding cellsPerEvent
 store-requires c κs =
     let pre = c .before .before .before .before .before .before .before .before .before .pre in
     pre .0 .cells
@@ -80,7 +79,6 @@ same-length-3 : tie.Need-same-length-3
 same-length-3 c = c .before .before .before .before .work .given
 
 returns-2 : tie.Need-returns-2
-unfolding cellsPerEvent
 returns-2 c =
     let pre = c .before .before .before .before .before .before .before .before .before .before
     .before .before .before .before .before .before .before .before .before .pre in

@@ -1,5 +1,6 @@
 -- `read_cleared` meets its contract.
 use denote.Ref.{now}
+use Rattle.spec_exi.specs.Sizes.{maxStream, maxEvents, maxStore, readerWork, eventCells}
 use Rattle.reader.proofs.Stream.{no-room, no-meaning, too-long, stream-asks, stream-answered}
 use borrow.Author.Needs.{needs}
 use Rattle.reader.proofs.read_cleared.Statement.{statement}
@@ -9,6 +10,7 @@ refused-requires : tie.Need-refused-requires
 refused-requires c κs = search needs
 
 returns : tie.Need-returns
+unfolding eventCells maxEvents maxStore readerWork
 returns c =
     let if1 = c .before in
     let start = if1 .before .before .before .before .before in
@@ -22,6 +24,7 @@ refused-requires-2 : tie.Need-refused-requires-2
 refused-requires-2 c κs = search needs
 
 returns-2 : tie.Need-returns-2
+unfolding eventCells maxEvents maxStore readerWork
 returns-2 c =
     let if2 = c .before in
     let are-meaningful = if2 .before in
@@ -35,6 +38,7 @@ refused-requires-3 : tie.Need-refused-requires-3
 refused-requires-3 c κs = search needs
 
 returns-3 : tie.Need-returns-3
+unfolding eventCells maxEvents maxStore readerWork maxStream
 returns-3 c =
     let if3 = c .before in
     let if2 = if3 .before in
@@ -49,6 +53,7 @@ settings-of-requires : tie.Need-settings-of-requires
 settings-of-requires c κs = search needs
 
 read-stream-requires : tie.Need-read-stream-requires
+unfolding eventCells maxEvents maxStore readerWork maxStream
 read-stream-requires c κs =
     let if3 = c .before .before .before .before in
     let if2 = if3 .before in
@@ -68,6 +73,7 @@ same-length-3 : tie.Need-same-length-3
 same-length-3 c = search needs
 
 returns-4 : tie.Need-returns-4
+unfolding eventCells maxEvents maxStore readerWork maxStream
 returns-4 c =
     let read-stream = c .before .before .before .before .before .before in
     let settings-of = read-stream .before .before .before .before in

@@ -40,6 +40,7 @@ same-length-2 : tie.Need-same-length-2 Inv-loop μ-loop
 same-length-2 c = (c .before .before .before .loop .inv) .so-far .work-size
 
 returns : tie.Need-returns Inv-loop μ-loop
+unfolding maxEvents
 returns c =
     let if1 = c .before in
     let loop-test = if1 .before in
@@ -60,6 +61,7 @@ same-length-4 : tie.Need-same-length-4 Inv-loop μ-loop
 same-length-4 c = (c .before .before .before .before .loop .inv) .so-far .work-size
 
 returns-2 : tie.Need-returns-2 Inv-loop μ-loop
+unfolding maxEvents
 returns-2 c =
     let if2 = c .before in
     let if1 = if2 .before in
@@ -86,6 +88,7 @@ same-length-6 c =
     (c .before .before .before .before .before .before .before .loop .inv) .so-far .work-size
 
 returns-3 : tie.Need-returns-3 Inv-loop μ-loop
+unfolding maxEvents
 returns-3 c =
     let enum-told = c .before in
     let load = enum-told .before .before in
@@ -100,6 +103,7 @@ enum-known-e : tie.Need-enum-known-e Inv-loop μ-loop
 enum-known-e c = search needs
 
 step-requires : tie.Need-step-requires Inv-loop μ-loop
+unfolding maxEvents
 step-requires c κs =
     let if1 = c .before .before .before .before .before .before .before .before in
     let loop = if1 .before .before in
@@ -124,6 +128,7 @@ same-length-8 c =
     work .work .given ∙ (loop .loop .inv) .so-far .work-size
 
 returns-4 : tie.Need-returns-4 Inv-loop μ-loop
+unfolding maxEvents
 returns-4 c =
     let if3 = c .before in
     let step = if3 .before .before .before .before .before .before in
@@ -188,6 +193,7 @@ loop-less c =
     omega (arith, loop-test .loop-test .taken)
 
 loop-again : tie.Need-loop-again Inv-loop μ-loop
+unfolding maxEvents
 loop-again c =
     let if4 = c .before .before .before in
     let if3 = if4 .before in

@@ -1,6 +1,7 @@
 -- `attempt` meets its contract.
 use borrow.Author.Needs.{needs}
 use denote.Ref.{now}
+use Rattle.spec_exi.specs.Sizes.{maxStream, readerWork, writerWork}
 use Rattle.writer.proofs.Reply.{no-room, no-meaning, list-asks, list-answered}
 use Rattle.writer.proofs.attempt.Statement.{statement}
 use Rattle.writer.proofs.attempt.Tie as tie
@@ -9,6 +10,7 @@ refused-requires : tie.Need-refused-requires
 refused-requires c κs = search needs
 
 returns : tie.Need-returns
+unfolding maxStream writerWork readerWork
 returns c =
     let if1 = c .before in
     let start = if1 .before .before .before .before .before in
@@ -23,6 +25,7 @@ refused-requires-2 : tie.Need-refused-requires-2
 refused-requires-2 c κs = search needs
 
 returns-2 : tie.Need-returns-2
+unfolding maxStream writerWork readerWork
 returns-2 c =
     let if2 = c .before in
     let are-meaningful = if2 .before in
@@ -39,6 +42,7 @@ settings-of-requires : tie.Need-settings-of-requires
 settings-of-requires c κs = search needs
 
 put-list-requires : tie.Need-put-list-requires
+unfolding maxStream writerWork readerWork
 put-list-requires c κs =
     let octets = c .before .before .before .before .before in
     let if1 = octets .before .before .before .before in
@@ -54,6 +58,7 @@ same-length-2 : tie.Need-same-length-2
 same-length-2 c = search needs
 
 returns-3 : tie.Need-returns-3
+unfolding maxStream writerWork readerWork
 returns-3 c =
     let put-list = c .before .before .before .before in
     let settings-of = put-list .before .before .before in

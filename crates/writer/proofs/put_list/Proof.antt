@@ -2,7 +2,7 @@
 use native.Mathlib.Omega.{arith}
 use mathlib.Core.Path.{_∙_}
 use borrow.Author.Needs.{needs}
-use Rattle.spec_exi.specs.Sizes.{maxEvents, maxString}
+use Rattle.spec_exi.specs.Sizes.{maxEvents, maxString, maxStream}
 use Rattle.settings.specs.Meant.{settingsFrom}
 use Rattle.writer.proofs.Start.{body-asks}
 use Rattle.writer.proofs.Reply.{list-refused, list-long, list-put}
@@ -67,6 +67,7 @@ same-length-4 c =
     work .work .given
 
 returns-2 : tie.Need-returns-2
+unfolding maxStream
 returns-2 c =
     let if2 = c .before in
     let if1 = if2 .before .before in
@@ -90,6 +91,7 @@ same-length-6 c =
     work .work .given
 
 returns-3 : tie.Need-returns-3
+unfolding maxStream
 returns-3 c =
     let if1 = c .before .before in
     let put-body = if1 .before .before .before .before .before .before in
