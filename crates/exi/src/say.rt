@@ -44,11 +44,13 @@ fn meaning(number: u32) {
         7 => tell(
             b"an Unsigned Integer is not in fewest octets, over 5 octets or above 2147483647",
         ),
-        8 => tell(b"a code point is no XML 1.0 Char"),
+        8 => tell(
+            b"no XML 1.0 Char, a comment with -- or a last -, or an instruction's text with ?>",
+        ),
         9 => tell(b"the number of a URI, a name or a value names no entry"),
         10 => tell(b"a literal, a hit or a production stands where the strict form has another"),
         11 => tell(
-            b"a name or target is empty, or an attribute is nil or type of XMLSchema-instance",
+            b"no XML name or one with a colon, a target xml, or an attribute xsi:nil or xsi:type",
         ),
         12 => tell(b"a table, a string or a count would pass its fixed size"),
         13 => tell(b"a pad bit is 1, or octets follow the end"),
