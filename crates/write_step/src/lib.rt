@@ -2,6 +2,7 @@
 // the general path. What a step asks and leaves is in specs of `write_event`.
 ghost use Rattle.settings.specs.Meant.{settingsFrom};
 ghost use Rattle.event.specs.Cells.{meaning};
+ghost use Rattle.event.specs.declared.Event.the-variants.{StartDocument, EndDocument};
 ghost use Rattle.event.specs.declared.Event.the-variants.{StartElement, Attribute};
 ghost use Rattle.event.specs.declared.Event.the-variants.{EndElement, Characters};
 ghost use Rattle.write_event.specs.Step.{StepPre, StepPost};
@@ -9,14 +10,66 @@ use event::Event;
 use event::Part;
 use event_code::AT;
 use event_code::CH;
+use event_code::ED;
 use event_code::EE;
-use event_code::SE;
-use mem_state::Core;
+use event_code::IN_DOC_END;
+use event_code::IN_DOCUMENT;
 use event_code::IN_ELEMENT;
 use event_code::IN_TAG;
+use event_code::SD;
+use event_code::SE;
+use mem_state::Core;
 use settings::Settings;
 use sizes::MAX_OPEN;
 use stepped::Stepped;
+
+fn start_document(
+    o: Settings,
+    stream: &mut [u8],
+    opening: &[u32],
+    text: &[u32],
+    n: usize,
+    c: Core,
+    work: &mut [u32],
+) -> Stepped
+    requires { ⌜ StepPre (now stream) (now work) c n ⌝ }
+    ensures { λ r. ⌜
+        StepPost (settingsFrom o) (now (opening .entry)) (now (text .entry)) (meaning StartDocument)
+        (now (stream .entry)) (now (work .entry)) c n (now (stream .exit)) (now (work .exit)) r ⌝ }
+{
+    let row = grammar_match::find_learned(c.mode, c.top, SD, 0, c.learned, work);
+    if row != 0 {
+        return write_event::write_event(o, stream, opening, text, Event::StartDocument, n, c, work);
+    }
+    if c.mode != IN_DOCUMENT {
+        return write_event::write_event(o, stream, opening, text, Event::StartDocument, n, c, work);
+    }
+    write_tags::start_document(o, stream, n, c, work)
+}
+
+fn end_document(
+    o: Settings,
+    stream: &mut [u8],
+    opening: &[u32],
+    text: &[u32],
+    n: usize,
+    c: Core,
+    work: &mut [u32],
+) -> Stepped
+    requires { ⌜ StepPre (now stream) (now work) c n ⌝ }
+    ensures { λ r. ⌜
+        StepPost (settingsFrom o) (now (opening .entry)) (now (text .entry)) (meaning EndDocument)
+        (now (stream .entry)) (now (work .entry)) c n (now (stream .exit)) (now (work .exit)) r ⌝ }
+{
+    let row = grammar_match::find_learned(c.mode, c.top, ED, 0, c.learned, work);
+    if row != 0 {
+        return write_event::write_event(o, stream, opening, text, Event::EndDocument, n, c, work);
+    }
+    if c.mode != IN_DOC_END {
+        return write_event::write_event(o, stream, opening, text, Event::EndDocument, n, c, work);
+    }
+    write_tags::end_document(o, stream, n, c, work)
+}
 
 fn start_element(
     o: Settings,
@@ -136,6 +189,8 @@ pub fn step(
         (now (stream .entry)) (now (work .entry)) c n (now (stream .exit)) (now (work .exit)) r ⌝ }
 {
     match e {
+        Event::StartDocument => start_document(o, stream, opening, text, n, c, work),
+        Event::EndDocument => end_document(o, stream, opening, text, n, c, work),
         Event::StartElement(uri, local) => {
             start_element(o, stream, opening, text, uri, local, n, c, work)
         }

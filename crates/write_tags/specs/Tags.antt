@@ -1,6 +1,6 @@
 -- What a quick step of an event without a value leaves: what any step does
 -- (crates/write_event/specs/Step.antt), and work memory as it was.
-use Prim.Native.Nat.{ℕ, _+_, _-_}
+use Prim.Native.Nat.{ℕ, _+_, _-_, _≤_}
 use mathlib.Core.Path.{_≡_}
 use mathlib.Core.Bool.{true, false}
 use mathlib.Core.List.{List}
@@ -15,8 +15,12 @@ use Rattle.event.specs.declared.Event.the-variants.{StartElement}
 use Rattle.event.specs.Cells.{asSpan, meaning}
 use Rattle.mem_rows.specs.Rows.{modeAfter}
 use Rattle.mem_state.specs.declared.Core.{Core}
+use Rattle.grammar_codes.specs.Table.{PlaceAt}
+use Rattle.grammar_match.specs.Here.{CountedHere}
 use Rattle.stepped.specs.declared.Stepped.{Stepped}
-use Rattle.stepped.specs.Stepped.{movedOn}
+use Rattle.stepped.specs.Stepped.{steppedAs, movedOn}
+use Rattle.write_field.specs.Written.{Put}
+use Rattle.write_production.specs.Codes.{codeBitsAs}
 use Rattle.write_event.specs.Step.{StepPost}
 use Rattle.write_known.specs.Names.{Named}
 
@@ -38,3 +42,28 @@ pub record ElementPost (a : Alignment) (name : ℕ) (stream work : List ℕ) (c 
       → inside text (asSpan uri) ≡ true → inside text (asSpan local) ≡ true
       → Named opening text false uri local c work name
       → StepPost s opening text (meaning (StartElement uri local)) stream work c n stream′ work r
+
+-- ---- outside the root element
+
+-- The kind is the first of its state, and SD or ED.
+pub record OuterPre (s : Settings) (c : Core) (kind : ℕ) : Type 0 where
+  pub place : PlaceAt (s .comments) (s .instructions) (c .mode) kind (record { level = 0; value = 0 })
+  pub few : kind ≤ 1
+
+pub record OuterPost (s : Settings) (kind : ℕ) (stream work : List ℕ) (c : Core) (n : ℕ)
+    (stream′ : List ℕ) (r : Stepped) : Type 0 where
+  pub count : ℕ
+  pub counted : CountedHere work (c .mode) (c .top) count
+  pub at : ℕ
+  pub put : Put stream (c .at)
+      (codeBitsAs s (c .mode) (record { level = 0; value = 0 })
+      (record { learned = false; count = count; part = 0 })) stream′ at
+  pub is : r
+      ≡ steppedAs 0
+      (movedOn c at (c .stored) false false (modeAfter kind (c .mode) (c .depth)) (c .top)
+      (c .depth) (n + 2))
+
+pub record DocumentPost (s : Settings) (e : declared.Event) (stream work : List ℕ) (c : Core)
+    (n : ℕ) (stream′ : List ℕ) (r : Stepped) : Type 0 where
+  pub steps : (opening text : List ℕ)
+      → StepPost s opening text (meaning e) stream work c n stream′ work r
