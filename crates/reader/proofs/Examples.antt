@@ -69,8 +69,14 @@ not-over = refl
 zeroed-size : (n : ℕ) (work : List ℕ) → n ≤ length work → length (zeroed n work) ≡ length work
 unfolding zeroed
 zeroed-size n work l =
-    omega (arith, l, length-append (replicate {A = ℕ} (length (take n work)) 0) (drop n work),
-    length-replicate {A = ℕ} (length (take n work)) 0, length-take-le n work l, length-drop n work)
+    omega (
+      arith,
+      l,
+      length-append (replicate {A = ℕ} (length (take n work)) 0) (drop n work),
+      length-replicate {A = ℕ} (length (take n work)) 0,
+      length-take-le n work l,
+      length-drop n work,
+    )
 
 module _ {events text work events′ text′ work′ : List ℕ} {r : Advanced}
     (h : StreamReady firstReading events text work)
