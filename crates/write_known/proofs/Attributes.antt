@@ -1,9 +1,9 @@
 -- The answers of the quick step of an attribute.
-use Prim.Native.Nat.{ℕ, _+_, _≤_, _<_}
+use Prim.Native.Nat.{ℕ, _<_}
 use native.Mathlib.Omega.{arith}
-use mathlib.Core.Path.{_≡_, refl, sym, ap, subst, _∙_}
-use mathlib.Core.Bool.{Bool, true, false, _&&_, not}
-use mathlib.Core.List.{List, [], _∷_, _++_}
+use mathlib.Core.Path.{_≡_, refl, sym, ap, _∙_}
+use mathlib.Core.Bool.{Bool, true, false, not}
+use mathlib.Core.List.{List}
 use borrow.Author.Tests.{not-true, not-false}
 use Rattle.spec_fields.specs.Field.{Alignment}
 use Rattle.spec_fields.specs.Refusal.{numberOf, place}
@@ -19,7 +19,7 @@ use Rattle.event.specs.Cells.{asSpan, asName, meaning}
 use Rattle.mem_marks.specs.Marks.{markedIn, withMark}
 use Rattle.mem_rows.specs.Rows.{modeAfter}
 use Rattle.mem_state.specs.declared.Core.{Core}
-use Rattle.mem_state.specs.Commit.{joinedUri, joinedName, joinedValue, joinedStrings, entered}
+use Rattle.mem_state.specs.Commit.{joinedUri, joinedName, joinedStrings, entered}
 use Rattle.mem_state.specs.Commit.{learnt, marked, grown, topAfter, depthAfter, tagNumber}
 use Rattle.mem_state.specs.Commit.{counted, turned}
 use Rattle.grammar_match.specs.Here.{siteIn}
@@ -33,7 +33,6 @@ use Rattle.write_content.specs.Writing.{namedBits, valuedBits, contentBits}
 use Rattle.write_content.proofs.Named.{attribute-value-refused, attribute-judged}
 use Rattle.write_event.specs.Step.{StepPre}
 use Rattle.write_event.proofs.Events.{every-three}
-use Rattle.write_known.specs.Names.{Named}
 use Rattle.write_known.specs.Known.{LearnedPut, ValueKept, LearnedPre, AttributePost}
 use Rattle.write_known.proofs.Known.{Placed, inner-placed, learned-here, learned-put}
 use Rattle.write_known.proofs.Known.{quick-outside, quick-refused, quick-written}
@@ -89,7 +88,8 @@ module _ {stream work : List ℕ} {c : Core} (pre : StepPre stream work c 0) {na
                 (attribute-value-refused (content-pre pre) (named .post) value refl look post h) h;
           }
 
-      pub attribute-stepped : v .number ≡ 0 → markedIn work (c .tag) name ≡ false → {a : Alignment} {mid : List ℕ} {next : ℕ}
+      pub attribute-stepped : v .number ≡ 0 → markedIn work (c .tag) name ≡ false → {a : Alignment}
+          {mid : List ℕ} {next : ℕ}
           → LearnedPut a stream work (c .at) (c .mode) (c .top) row mid next
           → {stream′ work₁ work′ : List ℕ} {at : ℕ}
           → ValueKept a mid next y value v name (c .values) work stream′ work₁ at

@@ -1,13 +1,12 @@
 -- A quick step: what it comes to, by the judgement that it stands for. The judgement is that of the
 -- general step; here it is an argument of the laws alone.
-use Prim.Native.Nat.{ℕ, zero, suc, _+_, _≤_, _<_}
+use Prim.Native.Nat.{ℕ, _+_, _≤_, _<_}
 use native.Mathlib.Omega.{arith}
 use mathlib.Core.Path.{_≡_, refl, sym, ap, subst, _∙_}
-use mathlib.Core.Bool.{Bool, true, false}
+use mathlib.Core.Bool.{true, false}
 use mathlib.Core.List.{List, [], _++_, append-nil}
 use lib.Dec.{ltb}
 use borrow.Author.Tests.{ltb-false}
-use Rattle.spec_fields.specs.Bits.{Bits}
 use Rattle.spec_fields.specs.Field.{Alignment}
 use Rattle.spec_fields.specs.Refusal.{numberOf, place}
 use Rattle.spec_fields.proofs.Tests.{split}
@@ -24,8 +23,7 @@ use Rattle.mem_state.specs.Commit.{joinedStrings, grown}
 use Rattle.grammar_codes.specs.declared.Place.{Place}
 use Rattle.grammar_codes.specs.Table.{tableOf, placeIn, placeAs, PlaceAt}
 use Rattle.grammar_codes.proofs.Places.{place-is, no-place, element-has}
-use Rattle.grammar_match.specs.Here.{CountedHere}
-use Rattle.grammar_match.specs.Found.{foundHere, FoundHere, PartHere}
+use Rattle.grammar_match.specs.Found.{foundHere, FoundHere}
 use Rattle.grammar_update.specs.Growth.{growthOf, allowedIn, fitsIn}
 use Rattle.grammar_update.specs.After.{coreAfter}
 use Rattle.stepped.specs.Stepped.{steppedAs}
@@ -42,7 +40,7 @@ use Rattle.write_event.specs.Judge.{CodeHere, judgedAs, afterContent, JudgePost
 use Rattle.write_event.specs.Judge.{judgedBits}
 use Rattle.write_event.proofs.Returns.{place-stops, content-stops, event-judged}
 use Rattle.write_event.proofs.Steps.{judge-asks, step-refused, step-done}
-use Rattle.write_known.specs.Known.{LearnedPre, LearnedPut}
+use Rattle.write_known.specs.Known.{LearnedPut}
 
 -- ---- the production
 

@@ -1,13 +1,12 @@
 -- The answers of the search for a name and its learned production.
-use Prim.Native.Nat.{ℕ, _-_, _≤_, _<_}
+use Prim.Native.Nat.{ℕ, _-_}
 use native.Mathlib.Omega.{arith}
-use mathlib.Core.Path.{_≡_, refl, sym, ap, ap₂, subst, _∙_}
+use mathlib.Core.Path.{_≡_, refl, sym, ap, _∙_}
 use mathlib.Core.Bool.{Bool, true, false, cond, _&&_, _||_, not}
 use mathlib.Core.List.{List}
 use lib.ListN.{length}
 use lib.Dec.{eqb, ltb}
 use borrow.Author.Tests.{eq-eqb, ne-eqb, not-true, not-false}
-use Rattle.spec_fields.proofs.Tests.{split}
 use Rattle.text.specs.Text.{Text, inside, part}
 use Rattle.spec_exi.specs.Sizes.{maxString, maxUris, maxNames}
 use Rattle.names.specs.Names.{isReserved}
@@ -19,13 +18,12 @@ use Rattle.mem_names.specs.Names.{nameStore, nameFoundIn, FindableName, FoundNa
 use Rattle.mem_state.specs.declared.Core.{Core}
 use Rattle.grammar_match.specs.Found.{FindPre, FoundHere}
 use Rattle.write_partition.specs.Judged.{foundAs}
-use Rattle.write_names.specs.Uris.{UriPre, UriPost}
+use Rattle.write_names.specs.Uris.{UriPost}
 use Rattle.write_names.proofs.Uris.{uri-hit}
 use Rattle.write_names.proofs.Names.{name-hit}
-use Rattle.write_qname.specs.Premise.{partAt}
 use Rattle.write_qname.specs.Qnames.{NamePre}
 use Rattle.write_qname.proofs.Returns.{local-asks, name-judged}
-use Rattle.write_known.specs.Names.{Named, uriFound, knownIn, KnownName, unknownAs}
+use Rattle.write_known.specs.Names.{uriFound, knownIn, KnownName, unknownAs}
 use Rattle.write_known.specs.Names.{learnedIn, LearnedName}
 
 or-right : (a b : Bool) → a || b ≡ false → b ≡ false

@@ -1,9 +1,9 @@
 -- The answers of the quick steps of events with a value.
 use Prim.Native.Nat.{ℕ, _+_, _≤_, _<_}
 use native.Mathlib.Omega.{arith}
-use mathlib.Core.Path.{_≡_, refl, sym, ap, subst, _∙_}
+use mathlib.Core.Path.{_≡_, refl, sym, subst, _∙_}
 use mathlib.Core.Bool.{Bool, true, false, not}
-use mathlib.Core.List.{List, [], _∷_}
+use mathlib.Core.List.{List}
 use borrow.Author.Tests.{not-true, not-false}
 use Rattle.spec_fields.specs.Field.{Alignment}
 use Rattle.spec_fields.specs.Refusal.{numberOf, place}
@@ -19,20 +19,19 @@ use Rattle.event.specs.Cells.{asSpan, meaning}
 use Rattle.mem_layout.specs.Layout.{nameRows}
 use Rattle.mem_rows.specs.Rows.{modeAfter}
 use Rattle.mem_state.specs.declared.Core.{Core}
-use Rattle.mem_state.specs.Joining.{noStrings}
-use Rattle.mem_state.specs.Commit.{joinedUri, joinedName, joinedValue, joinedStrings, entered}
+use Rattle.mem_state.specs.Commit.{joinedUri, joinedName, joinedStrings, entered}
 use Rattle.mem_state.specs.Commit.{learnt, marked, grown, topAfter, depthAfter, tagNumber}
 use Rattle.grammar_match.specs.Here.{siteIn}
 use Rattle.grammar_update.specs.Growth.{growthOf, fitsIn}
 use Rattle.stepped.specs.Stepped.{steppedAs, movedOn}
-use Rattle.stepped.proofs.Moved.{knownStrings, moved-core, other-allowed}
+use Rattle.stepped.proofs.Moved.{moved-core, other-allowed}
 use Rattle.write_field.specs.Written.{Put}
 use Rattle.write_field.proofs.Written.{put-blank}
 use Rattle.write_values.specs.declared.ValueJudged.{ValueJudged}
 use Rattle.write_values.specs.Values.{valueBits, ValuePost}
 use Rattle.write_qname.specs.Premise.{partAt}
 use Rattle.write_qname.specs.Qnames.{joiningOf}
-use Rattle.write_content.specs.Contents.{ContentPre, withValue}
+use Rattle.write_content.specs.Contents.{ContentPre}
 use Rattle.write_content.specs.Writing.{valuedBits, contentBits}
 use Rattle.write_content.proofs.Unnamed.{characters-refused, characters-judged}
 use Rattle.write_production.proofs.First.{first-length}
@@ -40,7 +39,7 @@ use Rattle.write_event.specs.Step.{StepPre}
 use Rattle.write_event.proofs.Events.{every-one}
 use Rattle.write_known.specs.Known.{PutLearnedPre, LearnedPut, KeepPre, ValueKept}
 use Rattle.write_known.specs.Known.{LearnedPre, KnownPost}
-use Rattle.write_known.proofs.Known.{Placed, inner-placed, found-inner, learnedCode}
+use Rattle.write_known.proofs.Known.{Placed, inner-placed, found-inner}
 use Rattle.write_known.proofs.Known.{learned-here, learned-put, quick-outside, quick-refused}
 use Rattle.write_known.proofs.Known.{quick-written}
 

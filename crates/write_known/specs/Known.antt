@@ -83,4 +83,5 @@ pub record AttributePost (a : Alignment) (text : List ℕ) (value : Part) (name 
   pub steps : (n : ℕ) → n < maxEvents → (s : Settings) → s .alignment ≡ a → (opening : List ℕ)
       (uri local : Part) → inside text (asSpan uri) ≡ true → inside text (asSpan local) ≡ true
       → Named opening text true uri local c work name
-      → StepPost s opening text (meaning (Attribute uri local value)) stream work c n stream′ work′ r
+      → StepPost s opening text (meaning (Attribute uri local value)) stream work c n stream′
+      work′ r

@@ -18,7 +18,7 @@ use Rattle.mem_names.specs.Names.{nameStore, nameFoundIn}
 use Rattle.mem_state.specs.declared.Core.{Core}
 use Rattle.grammar_match.specs.Found.{foundHere, FoundHere}
 use Rattle.write_partition.specs.Judged.{foundAs}
-use Rattle.write_qname.specs.Premise.{Inside, partAt}
+use Rattle.write_qname.specs.Premise.{partAt}
 use Rattle.write_qname.specs.Qnames.{namedAs, NamePost}
 use Rattle.write_known.specs.declared.NameFound.{NameFound}
 

@@ -1,5 +1,5 @@
-// One event of a list, written: quickly where its production is learned or it is an end tag, else by
-// the general path. What a step asks and leaves is in specs of `write_event`.
+// One event of a list, written: by a quick step where one applies, else by the general path. What a
+// step asks and leaves is in specs of `write_event`.
 ghost use Rattle.settings.specs.Meant.{settingsFrom};
 ghost use Rattle.event.specs.Cells.{meaning};
 ghost use Rattle.event.specs.declared.Event.the-variants.{StartDocument, EndDocument};

@@ -1,10 +1,9 @@
 -- The answers of the quick steps of the document's start and end.
-use Prim.Native.Nat.{ℕ, _+_, _≤_, _<_}
+use Prim.Native.Nat.{ℕ}
 use native.Mathlib.Omega.{arith}
-use mathlib.Core.Path.{_≡_, refl, sym, ap, subst, _∙_}
-use mathlib.Core.Bool.{Bool, true, false, _&&_, not}
-use mathlib.Core.List.{List, []}
-use Rattle.text.specs.Text.{inside}
+use mathlib.Core.Path.{_≡_, refl, sym, ap, subst}
+use mathlib.Core.Bool.{false, not}
+use mathlib.Core.List.{List}
 use Rattle.spec_exi.specs.Settings.{Settings}
 use Rattle.spec_exi.specs.Sizes.{maxEvents, maxString}
 use Rattle.spec_exi.specs.Event.{kindOf, mapEvent, stringsOf}
@@ -15,23 +14,19 @@ use Rattle.event.specs.Cells.{meaning}
 use Rattle.event_code.specs.Numbers.{teachesIn}
 use Rattle.mem_rows.specs.Rows.{carries, modeAfter}
 use Rattle.mem_state.specs.declared.Core.{Core}
-use Rattle.mem_state.specs.Joining.{noJoining, noStrings}
+use Rattle.mem_state.specs.Joining.{noJoining}
 use Rattle.mem_state.specs.Commit.{joinedUri, joinedName, joinedValue, joinedStrings, entered}
 use Rattle.mem_state.specs.Commit.{learnt, marked, grown, topAfter, depthAfter, tagNumber}
-use Rattle.grammar_codes.specs.declared.Place.{Place}
-use Rattle.grammar_codes.specs.Table.{tables, tableOf, levelAt, numberIn, inLevel, placeIn, placeAs}
-use Rattle.grammar_codes.specs.Table.{PlaceAt}
+use Rattle.grammar_codes.specs.Table.{tables, tableOf, numberIn, inLevel, placeIn, placeAs}
 use Rattle.grammar_codes.proofs.Places.{place-is}
 use Rattle.grammar_match.specs.Here.{siteIn, CountedHere}
 use Rattle.grammar_match.specs.Found.{FoundHere}
 use Rattle.grammar_update.specs.Growth.{growthOf, fitsIn}
 use Rattle.stepped.specs.declared.Stepped.{Stepped}
-use Rattle.stepped.specs.Stepped.{steppedAs}
 use Rattle.stepped.proofs.Moved.{moved-core, other-allowed}
-use Rattle.write_content.specs.Contents.{itemsAs, plainAs, ContentPost}
+use Rattle.write_content.specs.Contents.{itemsAs}
 use Rattle.write_content.specs.Writing.{contentBits, Puttable}
 use Rattle.write_content.proofs.Unnamed.{bare-judged}
-use Rattle.write_production.specs.declared.Code.{Code}
 use Rattle.write_production.specs.Codes.{CodePre}
 use Rattle.write_event.specs.Step.{StepPre, StepPost}
 use Rattle.write_event.specs.Judge.{CodeHere}

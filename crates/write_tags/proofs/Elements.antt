@@ -3,8 +3,7 @@ use Prim.Native.Nat.{ℕ, _+_, _<_}
 use native.Mathlib.Omega.{arith}
 use mathlib.Core.Path.{_≡_, refl, sym, ap, _∙_}
 use mathlib.Core.Bool.{true, false, _&&_, not}
-use mathlib.Core.List.{List, []}
-use lib.Dec.{leb}
+use mathlib.Core.List.{List}
 use borrow.Author.Tests.{lt-leb}
 use Rattle.spec_fields.specs.Field.{Alignment}
 use Rattle.text.specs.Text.{inside}
@@ -28,14 +27,10 @@ use Rattle.grammar_match.specs.Here.{siteIn}
 use Rattle.grammar_update.specs.Growth.{growthOf, fitsIn}
 use Rattle.stepped.specs.Stepped.{steppedAs, movedOn}
 use Rattle.stepped.proofs.Moved.{moved-core, other-allowed}
-use Rattle.write_partition.specs.Judged.{foundAs}
-use Rattle.write_qname.specs.Qnames.{namedAs}
-use Rattle.write_content.specs.Contents.{plainAs, ContentPost}
 use Rattle.write_content.specs.Writing.{namedBits, contentBits}
 use Rattle.write_content.proofs.Named.{element-judged}
 use Rattle.write_event.specs.Step.{StepPre}
 use Rattle.write_event.proofs.Events.{every-two}
-use Rattle.write_known.specs.Names.{Named}
 use Rattle.write_known.specs.Known.{LearnedPre, LearnedPut}
 use Rattle.write_known.proofs.Known.{Placed, inner-placed, learned-here, learned-put}
 use Rattle.write_known.proofs.Known.{quick-coded}

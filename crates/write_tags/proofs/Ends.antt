@@ -1,11 +1,10 @@
 -- The answers of the quick steps of end tags.
-use Prim.Native.Nat.{ℕ, _+_, _-_, _≤_, _<_}
+use Prim.Native.Nat.{ℕ, _-_}
 use native.Mathlib.Omega.{arith}
 use mathlib.Core.Path.{_≡_, refl, sym, ap, subst, _∙_}
-use mathlib.Core.Bool.{Bool, true, false, _&&_, not}
-use mathlib.Core.List.{List, []}
+use mathlib.Core.Bool.{false, _&&_, not}
+use mathlib.Core.List.{List}
 use Rattle.spec_fields.specs.Field.{Alignment}
-use Rattle.text.specs.Text.{inside}
 use Rattle.spec_exi.specs.Settings.{Settings}
 use Rattle.spec_exi.specs.Sizes.{maxEvents, maxString}
 use Rattle.spec_exi.specs.Event.{EE, kindOf, mapEvent, stringsOf}
@@ -19,7 +18,6 @@ use Rattle.mem_state.specs.declared.Core.{Core}
 use Rattle.mem_state.specs.Joining.{noJoining, noStrings}
 use Rattle.mem_state.specs.Commit.{joinedUri, joinedName, joinedValue, joinedStrings, entered}
 use Rattle.mem_state.specs.Commit.{learnt, marked, grown, topAfter, depthAfter, tagNumber}
-use Rattle.grammar_codes.specs.declared.Place.{Place}
 use Rattle.grammar_codes.specs.Table.{tables, tableOf, numberIn, inLevel, placeIn, placeAs, PlaceAt}
 use Rattle.grammar_codes.proofs.Places.{place-is}
 use Rattle.grammar_match.specs.Here.{siteIn, CountedHere}

@@ -47,7 +47,8 @@ pub record ElementPost (a : Alignment) (name : ℕ) (stream work : List ℕ) (c 
 
 -- The kind is the first of its state, and SD or ED.
 pub record OuterPre (s : Settings) (c : Core) (kind : ℕ) : Type 0 where
-  pub place : PlaceAt (s .comments) (s .instructions) (c .mode) kind (record { level = 0; value = 0 })
+  pub place : PlaceAt (s .comments) (s .instructions) (c .mode) kind
+      (record { level = 0; value = 0 })
   pub few : kind ≤ 1
 
 pub record OuterPost (s : Settings) (kind : ℕ) (stream work : List ℕ) (c : Core) (n : ℕ)
