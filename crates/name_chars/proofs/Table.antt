@@ -4,15 +4,19 @@ use native.Mathlib.Omega.{arith}
 use mathlib.Core.Path.{_≡_, refl, ap, _∙_}
 use mathlib.Core.Bool.{Bool, true, false, cond, not, _||_}
 use mathlib.Core.List.{List, [], _∷_}
-use lib.ListN.{getD}
+use lib.ListN.{length, getD}
 use lib.Dec.{eqb}
 use Rattle.text.specs.Names.{inRanges, furtherRanges, isNameStart, isNameChar}
-use Rattle.name_chars.specs.Class.{first, further, noName, classOf}
+use Rattle.name_chars.specs.Class.{first, further, noName, classOf, classes, table}
 
--- The classes of n code points from k on.
-unfoldable pub classes : ℕ → ℕ → List ℕ
-classes k zero = []
-classes k (suc n) = classOf k ∷ classes (suc k) n
+classes-size : (k n : ℕ) → length (classes k n) ≡ n
+unfolding classes
+classes-size k zero = refl
+classes-size k (suc n) = ap suc (classes-size (suc k) n)
+
+pub table-size : length table ≡ 768
+unfolding table
+table-size = classes-size 0 768
 
 entry-from : (n k i : ℕ) → i < n → getD (classes k n) i 0 ≡ classOf (k + i)
 unfolding classes
@@ -22,7 +26,8 @@ entry-from (suc n) k (suc i) h =
     let e : k + suc i ≡ suc k + i = omega arith in
     rw e (entry-from n (suc k) i (omega arith))
 
-pub entry : (p : ℕ) → p < 768 → getD (classes 0 768) p 0 ≡ classOf p
+pub entry : (p : ℕ) → p < 768 → getD table p 0 ≡ classOf p
+unfolding table
 entry p h = let e : 0 + p ≡ p = omega arith in entry-from 768 0 p h ∙ ap classOf e
 
 -- What the two tests read from a class.

@@ -1,7 +1,7 @@
 // The classes of the code points below 768 (02, P10).
 ghost use mathlib.Core.Path.{_≡_};
 ghost use Prim.Native.Nat.{_<_};
-ghost use Rattle.name_chars.specs.Class.{classOf};
+ghost use Rattle.name_chars.specs.Class.{classOf, table};
 
 // How many code points have their class in the table.
 pub const TABLED: u32 = 768;
@@ -13,7 +13,7 @@ pub const FIRST: u8 = b'A';
 pub const NONE: u8 = b'.';
 
 // The class of each, 64 in a line: from 0, 0x40 (@), 0x80, 0xC0, 0x100 .. on.
-const CLASS: [u8; 768] = *b".............................................11.1111111111......\
+pub const CLASS: [u8; 768] = *b".............................................11.1111111111......\
       .AAAAAAAAAAAAAAAAAAAAAAAAAA....A.AAAAAAAAAAAAAAAAAAAAAAAAAA.....\
       .......................................................1........\
       AAAAAAAAAAAAAAAAAAAAAAA.AAAAAAAAAAAAAAAAAAAAAAAAAAAAAAA.AAAAAAAA\
@@ -26,9 +26,11 @@ const CLASS: [u8; 768] = *b".............................................11.1111
       AAAAAAAAAAAAAAAAAAAAAAAAAAAAAAAAAAAAAAAAAAAAAAAAAAAAAAAAAAAAAAAA\
       AAAAAAAAAAAAAAAAAAAAAAAAAAAAAAAAAAAAAAAAAAAAAAAAAAAAAAAAAAAAAAAA";
 
-pub fn class_of(p: u32) -> u8
+// Reads the class of a code point from the table.
+pub fn class_in(classes: &[u8], p: u32) -> u8
+    requires { ⌜ now classes ≡ table ⌝ }
     requires { ⌜ p < 768 ⌝ }
     ensures { λ r. ⌜ r ≡ classOf p ⌝ }
 {
-    CLASS[p as usize]
+    classes[p as usize]
 }

@@ -5,6 +5,7 @@ ghost use mathlib.Core.Bool.{_||_};
 ghost use Prim.Native.Nat.{_≤_};
 ghost use lib.Dec.{eqb};
 ghost use Rattle.text.specs.Names.{isNameStart, isNameChar, isNCName, isXml};
+ghost use Rattle.name_chars.specs.Class.{table};
 
 mod class;
 
@@ -28,21 +29,23 @@ fn is_high_start(p: u32) -> bool
 }
 
 // Tells what may stand first in a name: by the table alone where that has its class (02, P10).
-pub fn is_name_start(p: u32) -> bool
+fn is_name_start(classes: &[u8], p: u32) -> bool
+    requires { ⌜ now classes ≡ table ⌝ }
     ensures { λ r. ⌜ r ≡ isNameStart p ⌝ }
 {
     if p < class::TABLED {
-        return class::class_of(p) == class::FIRST;
+        return class::class_in(classes, p) == class::FIRST;
     }
     is_high_start(p)
 }
 
 // Tells what may stand in a name (XML 1.0, production 4a).
-pub fn is_name_char(p: u32) -> bool
+fn is_name_char(classes: &[u8], p: u32) -> bool
+    requires { ⌜ now classes ≡ table ⌝ }
     ensures { λ r. ⌜ r ≡ isNameChar p ⌝ }
 {
     if p < class::TABLED {
-        return class::class_of(p) != class::NONE;
+        return class::class_in(classes, p) != class::NONE;
     }
     if is_high_start(p) {
         return true;
@@ -55,19 +58,20 @@ pub fn is_name_char(p: u32) -> bool
 }
 
 // Tells an NCName (Namespaces in XML 1.0, production 4), in a part that may start anywhere in a
-// store.
+// store. The table is taken once: a constant array is built anew wherever it is named.
 pub fn is_ncname(x: &[u32]) -> bool
     ensures { λ r. ⌜ r ≡ isNCName (now (x .entry)) ⌝ }
 {
     if x.len() == 0 {
         return false;
     }
-    if !is_name_start(x[0]) {
+    let classes = class::CLASS;
+    if !is_name_start(&classes, x[0]) {
         return false;
     }
     let mut i = 1;
     while i < x.len() {
-        if !is_name_char(x[i]) {
+        if !is_name_char(&classes, x[i]) {
             return false;
         }
         i += 1;

@@ -8,11 +8,11 @@ use borrow.Author.Needs.{needs}
 use Rattle.name_chars.proofs.is_name_char.Statement.{statement}
 use Rattle.name_chars.proofs.is_name_char.Tie as tie
 
-class-of-requires : tie.Need-class-of-requires
-class-of-requires c κs = search needs
+class-in-requires : tie.Need-class-in-requires
+class-in-requires c κs = search needs
 
 returns : tie.Need-returns
-returns c = class-some _ _ (c .class-of .ensures)
+returns c = class-some _ _ (c .class-in .ensures)
 
 is-high-start-requires : tie.Need-is-high-start-requires
 is-high-start-requires c κs = search needs
@@ -49,7 +49,7 @@ pub is-name-char-spec : {M : Type 1} → statement M
 is-name-char-spec =
     tie.close
     (tie.spec
-    class-of-requires
+    class-in-requires
     returns
     is-high-start-requires
     returns-2

@@ -4,11 +4,11 @@ use borrow.Author.Needs.{needs}
 use Rattle.name_chars.proofs.is_name_start.Statement.{statement}
 use Rattle.name_chars.proofs.is_name_start.Tie as tie
 
-class-of-requires : tie.Need-class-of-requires
-class-of-requires c κs = search needs
+class-in-requires : tie.Need-class-in-requires
+class-in-requires c κs = search needs
 
 returns : tie.Need-returns
-returns c = class-first _ _ (c .class-of .ensures)
+returns c = class-first _ _ (c .class-in .ensures)
 
 is-high-start-requires : tie.Need-is-high-start-requires
 is-high-start-requires c κs = search needs
@@ -18,4 +18,4 @@ returns-2 c = search needs
 
 pub is-name-start-spec : {M : Type 1} → statement M
 is-name-start-spec =
-    tie.close (tie.spec class-of-requires returns is-high-start-requires returns-2)
+    tie.close (tie.spec class-in-requires returns is-high-start-requires returns-2)
