@@ -107,7 +107,8 @@ pub fn with_value(s: Strings, owner: u32, joins: bool, place: u32, size: u32, ha
 
 // ---- rows
 
-fn join_uri(work: &mut [u32], n: u32, joins: bool, place: u32, size: u32)
+// Adds a URI that joins.
+pub fn join_uri(work: &mut [u32], n: u32, joins: bool, place: u32, size: u32)
     requires { ⌜ UriPre (now work) n (joining joins place size 0) ⌝ }
     ensures { λ _. ⌜
         now (work .exit) ≡ joinedUri n (joining joins place size 0) (now (work .entry)) ⌝ }
@@ -118,7 +119,8 @@ fn join_uri(work: &mut [u32], n: u32, joins: bool, place: u32, size: u32)
     mem_names::add_uri(work, n, place, size, n);
 }
 
-fn join_name(work: &mut [u32], n: u32, uri: u32, joins: bool, place: u32, size: u32, hash: u32)
+// Adds a local name that joins.
+pub fn join_name(work: &mut [u32], n: u32, uri: u32, joins: bool, place: u32, size: u32, hash: u32)
     requires { ⌜ NamePre (now work) n uri (joining joins place size hash) ⌝ }
     ensures { λ _. ⌜
         now (work .exit) ≡ joinedName n uri (joining joins place size hash) (now (work .entry)) ⌝ }

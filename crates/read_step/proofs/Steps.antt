@@ -2,7 +2,7 @@
 use Prim.Native.Nat.{ℕ, _≤_, _<_}
 use native.Mathlib.Omega.{arith}
 use mathlib.Core.Path.{_≡_}
-use mathlib.Core.Bool.{Bool, true, _&&_}
+use mathlib.Core.Bool.{Bool, true, false, _&&_}
 use mathlib.Core.List.{List}
 use lib.Dec.{eqb}
 use borrow.Author.Tests.{eqb-true}
@@ -17,6 +17,7 @@ use Rattle.read_production.specs.Production.{ProductionBounds}
 use Rattle.read_event.specs.Step.{StepPre}
 use Rattle.read_known.specs.Known.{LearnedPre}
 use Rattle.read_tags.specs.Tags.{TagPre}
+use Rattle.read_first.specs.First.{FirstPre}
 use Rattle.read_step.specs.Codes.{ByCode}
 
 module _ {b : Bool} {s : Settings} {stream work : List ℕ} {c : Core} {p : ProductionRead}
@@ -51,6 +52,12 @@ module _ {b : Bool} {s : Settings} {stream work : List ℕ} {c : Core} {p : Prod
   -- Start and end of the document stand outside of elements.
   pub outside : p .kind ≤ numberED → c .mode < inTag
   outside = bounds .stands .outside
+
+-- By a production that is not learned.
+pub first-asks : {s : Settings} {stream work : List ℕ} {c : Core} {p : ProductionRead}
+    → ByCode false s stream work c p → (k : Kind) → p .kind ≡ kindNumber k
+    → FirstPre k s stream work c p
+first-asks h k e = record { code = h .code; fixed = h .is; kind = e }
 
 -- By a learned production.
 module _ {s : Settings} {stream work : List ℕ} {c : Core} {p : ProductionRead}

@@ -98,6 +98,10 @@ fn fixed(
     match kind {
         SD => read_tags::start_document(p, c, cell, n, events),
         ED => read_tags::end_document(p, c, cell, n, events),
+        SE => read_new::new_element(o, stream, p, c, cell, n, events, text, work),
+        AT => read_new::new_attribute(o, stream, p, c, cell, events, text, work),
+        EE => read_first::first_end(p, c, cell, n, events, work),
+        CH => read_first::first_characters(o, stream, p, c, cell, n, events, text, work),
         _ => general(o, stream, p, c, cell, n, events, text, work),
     }
 }
