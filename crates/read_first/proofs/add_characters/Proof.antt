@@ -12,7 +12,6 @@ part-of-requires : tie.Need-part-of-requires
 part-of-requires c κs = search needs
 
 store-requires : tie.Need-store-requires
-unfolding cellsPerEvent
 store-requires c κs =
     let pre = c .before .before .before .before .pre in
     pre .1 .cells
@@ -52,7 +51,7 @@ same-length-2 : tie.Need-same-length-2
 same-length-2 c = search needs
 
 returns : tie.Need-returns
-unfolding cellsPerEvent kindNumber joinedStrings joinedUri joinedName topAfter depthAfter tagNumber
+unfolding kindNumber joinedStrings joinedUri joinedName topAfter depthAfter tagNumber
 returns c =
     let pre = c .before .before .before .before .before .before .before .before .before .before .before .before
     .before .before .before .before .before .before .pre in

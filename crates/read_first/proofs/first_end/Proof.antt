@@ -39,7 +39,6 @@ returns c =
     rw (c .answer .ensures) (end-refused tag room fixed g j (omega (arith, c .before .if1 .taken)))
 
 store-requires : tie.Need-store-requires
-unfolding cellsPerEvent
 store-requires c κs =
     let tag = c .before .before .before .before .before .before .before .before .pre .0 in
     tag .cells
@@ -86,7 +85,7 @@ same-length-3 : tie.Need-same-length-3
 same-length-3 c = search needs
 
 returns-2 : tie.Need-returns-2
-unfolding cellsPerEvent kindNumber
+unfolding kindNumber
 returns-2 c =
     let tag = c .before .before .before .before .before .before .before .before .before .before .before .before
     .before .before .before .before .before .before .before .pre .0 in

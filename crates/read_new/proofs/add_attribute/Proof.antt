@@ -21,7 +21,6 @@ part-of-requires-3 : tie.Need-part-of-requires-3
 part-of-requires-3 c κs = search needs
 
 store-requires : tie.Need-store-requires
-unfolding cellsPerEvent
 store-requires c κs =
     let pre = c .before .before .before .before .before .before .pre .1 in
     pre .cells
@@ -69,7 +68,7 @@ same-length-2 : tie.Need-same-length-2
 same-length-2 c = search needs
 
 returns : tie.Need-returns
-unfolding cellsPerEvent kindNumber modeAfter topAfter depthAfter tagNumber
+unfolding kindNumber modeAfter topAfter depthAfter tagNumber
 returns c =
     let pre = c .before .before .before .before .before .before .before .before .before .before .before .before
     .before .before .before .before .before .before .before .before .before .before .pre .1 in

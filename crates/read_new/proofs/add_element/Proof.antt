@@ -16,7 +16,6 @@ part-of-requires-2 : tie.Need-part-of-requires-2
 part-of-requires-2 c κs = search needs
 
 store-requires : tie.Need-store-requires
-unfolding cellsPerEvent
 store-requires c κs =
     let pre = c .before .before .before .before .before .pre .1 .1 in
     pre .cells
@@ -60,7 +59,7 @@ same-length-2 : tie.Need-same-length-2
 same-length-2 c = search needs
 
 returns : tie.Need-returns
-unfolding cellsPerEvent kindNumber joinedStrings joinedValue modeAfter topAfter depthAfter tagNumber
+unfolding kindNumber joinedStrings joinedValue modeAfter topAfter depthAfter tagNumber
 returns c =
     let pre = c .before .before .before .before .before .before .before .before .before .before .before .before
     .before .before .before .before .before .before .before .pre .1 .1 in
