@@ -36,10 +36,22 @@ pub record Lying (s : List ℕ) (at n : ℕ) : Type 0 where
   pub few : FewIn s at n
   pub inside : at + n ≤ 8 * length s
 
+-- One to sixteen bits at a position, which the stream has.
+pub record Cuttable (s : List ℕ) (at n : ℕ) : Type 0 where
+  pub there : InStream s at
+  pub some : 0 < n
+  pub most : n ≤ 16
+  pub inside : at + n ≤ 8 * length s
+
 -- The bits of a choice among two to 256: byte-aligned an octet.
 unfoldable pub few : Bool → ℕ → ℕ
 few true m = 8
 few false m = width m
+
+-- Those of a choice among more: byte-aligned two octets.
+unfoldable pub broad : Bool → ℕ → ℕ
+broad true m = 16
+broad false m = width m
 
 -- An Unsigned Integer after groups that come to `low`: at most k more octets, the next group of this
 -- weight.

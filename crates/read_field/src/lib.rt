@@ -4,8 +4,10 @@ ghost use Prim.Native.Nat.{_+_, _*_, _/_, _%_, _^_, _≤_, _<_};
 ghost use lib.ListN.{length, drop};
 ghost use Rattle.spec_fields.specs.Bits.{unpack};
 ghost use Rattle.spec_fields.specs.Field.{bitPacked, byteAligned, octet, numberField, width, unsigned};
+ghost use Rattle.read_field.specs.declared.Field.the-variants.{Value};
 ghost use Rattle.read_field.specs.View.{fieldAt, alignmentOf, InStream, NumberIn};
-ghost use Rattle.read_field.specs.Parts.{Octet, Peeked, FewIn, Lying, ahead, few, onward};
+ghost use Rattle.read_field.specs.Parts.{Octet, Peeked, FewIn, Lying, Cuttable, ahead};
+ghost use Rattle.read_field.specs.Parts.{few, broad, onward};
 
 // The stream ends inside the field.
 const ENDED: u8 = 5;
@@ -64,8 +66,24 @@ fn few_bits(s: &[u8], at: usize, n: u32) -> Field
     }
 }
 
-// n bits, most significant first, cut out of the octets that they touch: none to three. Where they
-// are fewer the first stands in the window more than once, and the mask takes that away.
+// One to sixteen bits that lie in the stream, cut out of the octets that they touch: one to three.
+// Where they are fewer the first stands in the window more than once, and the mask takes that away.
+fn cut(s: &[u8], at: usize, n: u32) -> u32
+    requires { ⌜ Cuttable (now s) at n ⌝ }
+    ensures { λ r. ⌜ fieldAt (numberField bitPacked n) (now (s .entry)) at ≡ Value r (at + n) ⌝ }
+{
+    let next = at + n as usize;
+    let first = at / 8;
+    let last = (next - 1) / 8;
+    let high = octet_at(s, first);
+    let middle = octet_at(s, (first + last) / 2);
+    let low = octet_at(s, last);
+    let window = high * 65536 + middle * 256 + low;
+    let power: u32 = 1 << n;
+    (window >> (7 - (next - 1) % 8)) & (power - 1)
+}
+
+// n bits, most significant first: none to sixteen.
 fn bits(s: &[u8], at: usize, n: u32) -> Field
     requires { ⌜ NumberIn (now s) at n 16 ⌝ }
     ensures { λ r. ⌜ r ≡ fieldAt (numberField bitPacked n) (now (s .entry)) at ⌝ }
@@ -74,18 +92,11 @@ fn bits(s: &[u8], at: usize, n: u32) -> Field
     if 8 * s.len() < next {
         return Field::Refused(ENDED);
     }
-    if next <= at {
+    if n == 0 {
         return Field::Value { value: 0, next };
     }
-    let first = at / 8;
-    let last = (next - 1) / 8;
-    let high = octet_at(s, first);
-    let middle = octet_at(s, (first + last) / 2);
-    let low = octet_at(s, last);
-    let window = high * 65536 + middle * 256 + low;
-    let power: u32 = 1 << n;
     Field::Value {
-        value: (window >> (7 - (next - 1) % 8)) & (power - 1),
+        value: cut(s, at, n),
         next,
     }
 }
@@ -158,6 +169,39 @@ pub fn few(aligned: bool, m: u32) -> u32
     width(m)
 }
 
+// How many bits the field of a choice among more than 256 has.
+fn broad(aligned: bool, m: u32) -> u32
+    requires { ⌜ m ≤ 65536 ⌝ }
+    ensures { λ r. ⌜ r ≡ broad aligned m ⌝ }
+{
+    if aligned {
+        return 16;
+    }
+    width(m)
+}
+
+// The number in the field of a choice among more than 256.
+fn many(aligned: bool, s: &[u8], at: usize, m: u32) -> Field
+    requires { ⌜ NumberIn (now s) at m 65536 ⌝ }
+    requires { ⌜ 256 < m ⌝ }
+    ensures { λ r. ⌜
+        r ≡ fieldAt (numberField (alignmentOf aligned) (width m)) (now (s .entry)) at ⌝ }
+{
+    let n = broad(aligned, m);
+    let next = at + n as usize;
+    if 8 * s.len() < next {
+        return Field::Refused(ENDED);
+    }
+    let x = cut(s, at, n);
+    if aligned {
+        return Field::Value {
+            value: exchanged(x),
+            next,
+        };
+    }
+    Field::Value { value: x, next }
+}
+
 // The number in the field of a choice among m. It may be m or more, which the caller judges.
 pub fn choice(aligned: bool, s: &[u8], at: usize, m: u32) -> Field
     requires { ⌜ NumberIn (now s) at m 65536 ⌝ }
@@ -169,7 +213,7 @@ pub fn choice(aligned: bool, s: &[u8], at: usize, m: u32) -> Field
     if m <= 256 {
         return few_bits(s, at, few(aligned, m));
     }
-    number(aligned, s, at, width(m))
+    many(aligned, s, at, m)
 }
 
 fn wide(x: u32) -> u64
