@@ -24,6 +24,7 @@ use event_code::EE;
 use event_code::PI;
 use event_code::SD;
 use event_code::SE;
+use grammar_codes::MAX_LEVELS;
 use grammar_codes::Place;
 use mem_state::Core;
 use mem_state::Growth;
@@ -123,7 +124,10 @@ fn refused(number: u32, c: Core) -> EventJudged
         partition: NEITHER,
         id: 0,
     };
-    let place = Place { level: 3, value: 0 };
+    let place = Place {
+        level: MAX_LEVELS,
+        value: 0,
+    };
     let code = Code {
         learned: false,
         count: 0,
@@ -186,7 +190,7 @@ fn judge_event(
 {
     let kind = kind_of(e);
     let place = grammar_codes::place_of(c.mode, kind, o.comments, o.instructions);
-    if place.level == 3 {
+    if place.level == MAX_LEVELS {
         return refused(SHAPE, c);
     }
     if !places_fit(text, e) {
