@@ -203,10 +203,11 @@ plumethrift_read_reply plumethrift_read(plumethrift_settings settings,
  * element, and no two of one start tag have the same URI and local name. Kinds that the settings
  * drop are not allowed.
  *
- * Its strings have only XML 1.0 Chars. Local names are NCNames of Namespaces in XML 1.0, and so are
- * targets, but not xml in any case; no attribute is nil or type of XMLSchema-instance: else NAME. A
- * comment has no two hyphens in a row and none at its end, the text of an instruction no ?>: else
- * CHARACTER. URIs and values are free of this.
+ * Its strings have only XML 1.0 Chars. Local names are NCNames of Namespaces in XML 1.0 (by XML 1.0,
+ * Fifth Edition), and so are targets, but not xml in any case; no attribute is nil or type of
+ * XMLSchema-instance: else NAME. A comment has no two hyphens in a row and none at its end, the text
+ * of an instruction no ?>: else CHARACTER. URIs and values have no rule but that of Chars. What a
+ * stream holds is judged so, too, each string once it is whole.
  */
 plumethrift_write_reply plumethrift_write(plumethrift_settings settings,
                                           uint8_t *stream, size_t stream_octets,
