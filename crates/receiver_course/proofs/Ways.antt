@@ -22,7 +22,7 @@ use Rattle.receiver_record.specs.Record.{isStarted, goingOn, isRefused, isClose
 use Rattle.receiver_course.specs.declared.Course.{Course}
 use Rattle.receiver_course.specs.declared.Course.the-variants.{Repeats, Refused, Reads}
 use Rattle.receiver_course.specs.Course.{hasRoom, tablesIn, elementsIn, numbersIn, isSound}
-use Rattle.receiver_course.specs.Course.{courseOf}
+use Rattle.receiver_course.specs.Course.{courseOf, Within}
 
 -- ---- soundness
 
@@ -179,12 +179,6 @@ roomy-is h e t w x =
       store = leb-true maxStore t (c₂ .other);
       rows = leb-true readerWork w (c₃ .other);
     }
-
--- The bounds of a record that goes on.
-pub record Within (r : Receiver) : Type 0 where
-  pub place : r .state .core .at ≤ 8 * r .octets
-  pub bounded : Bounded (r .state .core)
-  pub few : r .reply .events ≤ maxEvents
 
 mode-fits : (c : Core) → leb (c .mode) inElement ≡ true
     → (leb inTag (c .mode) || eqb (c .depth) 0) ≡ true → (ltb (c .mode) inTag || ltb 0 (c .depth)) ≡ true

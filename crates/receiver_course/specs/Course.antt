@@ -1,5 +1,5 @@
 -- Which way a call goes, by the record, the piece's length and the lengths of what is lent.
-use Prim.Native.Nat.{ℕ, _+_, _*_}
+use Prim.Native.Nat.{ℕ, _+_, _*_, _≤_}
 use mathlib.Core.Bool.{Bool, false, cond, _&&_, _||_}
 use lib.Dec.{leb, ltb, eqb}
 use Rattle.spec_exi.specs.Sizes.{maxStream, maxEvents, maxOpen, maxUris, maxNames, maxValues}
@@ -10,6 +10,7 @@ use Rattle.settings.specs.Meant.{numbersOf}
 use Rattle.mem_layout.specs.Layout.{nameRows}
 use Rattle.mem_rows.specs.Rows.{inTag, inElement}
 use Rattle.mem_state.specs.declared.Core.{Core}
+use Rattle.mem_state.specs.Holds.{Bounded}
 use Rattle.reader.specs.declared.ReadReply.{ReadReply}
 use Rattle.receiver_record.specs.declared.Receiver.{Receiver}
 use Rattle.receiver_record.specs.Record.{isStarted, goingOn, isRefused, isClosed, refusalAt}
@@ -41,6 +42,12 @@ numbersIn r =
     tablesIn (r .state .core) && elementsIn (r .state .core)
     && leb (r .state .core .at) (8 * r .octets) && leb (r .reply .events) maxEvents
     && leb (r .wait .at) (8 * r .octets) && leb (r .wait .left) maxString
+
+-- The bounds that these tests give.
+pub record Within (r : Receiver) : Type 0 where
+  pub place : r .state .core .at ≤ 8 * r .octets
+  pub bounded : Bounded (r .state .core)
+  pub few : r .reply .events ≤ maxEvents
 
 -- A call can go on from the record: it is started, or its numbers are within their bounds.
 unfoldable pub isSound : Receiver → Bool
