@@ -4,8 +4,8 @@ use mathlib.Core.Bool.{Bool, true, false, not, _&&_, _||_, true≢false}
 use Prim.Native.Nat.{ℕ, _+_, _*_, _-_, _≤_, _<_}
 use native.Mathlib.Omega.{arith}
 use lib.Dec.{leb, ltb, eqb}
-use borrow.Author.Tests.{eq-eqb, ne-eqb, le-leb, lt-leb, leb-true, ltb-true, eqb-true, not-true}
-use borrow.Author.Tests.{not-false}
+use borrow.Author.Tests.{eq-eqb, ne-eqb, le-leb, lt-leb, lt-ltb, leb-true, leb-false, ltb-true}
+use borrow.Author.Tests.{eqb-true, not-true, not-false}
 use Rattle.spec_fields.specs.Refusal.{numberOf, room, settings, long}
 use Rattle.spec_fields.proofs.Tests.{split}
 use Rattle.spec_exi.specs.Settings.{meaningful}
@@ -25,6 +25,9 @@ use Rattle.receiver_course.specs.Course.{hasRoom, tablesIn, elementsIn, 
 use Rattle.receiver_course.specs.Course.{courseOf, Within}
 
 -- ---- soundness
+
+pub going-not-started : {n : ℕ} → n ≡ goingOn → n ≡ isStarted → ⊥
+going-not-started e f = let z : _≡_ {A = ℕ} 1 0 = sym e ∙ f in absurd (omega arith)
 
 module _ (r : Receiver) where
   pub started-sound : r .phase ≡ 0 → eqb (r .octets) 0 ≡ isSound r
@@ -232,6 +235,8 @@ numbers-within r h =
       place = leb-true (r .state .core .at) (8 * r .octets) (c₂ .other);
       bounded = core-bounded (r .state .core) (c₁ .one) (c₁ .other);
       few = leb-true (r .reply .events) maxEvents (c₃ .other);
+      waits = leb-true (r .wait .at) (8 * r .octets) (c₄ .other);
+      awaited = leb-true (r .wait .left) maxString (c₅ .other);
     }
 
 -- A record that is sound is started and has no octets, or goes on within its bounds.
@@ -252,3 +257,36 @@ module _ (r : Receiver) (sound : isSound r ≡ true) where
         numbers-within r
         (rw (ne-eqb (r .phase) isStarted a, eq-eqb (r .phase) goingOn sound-goes,
         le-leb (r .octets) maxStream (sound-few r sound)) at sound)
+
+-- ---- a record within its bounds is sound
+
+tables-are : (c : Core) → Bounded c → tablesIn c ≡ true
+unfolding tablesIn
+tables-are c b =
+    rw (le-leb (c .stored) maxStore (b .stored), le-leb (c .uris) maxUris (b .uris),
+    le-leb (c .names) maxNames (b .names), le-leb (c .values) maxValues (b .values),
+    le-leb (c .learned) maxLearned (b .learned), le-leb (c .grammars) maxGrammars (b .grammars))
+
+elements-are : (c : Core) → Bounded c → elementsIn c ≡ true
+unfolding elementsIn
+elements-are c b =
+    rw (le-leb (c .tag) (maxEvents + 1) (b .tag), le-leb (c .depth) maxOpen (b .depth),
+    lt-ltb (c .top) nameRows (b .top), le-leb (c .mode) inElement (b .fits .known))
+    (split (leb inTag (c .mode))
+    (λ e.
+    let inside = lt-ltb 0 (c .depth) (b .fits .inner (leb-true inTag (c .mode) e)) in
+    split (ltb (c .mode) inTag) (λ f. rw (e, f)) (λ f. rw (e, f, inside)))
+    (λ e.
+    let l : c .mode < inTag = leb-false inTag (c .mode) e in
+    rw (e, eq-eqb (c .depth) 0 (b .fits .outer l), lt-ltb (c .mode) inTag l)))
+
+pub within-sound : (r : Receiver) → r .phase ≡ goingOn → r .octets ≤ maxStream → Within r
+    → isSound r ≡ true
+unfolding isSound numbersIn
+within-sound r e l w =
+    rw (eq-eqb (r .phase) goingOn e, ne-eqb (r .phase) isStarted (going-not-started e),
+    le-leb (r .octets) maxStream l, tables-are (r .state .core) (w .bounded),
+    elements-are (r .state .core) (w .bounded),
+    le-leb (r .state .core .at) (8 * r .octets) (w .place),
+    le-leb (r .reply .events) maxEvents (w .few), le-leb (r .wait .at) (8 * r .octets) (w .waits),
+    le-leb (r .wait .left) maxString (w .awaited))

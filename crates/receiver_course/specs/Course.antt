@@ -48,6 +48,8 @@ pub record Within (r : Receiver) : Type 0 where
   pub place : r .state .core .at ≤ 8 * r .octets
   pub bounded : Bounded (r .state .core)
   pub few : r .reply .events ≤ maxEvents
+  pub waits : r .wait .at ≤ 8 * r .octets
+  pub awaited : r .wait .left ≤ maxString
 
 -- A call can go on from the record: it is started, or its numbers are within their bounds.
 unfoldable pub isSound : Receiver → Bool

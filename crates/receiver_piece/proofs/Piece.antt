@@ -31,7 +31,8 @@ use Rattle.receiver_record.specs.declared.Handed.{Handed}
 use Rattle.receiver_record.specs.Record.{isStarted, goingOn, isRefused, refusalAt, startedWith}
 use Rattle.receiver_record.specs.Record.{withReply, Lent, lent, cleared, Left, left, handed}
 use Rattle.receiver_course.specs.Course.{counted, refusedAfter, isSound, Within}
-use Rattle.receiver_course.proofs.Ways.{Roomy, roomy-is, sound-started, sound-within}
+use Rattle.receiver_course.proofs.Ways.{Roomy, roomy-is, sound-within, going-not-started}
+use Rattle.receiver_course.proofs.Ways.{within-sound}
 use Rattle.receiver_phases.specs.Phases.{kept, refused}
 use Rattle.receiver_read.specs.On.{BeginPre, BeginPost, Underway, Stands, Onward, OnPost}
 use Rattle.receiver_read.proofs.Longer.{underway-longer}
@@ -91,7 +92,7 @@ on-as e h = rw e at h
 
 -- ---- the octets
 
-cleared-same : {m m₁ : Lent} → SameLengths m m₁ → cleared m₁ ≡ cleared m
+pub cleared-same : {m m₁ : Lent} → SameLengths m m₁ → cleared m₁ ≡ cleared m
 unfolding cleared
 cleared-same e = rw (e .held, e .events, e .text, e .work)
 
@@ -133,7 +134,7 @@ module _ {r : Receiver} {p : List ℕ} {m : Lent} (pre : GoOnPre r p m) where
       (post : OnPost (settingsFrom (settingsMeant (r .settings))) (take (r .octets + length p) held₁)
       (m .events) (m .text) (m .work) (r .state) (r .reply .events) events′ text′ work′ a) where
     pub conclude-asks : ConcludePre r (length p) a
-    conclude-asks = record { few = pre .few; upTo = post .upTo; stored = post .stored }
+    conclude-asks = record { few = pre .few; upTo = post .upTo; stored = post .bounded .stored }
 
     module _ (same : SameLengths m (lent held₁ events′ text′ work′)) where
       abbrev m₁ : Lent
@@ -177,19 +178,33 @@ module _ {r : Receiver} {p : List ℕ} {m : Lent} (pre : GoOnPre r p m) where
           | no e ↦ onward .waits (is-five a t e)
         ]
 
+        sound-on : isSound (wentOn r (length p) a .receiver) ≡ true
+        unfolding wentOn shown
+        sound-on =
+            let n = ap length stream-is in
+            within-sound (wentOn r (length p) a .receiver) refl (pre .few)
+            (record {
+              place = omega (arith, post .inside, n, total);
+              bounded = post .bounded;
+              few = post .upTo;
+              waits = omega (arith, pre .within .waits);
+              awaited = pre .within .awaited;
+            })
+
         took-on : goes r (length p) a m₁ ≡ true
             → Took r (os ++ p) m (wentOn r (length p) a .receiver) m₁ (wentOn r (length p) a .reply)
         unfolding wentOn shown
         took-on t =
             let h = stands t in
             record {
-              told = told-stands h (omega (arith, post .stored, roomy .store, same .text)) held₁ m
+              told = told-stands h (omega (arith, post .bounded .stored, roomy .store, same .text)) held₁ m
                   (receive-stands (roomOf m) (numbersOf (r .settings)) (os ++ p) enough
                   (pre .meant) short h)
                   (same .events) (same .text);
               goes = λ _.
                   record {
                     phase = refl;
+                    sound = sound-on;
                     count = total;
                     held = ap (λ n. take n held₁) (sym total) ∙ stream-is;
                     reply = refl;
@@ -276,9 +291,6 @@ begun-already r n =
 
 -- ---- any piece
 
-going-not-started : {n : ℕ} → n ≡ goingOn → n ≡ isStarted → ⊥
-going-not-started e f = let z : _≡_ {A = ℕ} 1 0 = sym e ∙ f in absurd (omega arith)
-
 told-as : {a : Answer Reading} {m m₁ m′ : Lent} {y : ReadReply} → SameLengths m m₁
     → Told a m₁ m′ y → Told a m m′ y
 told-as {a} same h =
@@ -288,7 +300,7 @@ told-as {a} same h =
       text = h .text ∙ ap (λ n. textFilled n a) (same .text);
     }
 
-took-as : {b r : Receiver} {os : List ℕ} {m m₁ : Lent} {r′ : Receiver} {m′ : Lent} {y : ReadReply}
+pub took-as : {b r : Receiver} {os : List ℕ} {m m₁ : Lent} {r′ : Receiver} {m′ : Lent} {y : ReadReply}
     → b .settings ≡ r .settings → SameLengths m m₁ → Took b os m₁ r′ m′ y → Took r os m r′ m′ y
 took-as {os = os} {m} {m′ = m′} {y} e same h =
     record {
@@ -340,6 +352,8 @@ module _ {r : Receiver} {p : List ℕ} {m : Lent} (pre : PiecePre r p m) where
             place = omega arith;
             bounded = start-bounded 0;
             few = omega arith;
+            waits = omega arith;
+            awaited = omega arith;
           }
 
       asks-first : GoOnPre first-record p lent-now

@@ -60,6 +60,7 @@ shown events points = record { number = 0; index = 0; events = events; «code_po
 -- complete events are read.
 pub record Holds (r : Receiver) (m : Lent) (os : List ℕ) : Type 0 where
   pub phase : r .phase ≡ goingOn
+  pub sound : isSound r ≡ true
   pub count : r .octets ≡ length os
   pub held : take (length os) (m .held) ≡ os
   pub reply : r .reply ≡ shown (r .reply .events) (r .state .core .stored)

@@ -157,7 +157,8 @@ module _ {s : Settings} {stream events text work : List ℕ} {st : State} {first
   header-stops some =
       record {
         upTo = pre .few;
-        stored = pre .bounded .stored;
+        bounded = pre .bounded;
+        inside = pre .place;
         meant = λ u. onward-header some u (u .headed);
       }
 
@@ -364,7 +365,12 @@ module _ {s : Settings} {stream events text work : List ℕ} {st : State} {first
           (record { number = number; index = r .index; state = r .state }))
           → Leaves (record { number = number; index = r .index; state = r .state })
       leaves number f =
-          record { upTo = p .progress .upTo; stored = p .progress .bounded .stored; meant = f }
+          record {
+            upTo = p .progress .upTo;
+            bounded = p .progress .bounded;
+            inside = p .progress .inside;
+            meant = f;
+          }
 
       pub events-stop : (r .number ≡ 0 → ⊥) → Leaves r
       events-stop some =

@@ -16,7 +16,7 @@ use Rattle.spec_exi.specs.Packets.{complete}
 use Rattle.event.specs.Cells.{cellsOfAll}
 use Rattle.mem_layout.specs.Layout.{zeroCells}
 use Rattle.mem_rows.specs.Rows.{Rows, inDocument, isOver}
-use Rattle.mem_state.specs.Holds.{inStore, Topped, Represents, contextAt}
+use Rattle.mem_state.specs.Holds.{inStore, Bounded, Topped, Represents, contextAt}
 use Rattle.mem_initial.specs.Initial.{zeroed, withText, withRows}
 use Rattle.read_literal.specs.Literal.{ZeroFrom}
 use Rattle.open_elements.specs.declared.State.{State}
@@ -98,10 +98,11 @@ pub record Onward (s : Settings) (stream events′ text′ work′ : List ℕ) (
   pub declined : 0 < r .number → (r .number ≡ numberOf ended → ⊥)
       → RefusedWith (readStream sizes s stream) (r .number) (r .index)
 
--- On every memory the counts are within their sizes; what is answered, and left in memory, is by the
+-- On every memory the numbers are within their bounds; what is answered, and left in memory, is by the
 -- definitions where memory and state hold the events so far.
 pub record OnPost (s : Settings) (stream events text work : List ℕ) (st : State) (first : ℕ)
     (events′ text′ work′ : List ℕ) (r : Advanced) : Type 0 where
   pub upTo : r .index ≤ maxEvents
-  pub stored : r .state .core .stored ≤ maxStore
+  pub bounded : Bounded (r .state .core)
+  pub inside : r .state .core .at ≤ 8 * length stream
   pub meant : Underway s stream events text work st first → Onward s stream events′ text′ work′ r
