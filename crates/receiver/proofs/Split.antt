@@ -51,8 +51,11 @@ counted-adds a b =
     (λ e. let x : 0 + a + b ≡ 0 + (a + b) = omega arith in rw (e, x))
     (λ e.
     let l : maxStream < 0 + a = leb-false (0 + a) maxStream e in
-    rw (e, lt-leb (maxStream + 1 + b) maxStream (omega arith),
-    lt-leb (0 + (a + b)) maxStream (omega arith)))
+    rw (
+      e,
+      lt-leb (maxStream + 1 + b) maxStream (omega arith),
+      lt-leb (0 + (a + b)) maxStream (omega arith),
+    ))
 
 counted-few : (n : ℕ) → n ≤ maxStream → counted 0 n ≡ n
 unfolding counted
@@ -118,9 +121,13 @@ told-number : (a : Answer Reading) (y : ReadReply) → replyOf y ≡ readReply a
 unfolding replyOf readReply refusalAt
 told-number (accepted x) y e l =
     let n : y .number ≡ 0 = ap (λ v. v .number) e in absurd (omega arith)
-told-number (refused k i) y e l =
-    (k, i, refl, reply-same (ap (λ v. v .number) e) (ap (λ v. v .index) e)
-    (ap (λ v. v .events) e) (ap (λ v. v .codePoints) e))
+told-number (refused k i) y e l = (
+  k,
+  i,
+  refl,
+  reply-same (ap (λ v. v .number) e) (ap (λ v. v .index) e)
+      (ap (λ v. v .events) e) (ap (λ v. v .codePoints) e),
+)
 
 -- ---- the close
 
@@ -195,7 +202,8 @@ module _ (s : SettingNumbers) (m : Lent) where
         let n : readReply (format-reader.read (roomOf m) o os) .number ≡ numberOf k =
         ap (λ x. readReply x .number) q in
         let no-room : numberOf k ≡ 1 → ⊥ =
-        λ z. replies.contrary (enoughToRead sizes (roomOf m)) (is-T _ (enough true e)) (replies.no-room out .0 (n ∙ z)) in
+        λ z. replies.contrary (enoughToRead sizes (roomOf m)) (is-T _ (enough true e))
+        (replies.no-room out .0 (n ∙ z)) in
         let no-meaning : numberOf k ≡ 2 → ⊥ =
         λ z. replies.contrary (meaningful o) (is-T _ f) (replies.no-meaning out .0 (n ∙ z) .1) in
         rw (ne-eqb (numberOf k) 1 no-room, ne-eqb (numberOf k) 2 no-meaning)
@@ -203,29 +211,29 @@ module _ (s : SettingNumbers) (m : Lent) where
   -- ---- a refusal
 
   module _ (os p : List ℕ) (r : Receiver) (m₁ : Lent) {r′ : Receiver} {m′ : Lent} {y : ReadReply}
-      where
-    over-next : (z : ReadReply) → left r′ m′ y ≡ phases.refused r z (length p) m₁
-        → cleared m₁ ≡ cleared m → r .octets ≡ counted 0 (length os) → (k : Refusal) (i : ℕ)
-        → answer (os ++ p) ≡ refused k i
-        → refusedAfter (counted 0 (length (os ++ p))) z ≡ refusalAt (numberOf k) i
-        → Next (os ++ p) r′ m′ y
-    unfolding phases.refused
-    over-next z e c n k i a after =
-        let all : counted (r .octets) (length p) ≡ counted 0 (length (os ++ p)) =
-        ap (λ x. counted x (length p)) n ∙ counted-adds (length os) (length p)
-        ∙ ap (counted 0) (sym (length-append os p)) in
-        let is : left r′ m′ y
-        ≡ left (withReply r isRefused (counted 0 (length (os ++ p))) (refusalAt (numberOf k) i))
-        (cleared m) (refusalAt (numberOf k) i) = e ∙ rw (all, after, c) in
-        let clear : m′ ≡ cleared m = ap (λ (x : Left). x .lent) is in
-        let reply : y ≡ refusalAt (numberOf k) i = ap (λ (x : Left). x .reply) is in
-        record {
-          told = rw reply (told-refused m a refl clear);
-          clears = λ _. clear;
-          come = over k i a (ap (λ (x : Left). x .receiver .phase) is)
-              (ap (λ (x : Left). x .receiver .octets) is)
-              (ap (λ (x : Left). x .receiver .reply) is) clear;
-        }
+    where
+      over-next : (z : ReadReply) → left r′ m′ y ≡ phases.refused r z (length p) m₁
+          → cleared m₁ ≡ cleared m → r .octets ≡ counted 0 (length os) → (k : Refusal) (i : ℕ)
+          → answer (os ++ p) ≡ refused k i
+          → refusedAfter (counted 0 (length (os ++ p))) z ≡ refusalAt (numberOf k) i
+          → Next (os ++ p) r′ m′ y
+      unfolding phases.refused
+      over-next z e c n k i a after =
+          let all : counted (r .octets) (length p) ≡ counted 0 (length (os ++ p)) =
+          ap (λ x. counted x (length p)) n ∙ counted-adds (length os) (length p)
+          ∙ ap (counted 0) (sym (length-append os p)) in
+          let is : left r′ m′ y
+          ≡ left (withReply r isRefused (counted 0 (length (os ++ p))) (refusalAt (numberOf k) i))
+          (cleared m) (refusalAt (numberOf k) i) = e ∙ rw (all, after, c) in
+          let clear : m′ ≡ cleared m = ap (λ (x : Left). x .lent) is in
+          let reply : y ≡ refusalAt (numberOf k) i = ap (λ (x : Left). x .reply) is in
+          record {
+            told = rw reply (told-refused m a refl clear);
+            clears = λ _. clear;
+            come = over k i a (ap (λ (x : Left). x .receiver .phase) is)
+                (ap (λ (x : Left). x .receiver .octets) is)
+                (ap (λ (x : Left). x .receiver .reply) is) clear;
+          }
 
   -- ---- a record that can read on
 
@@ -373,10 +381,13 @@ module _ (s : SettingNumbers) (m : Lent) where
     cleared-again : cleared m₁ ≡ cleared m
     unfolding cleared
     cleared-again =
-        rw (memory, length-replicate {A = ℕ} (length (m .held)) 0,
-        length-replicate {A = ℕ} (length (m .events)) 0,
-        length-replicate {A = ℕ} (length (m .text)) 0,
-        length-replicate {A = ℕ} (length (m .work)) 0)
+        rw (
+          memory,
+          length-replicate {A = ℕ} (length (m .held)) 0,
+          length-replicate {A = ℕ} (length (m .events)) 0,
+          length-replicate {A = ℕ} (length (m .text)) 0,
+          length-replicate {A = ℕ} (length (m .work)) 0,
+        )
 
     -- The same refusal as at the beginning.
     same-first : (j : Refusal) → answer os ≡ refused j 0 → kept ≡ refusalAt (numberOf j) 0
@@ -458,19 +469,19 @@ module _ (s : SettingNumbers) (m : Lent) where
     pub work : m′ .work ≡ zeros (m .work)
 
   module _ (os : List ℕ) (r : Receiver) (m₁ : Lent) {r′ : Receiver} {m′ : Lent} {y : ReadReply}
-      where
-    ends-refused : (z : ReadReply) → left r′ m′ y ≡ phases.closedBy r z m₁ → cleared m₁ ≡ cleared m
-        → (k : Refusal) (i : ℕ) → format-reader.read (roomOf m) o os ≡ refused k i
-        → z ≡ refusalAt (numberOf k) i → Ends os m′ y
-    unfolding phases.closedBy cleared
-    ends-refused z e c k i a reply =
-        let clear : m′ ≡ cleared m = ap (λ (x : Left). x .lent) e ∙ c in
-        let is : y ≡ refusalAt (numberOf k) i = ap (λ (x : Left). x .reply) e ∙ reply in
-        record {
-          told = rw is (told-refused m a refl clear);
-          held = ap (λ (x : Lent). x .held) clear;
-          work = ap (λ (x : Lent). x .work) clear;
-        }
+    where
+      ends-refused : (z : ReadReply) → left r′ m′ y ≡ phases.closedBy r z m₁ → cleared m₁ ≡ cleared m
+          → (k : Refusal) (i : ℕ) → format-reader.read (roomOf m) o os ≡ refused k i
+          → z ≡ refusalAt (numberOf k) i → Ends os m′ y
+      unfolding phases.closedBy cleared
+      ends-refused z e c k i a reply =
+          let clear : m′ ≡ cleared m = ap (λ (x : Left). x .lent) e ∙ c in
+          let is : y ≡ refusalAt (numberOf k) i = ap (λ (x : Left). x .reply) e ∙ reply in
+          record {
+            told = rw is (told-refused m a refl clear);
+            held = ap (λ (x : Lent). x .held) clear;
+            work = ap (λ (x : Lent). x .work) clear;
+          }
 
   -- Octets that are held.
   module _ (os : List ℕ) {r : Receiver} {m₁ : Lent} (e : r .settings ≡ s) (same : SameLengths m m₁)
@@ -498,8 +509,12 @@ module _ (s : SettingNumbers) (m : Lent) where
 
     stored : r .state .core .stored ≤ length (m₁ .text)
     stored =
-        omega (arith, sound-within r (h .sound) unstarted .bounded .stored, same .text,
-        roomy-is _ _ _ _ a .store)
+        omega (
+          arith,
+          sound-within r (h .sound) unstarted .bounded .stored,
+          same .text,
+          roomy-is _ _ _ _ a .store,
+        )
 
     now-is : courseOf r 0 (roomIn m₁) ≡ Reads
     now-is =

@@ -47,5 +47,5 @@ closedTo Reads r m = closedNow r m
 
 -- The closing call: outright for every record and all memory.
 pub record Closed (r : Receiver) (m : Lent) (r′ : Receiver) (m′ : Lent) (y : ReadReply) : Type 0
-    where
-  pub is : left r′ m′ y ≡ closedTo (courseOf r 0 (roomIn m)) r m
+  where
+    pub is : left r′ m′ y ≡ closedTo (courseOf r 0 (roomIn m)) r m

@@ -80,40 +80,71 @@ module _ (r : Receiver) (k : ℕ) (roomy : Bool) where
       no-room h e = rw (ne-eqb (r .phase) 3 a, ne-eqb (r .phase) 2 b, not-true roomy h, e)
 
       module _ (c : not roomy ≡ false) {t : Bool} (f : t ≡ meaningful (numbersOf (r .settings)))
-          where
-        pub no-meaning : {z : ReadReply} → not t ≡ true → z ≡ refusalAt 2 0
-            → Refused z ≡ courseOf r k roomy
-        unfolding courseOf numberOf
-        no-meaning h e =
-            rw (ne-eqb (r .phase) 3 a, ne-eqb (r .phase) 2 b, not-false roomy c, ← f,
-            not-true t h, e)
-
-        module _ (d : not t ≡ false) {s : Bool} (g : s ≡ isSound r) where
-          pub not-sound : {z : ReadReply} → not s ≡ true → z ≡ refusalAt 2 0
+        where
+          pub no-meaning : {z : ReadReply} → not t ≡ true → z ≡ refusalAt 2 0
               → Refused z ≡ courseOf r k roomy
           unfolding courseOf numberOf
-          not-sound h e =
-              rw (ne-eqb (r .phase) 3 a, ne-eqb (r .phase) 2 b, not-false roomy c, ← f,
-              not-false t d, ← g, not-true s h, e)
+          no-meaning h e =
+              rw (
+                ne-eqb (r .phase) 3 a,
+                ne-eqb (r .phase) 2 b,
+                not-false roomy c,
+                ← f,
+                not-true t h,
+                e,
+              )
 
-          module _ (h : not s ≡ false) where
-            few : r .octets ≤ 16384
-            few = sound-few r (sym g ∙ not-false s h)
-
-            pub is-long : {z : ReadReply} → 16384 - r .octets < k → z ≡ refusalAt 3 0
+          module _ (d : not t ≡ false) {s : Bool} (g : s ≡ isSound r) where
+            pub not-sound : {z : ReadReply} → not s ≡ true → z ≡ refusalAt 2 0
                 → Refused z ≡ courseOf r k roomy
-            unfolding courseOf numberOf maxStream
-            is-long l e =
-                let o : r .octets ≤ 16384 = few in
-                rw (ne-eqb (r .phase) 3 a, ne-eqb (r .phase) 2 b, not-false roomy c, ← f,
-                not-false t d, ← g, not-false s h, lt-leb (r .octets + k) 16384 (omega arith), e)
+            unfolding courseOf numberOf
+            not-sound h e =
+                rw (
+                  ne-eqb (r .phase) 3 a,
+                  ne-eqb (r .phase) 2 b,
+                  not-false roomy c,
+                  ← f,
+                  not-false t d,
+                  ← g,
+                  not-true s h,
+                  e,
+                )
 
-            pub is-read : k ≤ 16384 - r .octets → Reads ≡ courseOf r k roomy
-            unfolding courseOf maxStream
-            is-read l =
-                let o : r .octets ≤ 16384 = few in
-                rw (ne-eqb (r .phase) 3 a, ne-eqb (r .phase) 2 b, not-false roomy c, ← f,
-                not-false t d, ← g, not-false s h, le-leb (r .octets + k) 16384 (omega arith))
+            module _ (h : not s ≡ false) where
+              few : r .octets ≤ 16384
+              few = sound-few r (sym g ∙ not-false s h)
+
+              pub is-long : {z : ReadReply} → 16384 - r .octets < k → z ≡ refusalAt 3 0
+                  → Refused z ≡ courseOf r k roomy
+              unfolding courseOf numberOf maxStream
+              is-long l e =
+                  let o : r .octets ≤ 16384 = few in
+                  rw (
+                    ne-eqb (r .phase) 3 a,
+                    ne-eqb (r .phase) 2 b,
+                    not-false roomy c,
+                    ← f,
+                    not-false t d,
+                    ← g,
+                    not-false s h,
+                    lt-leb (r .octets + k) 16384 (omega arith),
+                    e,
+                  )
+
+              pub is-read : k ≤ 16384 - r .octets → Reads ≡ courseOf r k roomy
+              unfolding courseOf maxStream
+              is-read l =
+                  let o : r .octets ≤ 16384 = few in
+                  rw (
+                    ne-eqb (r .phase) 3 a,
+                    ne-eqb (r .phase) 2 b,
+                    not-false roomy c,
+                    ← f,
+                    not-false t d,
+                    ← g,
+                    not-false s h,
+                    le-leb (r .octets + k) 16384 (omega arith),
+                  )
 
 -- ---- what octets that are read have passed
 
@@ -239,11 +270,8 @@ numbers-within r h =
       awaited = leb-true (r .wait .left) maxString (c₅ .other);
     }
 
--- A record that is sound is started and has no octets, or goes on within its bounds.
+-- A record that is sound and not at the start goes on, within its bounds.
 module _ (r : Receiver) (sound : isSound r ≡ true) where
-  pub sound-started : r .phase ≡ isStarted → r .octets ≡ 0
-  sound-started e = eqb-true (r .octets) 0 (started-sound r e ∙ sound)
-
   module _ (a : r .phase ≡ isStarted → ⊥) where
     pub sound-goes : r .phase ≡ goingOn
     sound-goes =
@@ -255,23 +283,35 @@ module _ (r : Receiver) (sound : isSound r ≡ true) where
     unfolding isSound maxStream
     sound-within =
         numbers-within r
-        (rw (ne-eqb (r .phase) isStarted a, eq-eqb (r .phase) goingOn sound-goes,
-        le-leb (r .octets) maxStream (sound-few r sound)) at sound)
+        (rw (
+          ne-eqb (r .phase) isStarted a,
+          eq-eqb (r .phase) goingOn sound-goes,
+          le-leb (r .octets) maxStream (sound-few r sound),
+        ) at sound)
 
 -- ---- a record within its bounds is sound
 
 tables-are : (c : Core) → Bounded c → tablesIn c ≡ true
 unfolding tablesIn
 tables-are c b =
-    rw (le-leb (c .stored) maxStore (b .stored), le-leb (c .uris) maxUris (b .uris),
-    le-leb (c .names) maxNames (b .names), le-leb (c .values) maxValues (b .values),
-    le-leb (c .learned) maxLearned (b .learned), le-leb (c .grammars) maxGrammars (b .grammars))
+    rw (
+      le-leb (c .stored) maxStore (b .stored),
+      le-leb (c .uris) maxUris (b .uris),
+      le-leb (c .names) maxNames (b .names),
+      le-leb (c .values) maxValues (b .values),
+      le-leb (c .learned) maxLearned (b .learned),
+      le-leb (c .grammars) maxGrammars (b .grammars),
+    )
 
 elements-are : (c : Core) → Bounded c → elementsIn c ≡ true
 unfolding elementsIn
 elements-are c b =
-    rw (le-leb (c .tag) (maxEvents + 1) (b .tag), le-leb (c .depth) maxOpen (b .depth),
-    lt-ltb (c .top) nameRows (b .top), le-leb (c .mode) inElement (b .fits .known))
+    rw (
+      le-leb (c .tag) (maxEvents + 1) (b .tag),
+      le-leb (c .depth) maxOpen (b .depth),
+      lt-ltb (c .top) nameRows (b .top),
+      le-leb (c .mode) inElement (b .fits .known),
+    )
     (split (leb inTag (c .mode))
     (λ e.
     let inside = lt-ltb 0 (c .depth) (b .fits .inner (leb-true inTag (c .mode) e)) in
@@ -284,9 +324,14 @@ pub within-sound : (r : Receiver) → r .phase ≡ goingOn → r .octets ≤ max
     → isSound r ≡ true
 unfolding isSound numbersIn
 within-sound r e l w =
-    rw (eq-eqb (r .phase) goingOn e, ne-eqb (r .phase) isStarted (going-not-started e),
-    le-leb (r .octets) maxStream l, tables-are (r .state .core) (w .bounded),
-    elements-are (r .state .core) (w .bounded),
-    le-leb (r .state .core .at) (8 * r .octets) (w .place),
-    le-leb (r .reply .events) maxEvents (w .few), le-leb (r .wait .at) (8 * r .octets) (w .waits),
-    le-leb (r .wait .left) maxString (w .awaited))
+    rw (
+      eq-eqb (r .phase) goingOn e,
+      ne-eqb (r .phase) isStarted (going-not-started e),
+      le-leb (r .octets) maxStream l,
+      tables-are (r .state .core) (w .bounded),
+      elements-are (r .state .core) (w .bounded),
+      le-leb (r .state .core .at) (8 * r .octets) (w .place),
+      le-leb (r .reply .events) maxEvents (w .few),
+      le-leb (r .wait .at) (8 * r .octets) (w .waits),
+      le-leb (r .wait .left) maxString (w .awaited),
+    )

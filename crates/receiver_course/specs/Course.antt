@@ -3,7 +3,8 @@ use Prim.Native.Nat.{ℕ, _+_, _*_, _≤_}
 use mathlib.Core.Bool.{Bool, false, cond, _&&_, _||_}
 use lib.Dec.{leb, ltb, eqb}
 use Rattle.spec_exi.specs.Sizes.{maxStream, maxEvents, maxOpen, maxUris, maxNames, maxValues}
-use Rattle.spec_exi.specs.Sizes.{maxGrammars, maxLearned, maxString, maxStore, eventCells, readerWork}
+use Rattle.spec_exi.specs.Sizes.{maxGrammars, maxLearned, maxString, maxStore, eventCells}
+use Rattle.spec_exi.specs.Sizes.{readerWork}
 use Rattle.spec_exi.specs.Settings.{meaningful}
 use Rattle.spec_fields.specs.Refusal.{numberOf, room, settings, long}
 use Rattle.settings.specs.Meant.{numbersOf}

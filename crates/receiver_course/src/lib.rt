@@ -56,10 +56,7 @@ pub fn refusal_at(number: u32, index: u32) -> ReadReply
 pub fn has_room(held: usize, events: usize, text: usize, work: usize) -> bool
     ensures { λ r. ⌜ r ≡ hasRoom held events text work ⌝ }
 {
-    (MAX_STREAM <= held)
-        & (EVENT_CELLS <= events)
-        & (MAX_STORE <= text)
-        & (READER_WORK <= work)
+    (MAX_STREAM <= held) & (EVENT_CELLS <= events) & (MAX_STORE <= text) & (READER_WORK <= work)
 }
 
 // Whether the counts are within their sizes.

@@ -121,14 +121,14 @@ concluded r k a m =
 -- ---- the octets
 
 pub record AdvancedPre (r : Receiver) (held : List ℕ) (n : ℕ) (events text work : List ℕ) : Type 0
-    where
-  pub within : Within r
-  pub more : r .octets ≤ n
-  pub size : n ≤ maxStream
-  pub kept : maxStream ≤ length held
-  pub cells : eventCells ≤ length events
-  pub store : maxStore ≤ length text
-  pub rows : readerWork ≤ length work
+  where
+    pub within : Within r
+    pub more : r .octets ≤ n
+    pub size : n ≤ maxStream
+    pub kept : maxStream ≤ length held
+    pub cells : eventCells ≤ length events
+    pub store : maxStore ≤ length text
+    pub rows : readerWork ≤ length work
 
 -- The tests are passed.
 pub record GoOnPre (r : Receiver) (p : List ℕ) (m : Lent) : Type 0 where

@@ -1,5 +1,5 @@
-// A piece of a stream, read after the octets so far (02, P8). What the functions ask and leave is in
-// specs/Piece.antt.
+// A piece of a stream, read after the octets so far (02, P8). What the functions ask and leave is
+// in specs/Piece.antt.
 ghost use mathlib.Core.Path.{_≡_};
 ghost use Rattle.settings.specs.Meant.{settingsMeant, settingsFrom};
 ghost use lib.ListN.{take};

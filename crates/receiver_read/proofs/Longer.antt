@@ -37,8 +37,15 @@ header-ends s stream q l e =
     let rest : Bits = drop q (unpack stream) in
     let (w, h, j) = header-reads (headerOf s) (header-octets s) .sound (unpack stream) tt rest e in
     let a : length (unpack stream) ≡ length w + length rest = ap length j ∙ length-append w rest in
-    omega (arith, a, ap length h, length-unpack stream, length-unpack (headerOf s),
-    length-drop q (unpack stream), header-some s)
+    omega (
+      arith,
+      a,
+      ap length h,
+      length-unpack stream,
+      length-unpack (headerOf s),
+      length-drop q (unpack stream),
+      header-some s,
+    )
 
 -- Events take bits, if any.
 pub steps-shorter : {s : Settings} {c d : Context} {bs rest : Bits} {es : List (Event Placed)}

@@ -77,36 +77,36 @@ moved st q =
     }
 
 module _ {s : Settings} {stream : List ℕ} {at : ℕ} {h : Passed} (post : HeaderPost s stream at h)
-    where
-  pub header-unread : (h .number ≡ 0 → ⊥) → at ≡ 0
-  header-unread some = elim (ℕ-discrete at 0) [
-    | yes e ↦ e
-    | no e ↦ absurd (some (ap (λ (x : Passed). x .number) (post .done (omega (arith, e)))))
-  ]
-
-  module _ (none : h .number ≡ 0) where
-    pub header-place : at ≤ 8 * length stream → h .at ≤ 8 * length stream
-    header-place l = elim (ℕ-discrete at 0) [
-      | yes e ↦ post .unread e .outcome .read none .inside
-      | no e ↦ omega (arith, l, ap (λ (x : Passed). x .at) (post .done (omega (arith, e))))
+  where
+    pub header-unread : (h .number ≡ 0 → ⊥) → at ≡ 0
+    header-unread some = elim (ℕ-discrete at 0) [
+      | yes e ↦ e
+      | no e ↦ absurd (some (ap (λ (x : Passed). x .number) (post .done (omega (arith, e)))))
     ]
 
-    headed-past : {es : List (Event Placed)} {c : Context} {mode : ℕ} → Headed s stream es c mode at
-        → Past s stream es c (h .at)
-    headed-past (before-it a b c d) =
-        let g = post .unread a .outcome .read none in
-        record {
-          p = h .at;
-          some = header-ends s stream (h .at) (g .inside) (g .result);
-          le = omega arith;
-          inside = g .inside;
-          head = g .result;
-          steps = none-steps (drop (h .at) (unpack stream)) b c;
-        }
-    headed-past {es} {c} (after-it p some le inside head steps) =
-        let e : h .at ≡ at = ap (λ (x : Passed). x .at) (post .done (omega arith)) in
-        subst (λ q. Past s stream es c q) (sym e)
-        (record { p = p; some = some; le = le; inside = inside; head = head; steps = steps })
+    module _ (none : h .number ≡ 0) where
+      pub header-place : at ≤ 8 * length stream → h .at ≤ 8 * length stream
+      header-place l = elim (ℕ-discrete at 0) [
+        | yes e ↦ post .unread e .outcome .read none .inside
+        | no e ↦ omega (arith, l, ap (λ (x : Passed). x .at) (post .done (omega (arith, e))))
+      ]
+
+      headed-past : {es : List (Event Placed)} {c : Context} {mode : ℕ} → Headed s stream es c mode at
+          → Past s stream es c (h .at)
+      headed-past (before-it a b c d) =
+          let g = post .unread a .outcome .read none in
+          record {
+            p = h .at;
+            some = header-ends s stream (h .at) (g .inside) (g .result);
+            le = omega arith;
+            inside = g .inside;
+            head = g .result;
+            steps = none-steps (drop (h .at) (unpack stream)) b c;
+          }
+      headed-past {es} {c} (after-it p some le inside head steps) =
+          let e : h .at ≡ at = ap (λ (x : Passed). x .at) (post .done (omega arith)) in
+          subst (λ q. Past s stream es c q) (sym e)
+          (record { p = p; some = some; le = le; inside = inside; head = head; steps = steps })
 
 -- ---- a header that is refused, or cut
 
@@ -287,15 +287,26 @@ module _ {s : Settings} {stream events text work : List ℕ} {st : State} {first
             (laid-store text text′ (st .core .stored) now (pre .room) (u .zeros)
             (p .progress .text-laid))
             (length-take-le now text′
-            (omega (arith, p .progress .bounded .stored, pre .room,
-            text-same (p .progress .text-laid) (pre .room))))
+            (omega (
+              arith,
+              p .progress .bounded .stored,
+              pre .room,
+              text-same (p .progress .text-laid) (pre .room),
+            )))
 
         further : past .p ≤ r .state .core .at
         further =
             let h = steps-shorter (steps-then (past .steps) (run .read)) in
-            omega (arith, h, past .le, past .inside, p .progress .inside, length-unpack stream,
-            length-drop (past .p) (unpack stream),
-            length-drop (r .state .core .at) (unpack stream))
+            omega (
+              arith,
+              h,
+              past .le,
+              past .inside,
+              p .progress .inside,
+              length-unpack stream,
+              length-drop (past .p) (unpack stream),
+              length-drop (r .state .core .at) (unpack stream),
+            )
 
         underway : Underway s stream events′ text′ work′ (r .state) (r .index)
         underway =

@@ -56,17 +56,17 @@ pub data Headed (s : Settings) (stream : List ℕ) (es : List (Event Placed)) (c
 -- So many events are read from a stream; their cells and literals are laid, with zeros after them,
 -- and memory represents the context that they leave.
 pub record Underway (s : Settings) (stream events text work : List ℕ) (st : State) (n : ℕ) : Type 0
-    where
-  pub rows : Rows
-  pub represents : Represents work (inStore text (st .core .stored)) (st .core) rows (openedIn st)
-  pub topped : Topped (st .core) (openedIn st)
-  pub late : st .core .tag ≤ n + 1
-  pub es : List (Event Placed)
-  pub count : length es ≡ n
-  pub cells : events ≡ cellsOfAll es ++ replicate (length events - length (cellsOfAll es)) 0
-  pub zeros : ZeroFrom text (st .core .stored)
-  pub headed : Headed s stream es (contextAt text (st .core) rows (openedIn st)) (st .core .mode)
-      (st .core .at)
+  where
+    pub rows : Rows
+    pub represents : Represents work (inStore text (st .core .stored)) (st .core) rows (openedIn st)
+    pub topped : Topped (st .core) (openedIn st)
+    pub late : st .core .tag ≤ n + 1
+    pub es : List (Event Placed)
+    pub count : length es ≡ n
+    pub cells : events ≡ cellsOfAll es ++ replicate (length events - length (cellsOfAll es)) 0
+    pub zeros : ZeroFrom text (st .core .stored)
+    pub headed : Headed s stream es (contextAt text (st .core) rows (openedIn st)) (st .core .mode)
+        (st .core .at)
 
 -- Refused with this number at index i.
 abbrev pub RefusedWith : Answer Reading → ℕ → ℕ → Type 0
@@ -75,13 +75,13 @@ RefusedWith a number i = (k : Refusal) × (number ≡ numberOf k) × (a ≡ refu
 -- These are all events that are complete, and what the stream comes to if it is closed now: ENDED,
 -- or the end document and the padding have come.
 pub record Stands (s : Settings) (stream events text work : List ℕ) (st : State) (n : ℕ) : Type 0
-    where
-  pub underway : Underway s stream events text work st n
-  pub shows : complete s stream
-      ≡ record { events = underway .es; store = take (st .core .stored) text }
-  pub whole : st .core .mode ≡ isOver → readStream sizes s stream ≡ accepted (complete s stream)
-  pub cut : (st .core .mode ≡ isOver → ⊥)
-      → RefusedWith (readStream sizes s stream) (numberOf ended) n
+  where
+    pub underway : Underway s stream events text work st n
+    pub shows : complete s stream
+        ≡ record { events = underway .es; store = take (st .core .stored) text }
+    pub whole : st .core .mode ≡ isOver → readStream sizes s stream ≡ accepted (complete s stream)
+    pub cut : (st .core .mode ≡ isOver → ⊥)
+        → RefusedWith (readStream sizes s stream) (numberOf ended) n
 
 -- ---- reading on
 
@@ -91,15 +91,15 @@ pub record HeaderPost (s : Settings) (stream : List ℕ) (at : ℕ) (r : Passed)
 
 -- By the definitions: it stands, or is refused by another number than ENDED.
 pub record Onward (s : Settings) (stream events′ text′ work′ : List ℕ) (r : Advanced) : Type 0
-    where
-  pub over : r .number ≡ 0 → Stands s stream events′ text′ work′ (r .state) (r .index)
-  pub waits : r .number ≡ numberOf ended
-      → Stands s stream events′ text′ work′ (r .state) (r .index)
-  pub declined : 0 < r .number → (r .number ≡ numberOf ended → ⊥)
-      → RefusedWith (readStream sizes s stream) (r .number) (r .index)
+  where
+    pub over : r .number ≡ 0 → Stands s stream events′ text′ work′ (r .state) (r .index)
+    pub waits : r .number ≡ numberOf ended
+        → Stands s stream events′ text′ work′ (r .state) (r .index)
+    pub declined : 0 < r .number → (r .number ≡ numberOf ended → ⊥)
+        → RefusedWith (readStream sizes s stream) (r .number) (r .index)
 
--- On every memory the numbers are within their bounds; what is answered, and left in memory, is by the
--- definitions where memory and state hold the events so far.
+-- On every memory the numbers are within their bounds; what is answered, and left in memory, is by
+-- the definitions where memory and state hold the events so far.
 pub record OnPost (s : Settings) (stream events text work : List ℕ) (st : State) (first : ℕ)
     (events′ text′ work′ : List ℕ) (r : Advanced) : Type 0 where
   pub upTo : r .index ≤ maxEvents

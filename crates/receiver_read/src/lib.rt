@@ -27,8 +27,8 @@ pub fn begin(events: &mut [u32], text: &mut [u32], work: &mut [u32])
     mem_initial::lay_text(text, 0);
 }
 
-// The outermost open element's row, or what stands there. (Read for what it tells: all places of the
-// array are there.)
+// The outermost open element's row, or what stands there. (Read for what it tells: all places of
+// the array are there.)
 pub fn outermost(st: State) -> u16
     ensures { λ r. ⌜ length (st .opened) ≡ maxOpen ⌝ }
 {
@@ -60,7 +60,8 @@ pub fn read_on(
     requires { ⌜ AdvancePre (now stream) (now events) (now text) (now work) st first ⌝ }
     ensures { λ r. ⌜
         OnPost (settingsFrom o) (now (stream .entry)) (now (events .entry)) (now (text .entry))
-        (now (work .entry)) st first (now (events .exit)) (now (text .exit)) (now (work .exit)) r ⌝ }
+        (now (work .entry)) st first (now (events .exit)) (now (text .exit)) (now (work .exit))
+        r ⌝ }
 {
     let h = pass_header(o, stream, st.core.at);
     if h.number != 0 {

@@ -1,5 +1,5 @@
-// A receiver's record (02, P8): what goes from one piece of a stream to the next beside lent memory.
-// What a call finds and leaves is in specs/Record.antt.
+// A receiver's record (02, P8): what goes from one piece of a stream to the next beside lent
+// memory. What a call finds and leaves is in specs/Record.antt.
 ghost use mathlib.Core.Path.{_≡_};
 ghost use Rattle.receiver_record.specs.Record.{startedWith};
 use open_elements::State;
@@ -15,16 +15,16 @@ pub const REFUSED: u32 = 2;
 
 pub const CLOSED: u32 = 3;
 
-// A literal that is cut: the position of its next code point, and how many are to come. (Both are 0,
-// as yet.)
+// A literal that is cut: the position of its next code point, and how many are to come. (Both are
+// 0, as yet.)
 #[repr(C)]
 pub struct Wait {
     pub at: usize,
     pub left: usize,
 }
 
-// The settings; the phase; how many octets were handed over, or one more than a stream may have; the
-// newest reply; the state after the complete events, at position 0 before the header is read.
+// The settings; the phase; how many octets were handed over, or one more than a stream may have;
+// the newest reply; the state after the complete events, at position 0 before the header is read.
 #[repr(C)]
 pub struct Receiver {
     pub settings: SettingNumbers,

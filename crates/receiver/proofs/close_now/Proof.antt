@@ -1,5 +1,5 @@
-use Rattle.receiver.proofs.Ways.{closes-started, closes-whole, closes-cut}
 -- `close_now` meets its contract.
+use Rattle.receiver.proofs.Ways.{closes-started, closes-whole, closes-cut}
 use borrow.Author.Needs.{needs}
 use Rattle.receiver.proofs.close_now.Statement.{statement}
 use Rattle.receiver.proofs.close_now.Tie as tie
@@ -23,7 +23,12 @@ same-length-4 : tie.Need-same-length-4
 same-length-4 c = c .before .work .given
 
 returns : tie.Need-returns
-returns c = closes-started _ _ (c .before .before .before .before .before .before .before .before .before .before .before .before .before .before .if1 .taken) (c .before .before .before .before .before .before .before .before .before .before .before .before .before .refusal-at .ensures) (c .before .before .before .before .before .before .before .before .close-refused .ensures)
+returns c =
+    let close-refused = c .before .before .before .before .before .before .before .before in
+    let refusal-at = close-refused .before .before .before .before .before in
+    let if1 = refusal-at .before in
+    closes-started _ _ (if1 .if1 .taken) (refusal-at .refusal-at .ensures) (close-refused
+    .close-refused .ensures)
 
 close-whole-requires : tie.Need-close-whole-requires
 close-whole-requires c κs = search needs
@@ -41,7 +46,11 @@ same-length-8 : tie.Need-same-length-8
 same-length-8 c = c .before .work2 .given
 
 returns-2 : tie.Need-returns-2
-returns-2 c = closes-whole _ _ (c .before .before .before .before .before .before .before .before .before .before .before .before .before .before .before .if1 .left) (c .before .before .before .before .before .before .before .before .before .before .before .before .before .if2 .taken) (c .before .before .before .before .before .before .before .before .close-whole .ensures)
+returns-2 c =
+    let close-whole = c .before .before .before .before .before .before .before .before in
+    let if2 = close-whole .before .before .before .before .before in
+    let if1 = if2 .before .before in
+    closes-whole _ _ (if1 .if1 .left) (if2 .if2 .taken) (close-whole .close-whole .ensures)
 
 refusal-at-requires-2 : tie.Need-refusal-at-requires-2
 refusal-at-requires-2 c κs = search needs
@@ -62,7 +71,13 @@ same-length-12 : tie.Need-same-length-12
 same-length-12 c = c .before .work3 .given
 
 returns-3 : tie.Need-returns-3
-returns-3 c = closes-cut _ _ (c .before .before .before .before .before .before .before .before .before .before .before .before .before .before .before .before .if1 .left) (c .before .before .before .before .before .before .before .before .before .before .before .before .before .before .if2 .left) (c .before .before .before .before .before .before .before .before .before .before .before .before .before .refusal-at2 .ensures) (c .before .before .before .before .before .before .before .before .close-refused2 .ensures)
+returns-3 c =
+    let close-refused2 = c .before .before .before .before .before .before .before .before in
+    let refusal-at2 = close-refused2 .before .before .before .before .before in
+    let if2 = refusal-at2 .before in
+    let if1 = if2 .before .before in
+    closes-cut _ _ (if1 .if1 .left) (if2 .if2 .left) (refusal-at2 .refusal-at2 .ensures)
+    (close-refused2 .close-refused2 .ensures)
 
 pub close-now-spec : {M : Type 1} → statement M
 close-now-spec =

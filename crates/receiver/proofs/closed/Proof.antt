@@ -1,5 +1,5 @@
-use Rattle.receiver.proofs.Ways.{closed-repeats, closed-refused, closed-reads}
 -- `closed` meets its contract.
+use Rattle.receiver.proofs.Ways.{closed-repeats, closed-refused, closed-reads}
 use borrow.Author.Needs.{needs}
 use Rattle.receiver.proofs.closed.Statement.{statement}
 use Rattle.receiver.proofs.closed.Tie as tie
@@ -29,7 +29,13 @@ same-length-4 : tie.Need-same-length-4
 same-length-4 c = c .before .work .given
 
 returns : tie.Need-returns
-returns c = closed-repeats _ _ (c .before .before .before .before .before .before .before .before .before .before .before .before .before .before .before .before .has-room .ensures) (c .before .before .before .before .before .before .before .before .before .before .before .before .before .before .before .course-of .ensures) (c .before .before .before .before .before .before .before .before .before .before .before .before .before .enum-told .given .1) (c .before .before .before .before .before .before .before .before .repeat .ensures)
+returns c =
+    let repeat = c .before .before .before .before .before .before .before .before in
+    let enum-told = repeat .before .before .before .before .before in
+    let course-of = enum-told .before .before in
+    let has-room = course-of .before in
+    closed-repeats _ _ (has-room .has-room .ensures) (course-of .course-of .ensures) (enum-told
+    .enum-told .given .1) (repeat .repeat .ensures)
 
 enum-known-way : tie.Need-enum-known-way
 enum-known-way c = search needs
@@ -50,7 +56,13 @@ same-length-8 : tie.Need-same-length-8
 same-length-8 c = c .before .work2 .given
 
 returns-2 : tie.Need-returns-2
-returns-2 c = closed-refused _ _ (c .before .before .before .before .before .before .before .before .before .before .before .before .before .before .before .before .before .has-room .ensures) (c .before .before .before .before .before .before .before .before .before .before .before .before .before .before .before .before .course-of .ensures) (c .before .before .before .before .before .before .before .before .before .before .before .before .before .before .way .given .1) (c .before .before .before .before .before .before .before .before .close-refused .ensures)
+returns-2 c =
+    let close-refused = c .before .before .before .before .before .before .before .before in
+    let way = close-refused .before .before .before .before .before .before in
+    let course-of = way .before .before in
+    let has-room = course-of .before in
+    closed-refused _ _ (has-room .has-room .ensures) (course-of .course-of .ensures) (way .way
+    .given .1) (close-refused .close-refused .ensures)
 
 enum-told-2 : tie.Need-enum-told-2
 enum-told-2 c = search needs
@@ -71,7 +83,13 @@ same-length-12 : tie.Need-same-length-12
 same-length-12 c = c .before .work3 .given
 
 returns-3 : tie.Need-returns-3
-returns-3 c = closed-reads _ _ (c .before .before .before .before .before .before .before .before .before .before .before .before .before .before .before .before .has-room .ensures) (c .before .before .before .before .before .before .before .before .before .before .before .before .before .before .before .course-of .ensures) (c .before .before .before .before .before .before .before .before .before .before .before .before .before .enum-told2 .given .1) (c .before .before .before .before .before .before .before .before .close-now .ensures)
+returns-3 c =
+    let close-now = c .before .before .before .before .before .before .before .before in
+    let enum-told2 = close-now .before .before .before .before .before in
+    let course-of = enum-told2 .before .before in
+    let has-room = course-of .before in
+    closed-reads _ _ (has-room .has-room .ensures) (course-of .course-of .ensures) (enum-told2
+    .enum-told2 .given .1) (close-now .close-now .ensures)
 
 pub closed-spec : {M : Type 1} → statement M
 closed-spec =

@@ -1,5 +1,5 @@
-use Rattle.receiver.proofs.Ways.{piece-asks, fed-repeats, fed-refused, fed-reads}
 -- `fed` meets its contract.
+use Rattle.receiver.proofs.Ways.{piece-asks, fed-repeats, fed-refused, fed-reads}
 use borrow.Author.Needs.{needs}
 use Rattle.receiver.proofs.fed.Statement.{statement}
 use Rattle.receiver.proofs.fed.Tie as tie
@@ -29,7 +29,23 @@ same-length-4 : tie.Need-same-length-4
 same-length-4 c = c .before .work .given
 
 returns : tie.Need-returns
-returns c = fed-repeats _ _ _ (c .before .before .before .before .before .before .before .before .before .before .before .before .before .before .before .before .has-room .ensures) (c .before .before .before .before .before .before .before .before .before .before .before .before .before .before .before .course-of .ensures) (record { held = c .before .before .before .before .before .before .before .held .given; events = c .before .before .before .before .before .events .given; text = c .before .before .before .text .given; work = c .before .work .given }) (c .before .before .before .before .before .before .before .before .before .before .before .before .before .enum-told .given .1) (c .before .before .before .before .before .before .before .before .repeat .ensures)
+returns c =
+    let work = c .before in
+    let text = work .before .before in
+    let events = text .before .before in
+    let held = events .before .before in
+    let repeat = held .before in
+    let enum-told = repeat .before .before .before .before .before in
+    let course-of = enum-told .before .before in
+    let has-room = course-of .before in
+    fed-repeats _ _ _ (has-room .has-room .ensures) (course-of .course-of .ensures) (record {
+      held =
+          held .held .given;
+      events = events .events .given;
+      text = text .text .given;
+      work = work .work
+          .given;
+    }) (enum-told .enum-told .given .1) (repeat .repeat .ensures)
 
 enum-known-way : tie.Need-enum-known-way
 enum-known-way c = search needs
@@ -50,13 +66,34 @@ same-length-8 : tie.Need-same-length-8
 same-length-8 c = c .before .work2 .given
 
 returns-2 : tie.Need-returns-2
-returns-2 c = fed-refused _ _ _ (c .before .before .before .before .before .before .before .before .before .before .before .before .before .before .before .before .before .has-room .ensures) (c .before .before .before .before .before .before .before .before .before .before .before .before .before .before .before .before .course-of .ensures) (record { held = c .before .before .before .before .before .before .before .held2 .given; events = c .before .before .before .before .before .events2 .given; text = c .before .before .before .text2 .given; work = c .before .work2 .given }) (c .before .before .before .before .before .before .before .before .before .before .before .before .before .before .way .given .1) (c .before .before .before .before .before .before .before .before .refuse .ensures)
+returns-2 c =
+    let work2 = c .before in
+    let text2 = work2 .before .before in
+    let events2 = text2 .before .before in
+    let held2 = events2 .before .before in
+    let refuse = held2 .before in
+    let way = refuse .before .before .before .before .before .before in
+    let course-of = way .before .before in
+    let has-room = course-of .before in
+    fed-refused _ _ _ (has-room .has-room .ensures) (course-of .course-of .ensures) (record {
+      held =
+          held2 .held2 .given;
+      events = events2 .events2 .given;
+      text = text2 .text2 .given;
+      work = work2
+          .work2 .given;
+    }) (way .way .given .1) (refuse .refuse .ensures)
 
 enum-told-2 : tie.Need-enum-told-2
 enum-told-2 c = search needs
 
 read-piece-requires : tie.Need-read-piece-requires
-read-piece-requires c κs = piece-asks _ _ _ (c .before .before .before .before .before .before .before .has-room .ensures) (c .before .before .before .before .before .before .course-of .ensures) (c .before .before .before .before .enum-told2 .given .1)
+read-piece-requires c κs =
+    let enum-told2 = c .before .before .before .before in
+    let course-of = enum-told2 .before .before in
+    let has-room = course-of .before in
+    piece-asks _ _ _ (has-room .has-room .ensures) (course-of .course-of .ensures) (enum-told2
+    .enum-told2 .given .1)
 
 same-length-9 : tie.Need-same-length-9
 same-length-9 c = c .before .before .before .before .before .before .before .held3 .given
@@ -71,7 +108,23 @@ same-length-12 : tie.Need-same-length-12
 same-length-12 c = c .before .work3 .given
 
 returns-3 : tie.Need-returns-3
-returns-3 c = fed-reads _ _ _ (c .before .before .before .before .before .before .before .before .before .before .before .before .before .before .before .before .has-room .ensures) (c .before .before .before .before .before .before .before .before .before .before .before .before .before .before .before .course-of .ensures) (record { held = c .before .before .before .before .before .before .before .held3 .given; events = c .before .before .before .before .before .events3 .given; text = c .before .before .before .text3 .given; work = c .before .work3 .given }) (c .before .before .before .before .before .before .before .before .before .before .before .before .before .enum-told2 .given .1) (c .before .before .before .before .before .before .before .before .read-piece .ensures)
+returns-3 c =
+    let work3 = c .before in
+    let text3 = work3 .before .before in
+    let events3 = text3 .before .before in
+    let held3 = events3 .before .before in
+    let read-piece = held3 .before in
+    let enum-told2 = read-piece .before .before .before .before .before in
+    let course-of = enum-told2 .before .before in
+    let has-room = course-of .before in
+    fed-reads _ _ _ (has-room .has-room .ensures) (course-of .course-of .ensures) (record {
+      held =
+          held3 .held3 .given;
+      events = events3 .events3 .given;
+      text = text3 .text3 .given;
+      work = work3
+          .work3 .given;
+    }) (enum-told2 .enum-told2 .given .1) (read-piece .read-piece .ensures)
 
 pub fed-spec : {M : Type 1} → statement M
 fed-spec =

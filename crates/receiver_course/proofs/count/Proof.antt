@@ -21,7 +21,8 @@ add-result-2 c = search needs
 returns-2 : tie.Need-returns-2
 unfolding counted maxStream
 returns-2 c =
-    rw (lt-leb (c .before .before .args .n + c .before .before .args .k) 16384 (omega arith))
+    let start = c .before .before in
+    rw (lt-leb (start .args .n + start .args .k) 16384 (omega arith))
 
 add-result-3 : tie.Need-add-result-3
 add-result-3 c = search needs
@@ -29,7 +30,8 @@ add-result-3 c = search needs
 returns-3 : tie.Need-returns-3
 unfolding counted maxStream
 returns-3 c =
-    rw (le-leb (c .before .before .args .n + c .before .before .args .k) 16384 (omega arith))
+    let start = c .before .before in
+    rw (le-leb (start .args .n + start .args .k) 16384 (omega arith))
 
 pub count-spec : {M : Type 1} → statement M
 count-spec =

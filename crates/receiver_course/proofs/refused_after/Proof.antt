@@ -15,8 +15,9 @@ returns c = rw (le-leb (c .before .args .n) 16384 (c .if1 .taken))
 returns-2 : tie.Need-returns-2
 unfolding refusedAfter maxStream numberOf
 returns-2 c =
-    rw (lt-leb (c .before .before .before .before .args .n) 16384 (c .before .before .before .if1
-    .left), c .if2 .taken)
+    let if1 = c .before .before .before in
+    let start = if1 .before in
+    rw (lt-leb (start .args .n) 16384 (if1 .if1 .left), c .if2 .taken)
 
 refusal-at-requires : tie.Need-refusal-at-requires
 refusal-at-requires c κs = search needs
@@ -24,8 +25,10 @@ refusal-at-requires c κs = search needs
 returns-3 : tie.Need-returns-3
 unfolding refusedAfter maxStream numberOf
 returns-3 c =
-    rw (lt-leb (c .before .before .before .before .before .args .n) 16384 (c .before .before .before
-    .before .if1 .left), c .before .if2 .left) (c .refusal-at .ensures)
+    let if2 = c .before in
+    let if1 = if2 .before .before .before in
+    let start = if1 .before in
+    rw (lt-leb (start .args .n) 16384 (if1 .if1 .left), if2 .if2 .left) (c .refusal-at .ensures)
 
 pub refused-after-spec : {M : Type 1} → statement M
 refused-after-spec =

@@ -1,34 +1,28 @@
+-- `close_refused` meets its contract.
 use Rattle.receiver_phases.proofs.Phases.{closes}
 use borrow.Author.Needs.{needs}
 use Rattle.receiver_phases.proofs.close_refused.Statement.{statement}
 use Rattle.receiver_phases.proofs.close_refused.Tie as tie
-use Rattle.receiver_phases.proofs.close_refused.Reads as reads
-use Rattle.receiver_phases.proofs.close_refused.Lts as lts
-use Rattle.receiver_phases.proofs.clear_all.Reads as clear-all-reads
 
--- src/lib.rt:92:5
 clear-all-requires : tie.Need-clear-all-requires
 clear-all-requires c κs = search needs
 
--- src/lib.rt:78:1
 same-length : tie.Need-same-length
 same-length c = search needs
 
--- src/lib.rt:78:1
 same-length-2 : tie.Need-same-length-2
 same-length-2 c = search needs
 
--- src/lib.rt:78:1
 same-length-3 : tie.Need-same-length-3
 same-length-3 c = search needs
 
--- src/lib.rt:78:1
 same-length-4 : tie.Need-same-length-4
 same-length-4 c = search needs
 
--- src/lib.rt:78:1
 returns : tie.Need-returns
-returns c = closes _ _ (c .before .before .before .before .before .before .before .before .clear-all .ensures)
+returns c =
+    let clear-all = c .before .before .before .before .before .before .before .before in
+    closes _ _ (clear-all .clear-all .ensures)
 
 pub close-refused-spec : {M : Type 1} → statement M
 close-refused-spec =

@@ -1,3 +1,4 @@
+-- `keep` meets its contract.
 use Prim.Native.Nat.{_-_}
 use mathlib.Core.Path.{refl}
 use lib.ListN.{length}
@@ -5,8 +6,6 @@ use Rattle.receiver_phases.proofs.Phases.{Keeping, none-kept, one-kept,
 use borrow.Author.Needs.{needs}
 use Rattle.receiver_phases.proofs.keep.Statement.{statement}
 use Rattle.receiver_phases.proofs.keep.Tie as tie
-use Rattle.receiver_phases.proofs.keep.Reads as reads
-use Rattle.receiver_phases.proofs.keep.Lts as lts
 
 abbrev Inv-loop : tie.InvT-loop
 Inv-loop held₀ n piece i₀ held i = Keeping held₀ n piece held i
@@ -14,39 +13,30 @@ Inv-loop held₀ n piece i₀ held i = Keeping held₀ n piece held i
 abbrev μ-loop : tie.MeasureT-loop
 μ-loop held₀ n piece i₀ held i = length piece - i
 
--- src/lib.rt:121:5
 loop-holds : tie.Need-loop-holds Inv-loop μ-loop
 loop-holds c = none-kept _ _ _ (c .pre)
 
--- src/lib.rt:122:23
 shared-slice-read-held : tie.Need-shared-slice-read-held Inv-loop μ-loop
 shared-slice-read-held c = search needs
 
--- src/lib.rt:122:14
 add-held : tie.Need-add-held Inv-loop μ-loop
 add-held c = search needs
 
--- src/lib.rt:122:9
 slice-write-held : tie.Need-slice-write-held Inv-loop μ-loop
 slice-write-held c = search needs
 
--- src/lib.rt:123:9
 add-i : tie.Need-add-i Inv-loop μ-loop
 add-i c = search needs
 
--- src/lib.rt:121:5
 loop-less : tie.Need-loop-less Inv-loop μ-loop
 loop-less c = search needs
 
--- src/lib.rt:121:5
 loop-again : tie.Need-loop-again Inv-loop μ-loop
 loop-again c = one-kept (c .before .before .loop .inv) (c .before .loop-test .taken) refl
 
--- src/lib.rt:116:1
 same-length : tie.Need-same-length Inv-loop μ-loop
 same-length c = search needs
 
--- src/lib.rt:116:1
 returns : tie.Need-returns Inv-loop μ-loop
 returns c = all-kept (c .before .loop .inv) (c .loop-test .left)
 

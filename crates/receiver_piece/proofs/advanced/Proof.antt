@@ -1,5 +1,5 @@
-use Rattle.receiver_piece.proofs.Piece.{held-asks, advance-asks, on-as}
 -- `advanced` meets its contract.
+use Rattle.receiver_piece.proofs.Piece.{held-asks, advance-asks, on-as}
 use borrow.Author.Needs.{needs}
 use Rattle.receiver_piece.proofs.advanced.Statement.{statement}
 use Rattle.receiver_piece.proofs.advanced.Tie as tie
@@ -14,7 +14,10 @@ cast-first : tie.Need-cast-first
 cast-first c = search needs
 
 read-held-requires : tie.Need-read-held-requires
-read-held-requires c κs = (held-asks (c .before .before .before .before .before .before .before .before .before .before .before .pre), advance-asks (c .before .before .before .before .before .before .before .before .before .before .before .pre) (c .before .before .before .before .before .outermost .ensures))
+read-held-requires c κs =
+    let outermost = c .before .before .before .before .before in
+    let start = outermost .before .before .before .before .before .before in
+    (held-asks (start .pre), advance-asks (start .pre) (outermost .outermost .ensures))
 
 same-length : tie.Need-same-length
 same-length c = c .before .before .before .before .before .events .given
@@ -26,7 +29,10 @@ same-length-3 : tie.Need-same-length-3
 same-length-3 c = c .before .work .given
 
 returns : tie.Need-returns
-returns c = on-as (c .before .before .before .before .before .before .before .before .before .before .before .settings-of .ensures) (c .before .before .before .before .before .before .read-held .ensures)
+returns c =
+    let read-held = c .before .before .before .before .before .before in
+    let settings-of = read-held .before .before .before .before .before in
+    on-as (settings-of .settings-of .ensures) (read-held .read-held .ensures)
 
 pub advanced-spec : {M : Type 1} → statement M
 advanced-spec =

@@ -1,5 +1,5 @@
-use Rattle.receiver_piece.proofs.Piece.{begins, begun-already}
 -- `begun` meets its contract.
+use Rattle.receiver_piece.proofs.Piece.{begins, begun-already}
 use borrow.Author.Needs.{needs}
 use Rattle.receiver_piece.proofs.begun.Statement.{statement}
 use Rattle.receiver_piece.proofs.begun.Tie as tie
@@ -8,7 +8,9 @@ returns : tie.Need-returns
 returns c = begun-already _ (c .if1 .taken)
 
 begin-requires : tie.Need-begin-requires
-begin-requires c κs = record { cells = c .before .before .before .before .before .before .before .before .pre .cells; room = c .before .before .before .before .before .before .before .before .pre .store; rows = c .before .before .before .before .before .before .before .before .pre .rows }
+begin-requires c κs =
+    let start = c .before .before .before .before .before .before .before .before in
+    record { cells = start .pre .cells; room = start .pre .store; rows = start .pre .rows }
 
 started-requires : tie.Need-started-requires
 started-requires c κs = search needs
@@ -23,7 +25,10 @@ same-length-3 : tie.Need-same-length-3
 same-length-3 c = c .before .before .work .given
 
 returns-2 : tie.Need-returns-2
-returns-2 c = begins (c .before .before .before .before .before .before .before .before .before .before .before .if1 .left) (c .started .ensures) (c .before .before .before .before .before .before .before .begin .ensures)
+returns-2 c =
+    let begin = c .before .before .before .before .before .before .before in
+    let if1 = begin .before .before .before .before in
+    begins (if1 .if1 .left) (c .started .ensures) (begin .begin .ensures)
 
 pub begun-spec : {M : Type 1} → statement M
 begun-spec =

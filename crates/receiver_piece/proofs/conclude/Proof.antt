@@ -1,7 +1,7 @@
+-- `conclude` meets its contract.
 use Rattle.receiver_piece.proofs.Piece.{concludes-on, concludes-refused}
 use Rattle.spec_exi.specs.Sizes.{maxEvents}
 use native.Mathlib.Omega.{arith}
--- `conclude` meets its contract.
 use borrow.Author.Needs.{needs}
 use Rattle.receiver_piece.proofs.conclude.Statement.{statement}
 use Rattle.receiver_piece.proofs.conclude.Tie as tie
@@ -14,7 +14,9 @@ returns c = concludes-on _ _ _ _ (c .before .if1 .taken) (c .went-on .ensures)
 
 cast-refusal-at : tie.Need-cast-refusal-at
 unfolding maxEvents
-cast-refusal-at c = omega (arith, c .before .before .before .before .before .before .before .before .pre .upTo)
+cast-refusal-at c =
+    let start = c .before .before .before .before .before .before .before .before in
+    omega (arith, start .pre .upTo)
 
 refusal-at-requires : tie.Need-refusal-at-requires
 refusal-at-requires c κs = search needs
@@ -35,7 +37,12 @@ same-length-4 : tie.Need-same-length-4
 same-length-4 c = c .before .work .given
 
 returns-2 : tie.Need-returns-2
-returns-2 c = concludes-refused _ _ _ _ (c .before .before .before .before .before .before .before .before .before .before .before .before .before .before .before .if1 .left) (c .before .before .before .before .before .before .before .before .before .before .before .before .before .refusal-at .ensures) (c .before .before .before .before .before .before .before .before .refuse .ensures)
+returns-2 c =
+    let refuse = c .before .before .before .before .before .before .before .before in
+    let refusal-at = refuse .before .before .before .before .before in
+    let if1 = refusal-at .before .before in
+    concludes-refused _ _ _ _ (if1 .if1 .left) (refusal-at .refusal-at .ensures) (refuse .refuse
+    .ensures)
 
 pub conclude-spec : {M : Type 1} → statement M
 conclude-spec =

@@ -1,9 +1,8 @@
+-- `went_on` meets its contract.
 use Rattle.receiver_piece.specs.Piece.{shown, wentOn}
 use Rattle.spec_exi.specs.Sizes.{maxStream, maxEvents, maxStore}
 use native.Mathlib.Omega.{arith}
 use mathlib.Core.Path.{refl}
--- `went_on` meets its contract.
-use borrow.Author.Needs.{needs}
 use Rattle.receiver_piece.proofs.went_on.Statement.{statement}
 use Rattle.receiver_piece.proofs.went_on.Tie as tie
 

@@ -1,50 +1,69 @@
+-- `begin` meets its contract.
 use Rattle.receiver_read.proofs.Beginning.{heads-ask, rows-ask, text-asks, begins}
 use mathlib.Core.Path.{_∙_}
 use borrow.Author.Needs.{needs}
 use Rattle.receiver_read.proofs.begin.Statement.{statement}
 use Rattle.receiver_read.proofs.begin.Tie as tie
-use Rattle.receiver_read.proofs.begin.Reads as reads
-use Rattle.receiver_read.proofs.begin.Lts as lts
-use Rattle.clear.proofs.cells.Reads as cells-reads
-use Rattle.mem_initial.proofs.clear_heads.Reads as clear-heads-reads
-use Rattle.mem_initial.proofs.lay_rows.Reads as lay-rows-reads
-use Rattle.mem_initial.proofs.lay_text.Reads as lay-text-reads
 
--- src/lib.rt:23:5
 cells-requires : tie.Need-cells-requires
 cells-requires c κs = search needs
 
--- src/lib.rt:24:5
 cells-requires-2 : tie.Need-cells-requires-2
 cells-requires-2 c κs = search needs
 
--- src/lib.rt:25:5
 clear-heads-requires : tie.Need-clear-heads-requires
-clear-heads-requires c κs = heads-ask (c .before .before .before .before .before .before .before .before .before .before .before .before .pre)
+clear-heads-requires c κs =
+    let start = c .before .before .before .before .before .before .before .before .before .before
+    .before .before in
+    heads-ask (start .pre)
 
--- src/lib.rt:26:5
 lay-rows-requires : tie.Need-lay-rows-requires
-lay-rows-requires c κs = rows-ask (c .before .before .before .before .before .before .before .before .before .before .before .before .before .before .before .before .pre) (c .before .before .work .given)
+lay-rows-requires c κs =
+    let work = c .before .before in
+    let start = work .before .before .before .before .before .before .before .before .before .before
+    .before .before .before .before in
+    rows-ask (start .pre) (work .work .given)
 
--- src/lib.rt:27:5
 lay-text-requires : tie.Need-lay-text-requires
-lay-text-requires c κs = text-asks (c .before .before .before .before .before .before .before .before .before .before .before .before .before .before .before .before .before .before .before .before .pre) _ (c .before .before .before .before .before .before .before .before .before .before .text .given)
+lay-text-requires c κs =
+    let text = c .before .before .before .before .before .before .before .before .before .before in
+    let start = text .before .before .before .before .before .before .before .before .before .before
+    in
+    text-asks (start .pre) _ (text .text .given)
 
--- src/lib.rt:18:1
 same-length : tie.Need-same-length
-same-length c = c .before .before .before .before .before .before .before .before .before .before .before .before .before .before .before .before .before .events .given
+same-length c =
+    let events = c .before .before .before .before .before .before .before .before .before .before
+    .before .before .before .before .before .before .before in
+    events .events .given
 
--- src/lib.rt:18:1
 same-length-2 : tie.Need-same-length-2
-same-length-2 c = c .before .text2 .given ∙ c .before .before .before .before .before .before .before .before .before .before .before .before .before .text .given
+same-length-2 c =
+    let text2 = c .before in
+    let text = text2 .before .before .before .before .before .before .before .before .before .before
+    .before .before in
+    text2 .text2 .given ∙ text .text .given
 
--- src/lib.rt:18:1
 same-length-3 : tie.Need-same-length-3
-same-length-3 c = c .before .before .before .before .before .work2 .given ∙ c .before .before .before .before .before .before .before .before .before .work .given
+same-length-3 c =
+    let work2 = c .before .before .before .before .before in
+    let work = work2 .before .before .before .before in
+    work2 .work2 .given ∙ work .work .given
 
--- src/lib.rt:18:1
 returns : tie.Need-returns
-returns c = begins (c .before .before .before .before .before .before .before .before .before .before .before .before .before .before .before .before .before .before .cells .ensures) (c .before .before .before .before .before .before .before .before .before .before .before .before .before .before .cells2 .ensures) (c .before .before .before .before .before .before .before .before .before .before .clear-heads .ensures) (c .before .before .before .before .before .before .lay-rows .ensures) (c .before .before .lay-text .ensures) (c .before .before .before .before .before .before .before .before .before .before .before .before .before .text .given) (c .before .before .before .before .before .before .before .before .before .work .given) (c .before .before .before .before .before .work2 .given) (c .before .text2 .given)
+returns c =
+    let text2 = c .before in
+    let lay-text = text2 .before in
+    let work2 = lay-text .before .before .before in
+    let lay-rows = work2 .before in
+    let work = lay-rows .before .before .before in
+    let clear-heads = work .before in
+    let text = clear-heads .before .before .before in
+    let cells2 = text .before in
+    let cells = cells2 .before .before .before .before in
+    begins (cells .cells .ensures) (cells2 .cells2 .ensures) (clear-heads .clear-heads .ensures)
+    (lay-rows .lay-rows .ensures) (lay-text .lay-text .ensures) (text .text .given) (work .work
+    .given) (work2 .work2 .given) (text2 .text2 .given)
 
 pub begin-spec : {M : Type 1} → statement M
 begin-spec =
