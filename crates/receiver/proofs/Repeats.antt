@@ -11,7 +11,7 @@ use Rattle.spec_fields.proofs.Tests.{split}
 use Rattle.spec_exi.specs.Settings.{meaningful}
 use Rattle.spec_exi.specs.Sizes.{maxStream}
 use Rattle.settings.specs.Meant.{numbersOf}
-use Rattle.mem_rows.specs.Rows.{isOver}
+use Rattle.event_code.specs.Numbers.{isOver}
 use Rattle.reader.specs.declared.ReadReply.{ReadReply}
 use Rattle.receiver_record.specs.declared.Receiver.{Receiver}
 use Rattle.receiver_record.specs.Record.{isStarted, isClosed, Lent, cleared, Left, left}

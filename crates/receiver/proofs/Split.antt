@@ -27,7 +27,7 @@ use Rattle.reader.specs.Read.{replyOf}
 use Rattle.receiver_record.specs.declared.Receiver.{Receiver}
 use Rattle.receiver_record.specs.Record.{isStarted, goingOn, isRefused, isClosed, refusalAt}
 use Rattle.receiver_record.specs.Record.{startedWith, withReply, Lent, lent, zeros, cleared, Left, left}
-use Rattle.mem_rows.specs.Rows.{isOver}
+use Rattle.event_code.specs.Numbers.{isOver}
 use Rattle.receiver_course.specs.declared.Course.{Course}
 use Rattle.receiver_course.specs.declared.Course.the-variants.{Repeats, Refused, Reads}
 use Rattle.receiver_course.specs.Course.{isSound, courseOf, counted, refusedAfter}

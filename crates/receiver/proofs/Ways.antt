@@ -7,7 +7,7 @@ use native.Mathlib.Omega.{arith}
 use lib.ListN.{length}
 use borrow.Author.Tests.{eq-eqb, ne-eqb}
 use Rattle.spec_fields.specs.Refusal.{numberOf, ended}
-use Rattle.mem_rows.specs.Rows.{isOver}
+use Rattle.event_code.specs.Numbers.{isOver}
 use Rattle.reader.specs.declared.ReadReply.{ReadReply}
 use Rattle.receiver_record.specs.declared.Receiver.{Receiver}
 use Rattle.receiver_record.specs.declared.Handed.{Handed}

@@ -6,7 +6,7 @@ use mathlib.Core.List.{List, _++_}
 use lib.ListN.{length}
 use lib.Dec.{eqb}
 use Rattle.spec_fields.specs.Refusal.{numberOf, ended}
-use Rattle.mem_rows.specs.Rows.{isOver}
+use Rattle.event_code.specs.Numbers.{isOver}
 use Rattle.reader.specs.declared.ReadReply.{ReadReply}
 use Rattle.receiver_record.specs.declared.Receiver.{Receiver}
 use Rattle.receiver_record.specs.Record.{isStarted, refusalAt, Lent, Left, left}

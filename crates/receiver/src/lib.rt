@@ -4,7 +4,7 @@
 ghost use mathlib.Core.Path.{_≡_};
 ghost use Rattle.receiver_record.specs.Record.{lent, handed};
 ghost use Rattle.receiver.specs.Calls.{closedNow, Fed, Closed};
-use mem_state::IS_OVER;
+use event_code::IS_OVER;
 use receiver_course::Course;
 use receiver_record::Handed;
 use receiver_record::Receiver;

@@ -13,7 +13,8 @@ use Rattle.spec_exi.specs.Sizes.{maxStream, maxEvents, maxOpen, maxUris, maxNam
 use Rattle.spec_exi.specs.Sizes.{maxGrammars, maxLearned, maxString, maxStore, eventCells, readerWork}
 use Rattle.settings.specs.Meant.{numbersOf}
 use Rattle.mem_layout.specs.Layout.{nameRows}
-use Rattle.mem_rows.specs.Rows.{inTag, inElement, ModeFits}
+use Rattle.event_code.specs.Numbers.{inTag, inElement}
+use Rattle.mem_rows.specs.Rows.{ModeFits}
 use Rattle.mem_state.specs.declared.Core.{Core}
 use Rattle.mem_state.specs.Holds.{Bounded}
 use Rattle.reader.specs.declared.ReadReply.{ReadReply}

@@ -9,7 +9,7 @@ use Rattle.spec_exi.specs.Settings.{meaningful}
 use Rattle.spec_fields.specs.Refusal.{numberOf, room, settings, long}
 use Rattle.settings.specs.Meant.{numbersOf}
 use Rattle.mem_layout.specs.Layout.{nameRows}
-use Rattle.mem_rows.specs.Rows.{inTag, inElement}
+use Rattle.event_code.specs.Numbers.{inTag, inElement}
 use Rattle.mem_state.specs.declared.Core.{Core}
 use Rattle.mem_state.specs.Holds.{Bounded}
 use Rattle.reader.specs.declared.ReadReply.{ReadReply}

@@ -6,8 +6,8 @@ ghost use Rattle.receiver_course.specs.Course.{hasRoom, tablesIn, elemen
 ghost use Rattle.receiver_course.specs.Course.{courseOf, counted, refusedAfter};
 use mem_layout::NAME_ROWS;
 use mem_state::Core;
-use mem_state::IN_ELEMENT;
-use mem_state::IN_TAG;
+use event_code::IN_ELEMENT;
+use event_code::IN_TAG;
 use reader::ReadReply;
 use receiver_record::CLOSED;
 use receiver_record::GOING_ON;

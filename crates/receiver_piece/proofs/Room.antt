@@ -20,7 +20,7 @@ use Rattle.receiver_course.specs.Course.{hasRoom}
 use Rattle.receiver_piece.specs.Piece.{roomIn, roomOf, SameLengths}
 
 pub room-is : (m : Lent) → enoughToRead sizes (roomOf m) ≡ roomIn m
-unfolding enoughToRead roomOf hasRoom eventCells cellsPerEvent maxEvents maxStore readerWork
+unfolding enoughToRead roomOf hasRoom eventCells maxEvents maxStore readerWork
 room-is m = split (leb maxStream (length (m .held))) (λ e. rw e) (λ e. rw e)
 
 -- The same lengths are the same room.

@@ -13,7 +13,7 @@ use Rattle.spec_exi.specs.Sizes.{sizes, maxStream, maxStore}
 use Rattle.spec_exi.specs.Reader.{Reading, ReaderRoom, enoughToRead, readStream, readReply}
 use Rattle.spec_exi.specs.Packets.{complete, receive}
 use Rattle.event.specs.Cells.{cellsOfAll}
-use Rattle.mem_rows.specs.Rows.{isOver}
+use Rattle.event_code.specs.Numbers.{isOver}
 use Rattle.read_literal.proofs.Store.{zero-drop}
 use Rattle.open_elements.specs.declared.State.{State}
 use Rattle.reader.specs.declared.ReadReply.{ReadReply}

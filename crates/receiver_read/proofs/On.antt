@@ -21,7 +21,8 @@ use Rattle.spec_exi.specs.Reader.{Reading, readHeader, readEvents, readBody, re
 use Rattle.spec_exi.specs.Packets.{nothingYet, firstEvents, afterHeader, complete}
 use Rattle.event.specs.Cells.{cellsOfAll}
 use Rattle.event.proofs.Laws.{cells-append, cells-size}
-use Rattle.mem_rows.specs.Rows.{Rows, inDocument, isOver, tablesOf, contextOf}
+use Rattle.event_code.specs.Numbers.{inDocument, isOver}
+use Rattle.mem_rows.specs.Rows.{Rows, tablesOf, contextOf}
 use Rattle.mem_state.specs.Holds.{inStore, Bounded, Topped, Represents, contextAt}
 use Rattle.read_literal.specs.Literal.{ZeroFrom}
 use Rattle.read_literal.proofs.Store.{laid-size}
@@ -263,14 +264,13 @@ module _ {s : Settings} {stream events text work : List ℕ} {st : State} {first
         shows = rw (past .head) (answers .first)
 
         events-same : length events′ ≡ length events
-        unfolding cellsPerEvent eventCells maxEvents
+        unfolding eventCells maxEvents
         events-same =
             ap length (run .cells)
             ∙ laid-size events (9 * first) (cellsOfAll (run .es))
             (omega (arith, cells-size (run .es), run .count, p .progress .upTo, pre .cells))
 
         cells-are : events′ ≡ cellsOfAll all ++ replicate (length events′ - length (cellsOfAll all)) 0
-        unfolding cellsPerEvent
         cells-are =
             let a : List ℕ = cellsOfAll (u .es) in
             let b : List ℕ = cellsOfAll (run .es) in

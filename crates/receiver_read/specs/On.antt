@@ -15,7 +15,8 @@ use Rattle.spec_exi.specs.Reader.{Reading, readHeader, readStream}
 use Rattle.spec_exi.specs.Packets.{complete}
 use Rattle.event.specs.Cells.{cellsOfAll}
 use Rattle.mem_layout.specs.Layout.{zeroCells}
-use Rattle.mem_rows.specs.Rows.{Rows, inDocument, isOver}
+use Rattle.event_code.specs.Numbers.{inDocument, isOver}
+use Rattle.mem_rows.specs.Rows.{Rows}
 use Rattle.mem_state.specs.Holds.{inStore, Bounded, Topped, Represents, contextAt}
 use Rattle.mem_initial.specs.Initial.{zeroed, withText, withRows}
 use Rattle.read_literal.specs.Literal.{ZeroFrom}

@@ -6,7 +6,7 @@ use Rattle.receiver_course.proofs.has_room.Statement.{statement}
 use Rattle.receiver_course.proofs.has_room.Tie as tie
 
 returns : tie.Need-returns
-unfolding hasRoom maxStream maxStore cellsPerEvent maxEvents eventCells readerWork
+unfolding hasRoom maxStream maxStore maxEvents eventCells readerWork
 returns c = refl
 
 pub has-room-spec : {M : Type 1} → statement M
