@@ -1,13 +1,13 @@
 -- Calls one after the other: each answers by the octets so far, however they were cut.
 use mathlib.Core.Path.{_≡_, refl, sym, ap, ap₂, subst, _∙_}
-use mathlib.Core.Bool.{Bool, true, false, cond, not, _||_, true≢false}
+use mathlib.Core.Bool.{Bool, true, false, cond, _||_}
 use mathlib.Core.List.{List, [], _++_}
 use Prim.Native.Nat.{ℕ, _+_, _≤_, _<_}
 use native.Mathlib.Omega.{arith}
 use native.Mathlib.Decide.{ℕ-discrete}
 use lib.ListN.{length, length-append, replicate, length-replicate}
-use lib.Dec.{T, leb, eqb}
-use borrow.Author.Tests.{le-leb, lt-leb, leb-true, leb-false, eq-eqb, ne-eqb, eqb-true}
+use lib.Dec.{leb, eqb}
+use borrow.Author.Tests.{le-leb, lt-leb, leb-true, leb-false, eq-eqb, ne-eqb}
 use Rattle.spec_fields.specs.Refusal.{Refusal, numberOf, room, settings, long, ended, Answer}
 use Rattle.spec_fields.specs.Refusal.{refused, accepted}
 use Rattle.spec_fields.proofs.Tests.{split, is-T}
@@ -25,16 +25,16 @@ use Rattle.settings.specs.declared.SettingNumbers.{SettingNumbers}
 use Rattle.reader.specs.declared.ReadReply.{ReadReply}
 use Rattle.reader.specs.Read.{replyOf}
 use Rattle.receiver_record.specs.declared.Receiver.{Receiver}
-use Rattle.receiver_record.specs.Record.{isStarted, goingOn, isRefused, isClosed, refusalAt}
-use Rattle.receiver_record.specs.Record.{startedWith, withReply, Lent, lent, zeros, cleared, Left, left}
+use Rattle.receiver_record.specs.Record.{isRefused, isClosed, refusalAt}
+use Rattle.receiver_record.specs.Record.{startedWith, withReply, Lent, zeros, cleared, Left, left}
 use Rattle.event_code.specs.Numbers.{isOver}
 use Rattle.receiver_course.specs.declared.Course.{Course}
-use Rattle.receiver_course.specs.declared.Course.the-variants.{Repeats, Refused, Reads}
+use Rattle.receiver_course.specs.declared.Course.the-variants.{Refused, Reads}
 use Rattle.receiver_course.specs.Course.{isSound, courseOf, counted, refusedAfter}
 use Rattle.receiver_course.proofs.Ways.{is-refused, sound-few, sound-within, going-not-started}
 use Rattle.receiver_course.proofs.Ways.{roomy-is}
 use Rattle.receiver_phases.specs.Phases as phases
-use Rattle.receiver_piece.specs.Piece.{roomIn, roomOf, SameLengths, Holds, Told, Stopped, Took}
+use Rattle.receiver_piece.specs.Piece.{roomIn, roomOf, SameLengths, Holds, Told, Took}
 use Rattle.receiver_read.specs.On.{Stands}
 use Rattle.receiver_piece.proofs.Room.{room-is, same-room, read-is}
 use Rattle.receiver_piece.proofs.Told.{told-refused, told-stands}

@@ -1,17 +1,16 @@
 -- What the two calls leave, by the course.
-use mathlib.Core.Path.{_≡_, refl, sym, ap, _∙_}
-use mathlib.Core.Bool.{Bool, true}
+use mathlib.Core.Path.{_≡_, sym, ap, _∙_}
+use mathlib.Core.Bool.{Bool}
 use mathlib.Core.List.{List}
 use Prim.Native.Nat.{ℕ}
 use native.Mathlib.Omega.{arith}
 use lib.ListN.{length}
 use borrow.Author.Tests.{eq-eqb, ne-eqb}
-use Rattle.spec_fields.specs.Refusal.{numberOf, ended}
-use Rattle.event_code.specs.Numbers.{isOver}
+use Rattle.spec_fields.specs.Refusal.{numberOf}
 use Rattle.reader.specs.declared.ReadReply.{ReadReply}
 use Rattle.receiver_record.specs.declared.Receiver.{Receiver}
 use Rattle.receiver_record.specs.declared.Handed.{Handed}
-use Rattle.receiver_record.specs.Record.{isStarted, refusalAt, Lent, Left, left, handed}
+use Rattle.receiver_record.specs.Record.{refusalAt, Lent, Left, left, handed}
 use Rattle.receiver_course.specs.declared.Course.{Course}
 use Rattle.receiver_course.specs.declared.Course.the-variants.{Repeats, Refused, Reads}
 use Rattle.receiver_course.specs.Course.{courseOf}

@@ -6,7 +6,7 @@ use native.Mathlib.Omega.{arith}
 use lib.Dec.{leb, ltb, eqb}
 use borrow.Author.Tests.{eq-eqb, ne-eqb, le-leb, lt-leb, lt-ltb, leb-true, leb-false, ltb-true}
 use borrow.Author.Tests.{eqb-true, not-true, not-false}
-use Rattle.spec_fields.specs.Refusal.{numberOf, room, settings, long}
+use Rattle.spec_fields.specs.Refusal.{numberOf, room}
 use Rattle.spec_fields.proofs.Tests.{split}
 use Rattle.spec_exi.specs.Settings.{meaningful}
 use Rattle.spec_exi.specs.Sizes.{maxStream, maxEvents, maxOpen, maxUris, maxNames, maxValues}
@@ -19,7 +19,7 @@ use Rattle.mem_state.specs.declared.Core.{Core}
 use Rattle.mem_state.specs.Holds.{Bounded}
 use Rattle.reader.specs.declared.ReadReply.{ReadReply}
 use Rattle.receiver_record.specs.declared.Receiver.{Receiver}
-use Rattle.receiver_record.specs.Record.{isStarted, goingOn, isRefused, isClosed, refusalAt}
+use Rattle.receiver_record.specs.Record.{isStarted, goingOn, refusalAt}
 use Rattle.receiver_course.specs.declared.Course.{Course}
 use Rattle.receiver_course.specs.declared.Course.the-variants.{Repeats, Refused, Reads}
 use Rattle.receiver_course.specs.Course.{hasRoom, tablesIn, elementsIn, numbersIn, isSound}

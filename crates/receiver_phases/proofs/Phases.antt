@@ -1,6 +1,6 @@
 -- What each function leaves, from what its callees left.
-use mathlib.Core.Path.{_≡_, refl, ap, _∙_}
-use mathlib.Core.List.{List, [], _∷_, _++_}
+use mathlib.Core.Path.{_≡_, refl, _∙_}
+use mathlib.Core.List.{List}
 use Prim.Native.Nat.{ℕ, _+_, _≤_, _<_}
 use native.Mathlib.Numerals.{add-one}
 use native.Mathlib.Omega.{arith}
@@ -10,7 +10,7 @@ use borrow.Author.Tests.{eq-eqb, ne-eqb}
 use Rattle.reader.specs.declared.ReadReply.{ReadReply}
 use Rattle.receiver_record.specs.declared.Receiver.{Receiver}
 use Rattle.receiver_record.specs.Record.{isRefused, isClosed, withReply, Lent, lent, zeros, cleared}
-use Rattle.receiver_record.specs.Record.{Left, left}
+use Rattle.receiver_record.specs.Record.{left}
 use Rattle.receiver_course.specs.Course.{counted, refusedAfter}
 use Rattle.receiver_phases.specs.Phases.{kept, repeated, refused, closedBy, closedWhole}
 

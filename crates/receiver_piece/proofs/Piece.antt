@@ -1,18 +1,18 @@
 -- What each function asks of its callees, and leaves.
 use mathlib.Core.Path.{_≡_, refl, sym, ap, ap₂, subst, _∙_}
-use mathlib.Core.Bool.{Bool, true, false, cond, _||_, true≢false}
+use mathlib.Core.Bool.{Bool, true, false, _||_, true≢false}
 use mathlib.Core.List.{List, [], _++_}
-use Prim.Native.Nat.{ℕ, _+_, _*_, _≤_, _<_}
+use Prim.Native.Nat.{ℕ, _+_, _≤_}
 use native.Mathlib.Omega.{arith}
 use native.Mathlib.Decide.{ℕ-discrete}
 use lib.ListN.{length, take, drop, length-append}
 use lib.Seq.{length-take-le, take-at}
 use lib.Dec.{eqb}
 use borrow.Author.Tests.{le-leb, eq-eqb, eqb-true}
-use Rattle.spec_fields.specs.Refusal.{numberOf, ended, Answer}
+use Rattle.spec_fields.specs.Refusal.{numberOf, Answer}
 use Rattle.spec_fields.proofs.Tests.{split}
-use Rattle.spec_exi.specs.Settings.{Settings, meaningful, settingsOf}
-use Rattle.spec_exi.specs.Sizes.{sizes, maxStream, maxEvents, maxStore, maxOpen, readerWork}
+use Rattle.spec_exi.specs.Settings.{Settings, settingsOf}
+use Rattle.spec_exi.specs.Sizes.{sizes, maxStream, maxOpen, readerWork}
 use Rattle.spec_exi.specs.Reader.{Reading, enoughToRead}
 use Rattle.spec_exi.specs.Packets.{receive}
 use Rattle.settings.specs.Meant.{numbersOf, settingsMeant, settingsFrom}
@@ -29,17 +29,17 @@ use Rattle.reader.specs.Read.{eventsFilled, textFilled}
 use Rattle.receiver_record.specs.declared.Receiver.{Receiver}
 use Rattle.receiver_record.specs.declared.Handed.{Handed}
 use Rattle.receiver_record.specs.Record.{isStarted, goingOn, isRefused, refusalAt, startedWith}
-use Rattle.receiver_record.specs.Record.{withReply, Lent, lent, cleared, Left, left, handed}
+use Rattle.receiver_record.specs.Record.{withReply, Lent, lent, cleared, Left, handed}
 use Rattle.receiver_course.specs.Course.{counted, refusedAfter, isSound, Within}
 use Rattle.receiver_course.proofs.Ways.{Roomy, roomy-is, sound-within, going-not-started}
 use Rattle.receiver_course.proofs.Ways.{within-sound}
 use Rattle.receiver_phases.specs.Phases.{kept, refused}
-use Rattle.receiver_read.specs.On.{BeginPre, BeginPost, Underway, Stands, Onward, OnPost}
+use Rattle.receiver_read.specs.On.{BeginPre, BeginPost, Stands, Onward, OnPost}
 use Rattle.receiver_read.proofs.Longer.{underway-longer}
 use Rattle.receiver_read.proofs.Beginning.{begin-underway}
 use Rattle.receiver_piece.specs.Piece.{roomIn, roomOf, SameLengths, Carries, shown, Holds}
-use Rattle.receiver_piece.specs.Piece.{Told, Stopped, Took, ConcludePre, wentOn, concluded}
-use Rattle.receiver_piece.specs.Piece.{AdvancedPre, GoOnPre, GoOnPost, BegunPre}
+use Rattle.receiver_piece.specs.Piece.{Told, Took, ConcludePre, wentOn, concluded}
+use Rattle.receiver_piece.specs.Piece.{AdvancedPre, GoOnPre, GoOnPost}
 use Rattle.receiver_piece.specs.Piece.{BegunPost, PiecePre, PiecePost}
 use Rattle.receiver_piece.proofs.Room.{room-is, same-room, receive-refused}
 use Rattle.receiver_piece.proofs.Told.{told-refused, told-stands, receive-stands}
@@ -322,9 +322,9 @@ module _ {r : Receiver} {p : List ℕ} {m : Lent} (pre : PiecePre r p m) where
   room-for : Roomy (length (m .held)) (length (m .events)) (length (m .text)) (length (m .work))
   room-for = roomy-is _ _ _ _ (pre .room)
 
-  pub begun-asks : BegunPre r (m .events) (m .text) (m .work)
+  pub begun-asks : BeginPre (m .events) (m .text) (m .work)
   begun-asks =
-      record { cells = room-for .cells; store = room-for .store; rows = room-for .rows }
+      record { cells = room-for .cells; room = room-for .store; rows = room-for .rows }
 
   module _ {events′ text′ work′ : List ℕ} {b : Receiver}
       (begun : BegunPost r (m .events) (m .text) (m .work) events′ text′ work′ b)
@@ -373,13 +373,7 @@ module _ {r : Receiver} {p : List ℕ} {m : Lent} (pre : PiecePre r p m) where
           record {
             count = refl;
             held = refl;
-            underway = begin-underway
-                (record {
-                  cells = room-for .cells;
-                  room = room-for .store;
-                  rows = room-for .rows;
-                })
-                post (settingsOf (numbersOf (r .settings)));
+            underway = begin-underway begun-asks post (settingsOf (numbersOf (r .settings)));
           }
 
       kept-first : first-record .settings ≡ r .settings

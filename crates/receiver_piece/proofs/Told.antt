@@ -1,26 +1,23 @@
 -- Reply and cells of an answer.
-use mathlib.Core.Path.{_≡_, refl, sym, ap, _∙_}
+use mathlib.Core.Path.{_≡_, sym, ap, _∙_}
 use mathlib.Core.Bool.{true}
 use mathlib.Core.List.{List, _++_}
-use Prim.Native.Nat.{ℕ, _+_, _-_, _≤_, _<_}
-use native.Mathlib.Omega.{arith}
+use Prim.Native.Nat.{ℕ, _+_, _-_, _≤_}
 use native.Mathlib.Decide.{ℕ-discrete}
-use lib.ListN.{length, take, drop, replicate, take-append-drop, length-replicate}
+use lib.ListN.{length, take, replicate, take-append-drop}
 use lib.Seq.{length-take-le}
-use Rattle.spec_fields.specs.Refusal.{Refusal, numberOf, ended, Answer, refused, accepted}
+use Rattle.spec_fields.specs.Refusal.{Refusal, numberOf, Answer, refused, accepted}
 use Rattle.spec_exi.specs.Settings.{Settings, SettingNumbers, meaningful, settingsOf}
-use Rattle.spec_exi.specs.Sizes.{sizes, maxStream, maxStore}
-use Rattle.spec_exi.specs.Reader.{Reading, ReaderRoom, enoughToRead, readStream, readReply}
+use Rattle.spec_exi.specs.Sizes.{sizes, maxStream}
+use Rattle.spec_exi.specs.Reader.{Reading, ReaderRoom, enoughToRead, readReply}
 use Rattle.spec_exi.specs.Packets.{complete, receive}
-use Rattle.event.specs.Cells.{cellsOfAll}
 use Rattle.event_code.specs.Numbers.{isOver}
 use Rattle.read_literal.proofs.Store.{zero-drop}
 use Rattle.open_elements.specs.declared.State.{State}
-use Rattle.reader.specs.declared.ReadReply.{ReadReply}
 use Rattle.reader.specs.Read.{replyOf, eventsFilled, textFilled}
-use Rattle.receiver_record.specs.Record.{refusalAt, Lent, lent, zeros, cleared}
+use Rattle.receiver_record.specs.Record.{refusalAt, Lent, lent, cleared}
 use Rattle.receiver_read.specs.On.{Stands}
-use Rattle.receiver_piece.specs.Piece.{shown, SameLengths, Told}
+use Rattle.receiver_piece.specs.Piece.{shown, Told}
 use Rattle.receiver_piece.proofs.Room.{receive-whole, receive-cut}
 
 -- A refusal's: all is cleared.

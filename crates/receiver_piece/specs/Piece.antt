@@ -17,10 +17,10 @@ use Rattle.reader.specs.Read.{replyOf, eventsFilled, textFilled}
 use Rattle.receiver_record.specs.declared.Receiver.{Receiver}
 use Rattle.receiver_record.specs.declared.Handed.{Handed}
 use Rattle.receiver_record.specs.Record.{isStarted, goingOn, isRefused, refusalAt, startedWith}
-use Rattle.receiver_record.specs.Record.{withReply, Lent, lent, cleared, Left, left, handed}
+use Rattle.receiver_record.specs.Record.{withReply, Lent, cleared, Left, handed}
 use Rattle.receiver_course.specs.Course.{hasRoom, isSound, Within}
 use Rattle.receiver_phases.specs.Phases.{refused}
-use Rattle.receiver_read.specs.On.{BeginPre, BeginPost, Underway, Stands}
+use Rattle.receiver_read.specs.On.{BeginPost, Underway, Stands}
 
 -- ---- room
 
@@ -143,11 +143,6 @@ pub record GoOnPost (r : Receiver) (p : List ℕ) (m m′ : Lent) (f : Handed) :
       → Took r (os ++ p) m (f .receiver) m′ (f .reply)
 
 -- ---- the first piece
-
-pub record BegunPre (r : Receiver) (events text work : List ℕ) : Type 0 where
-  pub cells : eventCells ≤ length events
-  pub store : maxStore ≤ length text
-  pub rows : readerWork ≤ length work
 
 pub record BegunPost (r : Receiver) (events text work events′ text′ work′ : List ℕ) (b : Receiver) :
     Type 0 where

@@ -4,9 +4,9 @@ ghost use mathlib.Core.Path.{_≡_};
 ghost use Rattle.settings.specs.Meant.{settingsMeant, settingsFrom};
 ghost use lib.ListN.{take};
 ghost use Rattle.receiver_record.specs.Record.{lent, handed};
-ghost use Rattle.receiver_read.specs.On.{OnPost};
+ghost use Rattle.receiver_read.specs.On.{BeginPre, OnPost};
 ghost use Rattle.receiver_piece.specs.Piece.{wentOn, concluded, ConcludePre, AdvancedPre};
-ghost use Rattle.receiver_piece.specs.Piece.{GoOnPre, GoOnPost, BegunPre, BegunPost};
+ghost use Rattle.receiver_piece.specs.Piece.{GoOnPre, GoOnPost, BegunPost};
 ghost use Rattle.receiver_piece.specs.Piece.{PiecePre, PiecePost};
 use read_run::Advanced;
 use reader::ReadReply;
@@ -112,7 +112,7 @@ fn go_on(
 
 // Lays what memory holds before the first event, at the start.
 fn begun(r: Receiver, events: &mut [u32], text: &mut [u32], work: &mut [u32]) -> Receiver
-    requires { ⌜ BegunPre r (now events) (now text) (now work) ⌝ }
+    requires { ⌜ BeginPre (now events) (now text) (now work) ⌝ }
     ensures { λ b. ⌜ BegunPost r (now (events .entry)) (now (text .entry)) (now (work .entry))
         (now (events .exit)) (now (text .exit)) (now (work .exit)) b ⌝ }
 {

@@ -1,12 +1,13 @@
 -- Cells after other cells, and zeros after them.
-use mathlib.Core.Path.{_≡_, refl, sym, ap, _∙_}
+use mathlib.Core.Path.{_≡_, sym, ap, _∙_}
 use mathlib.Core.List.{List, _++_}
-use Prim.Native.Nat.{ℕ, zero, suc, _+_, _-_, _≤_}
+use Prim.Native.Nat.{ℕ, _+_, _-_}
 use native.Mathlib.Omega.{arith}
 use lib.ListN.{length, getD, take, drop, replicate, length-append}
 use lib.Seq.{getD-append-add, take-at, drop-at, drop-drop}
 use Rattle.read_literal.specs.Literal.{laidAt, ZeroFrom}
 use Rattle.read_body.proofs.Cells.{drop-zeros}
+use Rattle.reader.proofs.Start.{zeros-at}
 
 -- Cells b are laid after a, over zeros.
 module _ (l a b : List ℕ) (n : ℕ) (size : length a ≡ n)
@@ -30,11 +31,6 @@ module _ (l a b : List ℕ) (n : ℕ) (size : length a ≡ n)
       ap (λ (m : List ℕ). take n m ++ b ++ drop (n + length b) l) is
       ∙ ap (λ (m : List ℕ). m ++ b ++ drop (n + length b) l) (take-at a rest n size)
       ∙ ap (λ (m : List ℕ). a ++ b ++ m) over-zeros
-
-zeros-at : (n k : ℕ) → getD {A = ℕ} (replicate n 0) k 0 ≡ 0
-zeros-at zero k = refl
-zeros-at (suc n) zero = refl
-zeros-at (suc n) (suc k) = zeros-at n k
 
 -- After something there are zeros alone.
 pub zero-after : (l front : List ℕ) (n k : ℕ) → l ≡ front ++ replicate k 0 → length front ≡ n

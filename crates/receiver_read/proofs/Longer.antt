@@ -1,7 +1,6 @@
 -- Octets that follow change nothing of what was read; and where header and events end.
-use mathlib.Core.Path.{_≡_, refl, sym, ap, _∙_}
-use mathlib.Core.Bool.{true, false}
-use mathlib.Core.List.{List, [], _++_}
+use mathlib.Core.Path.{_≡_, sym, ap, _∙_}
+use mathlib.Core.List.{List, _++_}
 use Prim.Native.Nat.{ℕ, _+_, _*_, _-_, _≤_, _<_}
 use native.Mathlib.Omega.{arith}
 use lib.ListN.{length, drop, length-append, length-drop}
@@ -14,7 +13,7 @@ use Rattle.spec_exi.specs.Settings.{Settings, headerOf}
 use Rattle.spec_exi.specs.Sizes.{sizes}
 use Rattle.spec_exi.specs.Event.{Event}
 use Rattle.spec_exi.specs.Tables.{Placed}
-use Rattle.spec_exi.specs.Context.{Context, start}
+use Rattle.spec_exi.specs.Context.{Context}
 use Rattle.spec_exi.specs.Reader.{readHeader}
 use Rattle.spec_exi.proofs.Steady.{steady-header}
 use Rattle.spec_exi.proofs.Step.{step-reads}

@@ -8,22 +8,21 @@ use native.Mathlib.Decide.{ℕ-discrete}
 use lib.ListN.{length, take, drop, replicate, length-append, length-drop}
 use lib.Seq.{length-take-le}
 use Rattle.spec_fields.specs.Bits.{Bits, unpack, isPadding}
-use Rattle.spec_fields.specs.Refusal.{Refusal, numberOf, ended, tail, Answer, refused, accepted}
+use Rattle.spec_fields.specs.Refusal.{Refusal, numberOf, ended, tail, refused, accepted}
 use Rattle.spec_fields.specs.Parser.{bad, got}
 use Rattle.spec_fields.proofs.Pack.{length-unpack}
 use Rattle.spec_exi.specs.Settings.{Settings, headerOf}
-use Rattle.spec_exi.specs.Sizes.{sizes, maxEvents, maxStore, cellsPerEvent, eventCells}
+use Rattle.spec_exi.specs.Sizes.{sizes, maxEvents, cellsPerEvent, eventCells}
 use Rattle.spec_exi.specs.Event.{Event}
 use Rattle.spec_exi.specs.Tables.{Placed}
 use Rattle.spec_exi.specs.Grammar.{isFinished}
 use Rattle.spec_exi.specs.Context.{Context, start}
-use Rattle.spec_exi.specs.Reader.{Reading, readHeader, readEvents, readBody, readStream, ending}
-use Rattle.spec_exi.specs.Packets.{nothingYet, firstEvents, afterHeader, complete}
+use Rattle.spec_exi.specs.Reader.{readHeader, readEvents, readBody, readStream, ending}
+use Rattle.spec_exi.specs.Packets.{nothingYet, afterHeader, complete}
 use Rattle.event.specs.Cells.{cellsOfAll}
 use Rattle.event.proofs.Laws.{cells-append, cells-size}
-use Rattle.event_code.specs.Numbers.{inDocument, isOver}
-use Rattle.mem_rows.specs.Rows.{Rows, tablesOf, contextOf}
-use Rattle.mem_state.specs.Holds.{inStore, Bounded, Topped, Represents, contextAt}
+use Rattle.mem_rows.specs.Rows.{tablesOf, contextOf}
+use Rattle.mem_state.specs.Holds.{inStore, Topped, Represents, contextAt}
 use Rattle.read_literal.specs.Literal.{ZeroFrom}
 use Rattle.read_literal.proofs.Store.{laid-size}
 use Rattle.open_elements.specs.declared.State.{State}
@@ -44,7 +43,7 @@ use Rattle.receiver_read.proofs.Longer.{header-ends, steps-shorter}
 
 -- ---- the header
 
--- Behind the header.
+-- After the header.
 pub record Past (s : Settings) (stream : List ℕ) (es : List (Event Placed)) (c : Context) (at : ℕ) :
     Type 0 where
   pub p : ℕ

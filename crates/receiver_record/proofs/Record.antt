@@ -1,5 +1,5 @@
 -- The record at the start.
-use mathlib.Core.Path.{_≡_, ap}
+use mathlib.Core.Path.{_≡_}
 use Rattle.settings.specs.declared.SettingNumbers.{SettingNumbers}
 use Rattle.mem_state.specs.declared.Core.{Core}
 use Rattle.mem_initial.specs.Initial.{startAt}

@@ -11,7 +11,7 @@ use Rattle.reader.specs.declared.ReadReply.{ReadReply}
 use Rattle.reader.specs.Read.{answerOf}
 use Rattle.reader.specs.Read as reader
 use Rattle.receiver_record.specs.declared.Receiver.{Receiver}
-use Rattle.receiver_record.specs.Record.{Lent, zeros, cleared, Left, left}
+use Rattle.receiver_record.specs.Record.{Lent, zeros, cleared, left}
 use Rattle.receiver_piece.specs.Piece.{roomOf, Told}
 use Rattle.receiver.specs.Calls.{Fed, Closed}
 use Rattle.receiver.specs.Chain.{Chain}

@@ -1,5 +1,4 @@
 -- `refused_after` meets its contract.
-use mathlib.Core.Path.{_∙_}
 use borrow.Author.Needs.{needs}
 use borrow.Author.Tests.{le-leb, lt-leb}
 use Rattle.spec_fields.specs.Refusal.{numberOf}

@@ -8,9 +8,7 @@ returns : tie.Need-returns
 returns c = begun-already _ (c .if1 .taken)
 
 begin-requires : tie.Need-begin-requires
-begin-requires c κs =
-    let start = c .before .before .before .before .before .before .before .before in
-    record { cells = start .pre .cells; room = start .pre .store; rows = start .pre .rows }
+begin-requires c κs = c .before .before .before .before .before .before .before .before .pre
 
 started-requires : tie.Need-started-requires
 started-requires c κs = search needs
