@@ -24,6 +24,7 @@ use event_code::SE;
 // state, by its number; the row of the innermost open element's name, or 0; how many are open; and
 // the mark of the start tag's attributes: one more than how many events had come up to the newest
 // that is no attribute, that one counted.
+#[repr(C)]
 pub struct Core {
     pub at: usize,
     pub stored: usize,

@@ -11,6 +11,7 @@ use mem_state::Core;
 use sizes::MAX_OPEN;
 
 // The numbers, and the open elements by the rows of their names, the innermost last.
+#[repr(C)]
 pub struct State {
     pub core: Core,
     pub opened: [u16; MAX_OPEN],

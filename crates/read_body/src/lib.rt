@@ -37,7 +37,7 @@ pub fn refused(number: u32, index: usize) -> BodyReply
 }
 
 // Whether pad bits are left behind a position: fewer than an octet has, and all zero.
-fn is_padding(stream: &[u8], at: usize) -> bool
+pub fn is_padding(stream: &[u8], at: usize) -> bool
     requires { ⌜ PlaceIn (now stream) at ⌝ }
     ensures { λ r. ⌜ r ≡ isPadding (drop at (unpack (now (stream .entry)))) ⌝ }
 {

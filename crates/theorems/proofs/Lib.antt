@@ -1,5 +1,6 @@
 pub mod Claims
 pub mod Pieces
+pub mod Split
 pub mod Left
 pub mod Round
 pub mod Cells

@@ -1,5 +1,6 @@
 pub mod Claims
 pub mod Pieces
+pub mod Split
 pub mod Calls
 pub mod Cells
 pub mod Readings

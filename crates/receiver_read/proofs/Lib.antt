@@ -1,0 +1,4 @@
+pub mod Laid
+pub mod Longer
+pub mod Beginning
+pub mod On
