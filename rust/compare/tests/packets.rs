@@ -17,6 +17,8 @@ use compare::generate::{self, Profile};
 use compare::lent::{
     ReaderPart, Settings, CODE, ENDED, HEADER, LIMIT, LONG, REFERENCE, ROOM, SETTINGS, TAIL,
 };
+#[cfg(feature = "packets")]
+use compare::packets::check::run_changed;
 use compare::packets::check::PacketComparison;
 use compare::packets::cut::{after_the_close, at_random, by_octets, filled_up, short_once};
 use compare::packets::{Call, PacketMemory, PacketSizes, Receiver, RECEIVERS};
@@ -281,54 +283,18 @@ fn random_streams() {
     }
 }
 
-/// Record and memory changed at random between calls: every call returns, and nothing is touched
-/// that was not lent.
+/// Record and memory changed at random between calls.
 #[cfg(feature = "packets")]
 #[test]
 fn changed_records_and_memory() {
-    use compare::lent::Codec;
-    use plumethrift::lent::RECEIVER_WORDS;
-
     let mut rng = Prng::new(seed());
     let mut memory = PacketMemory::new();
-    let number = |rng: &mut Prng| -> u32 {
-        match rng.below(6) {
-            0 => 0,
-            1 => rng.below(8) as u32,
-            2 => rng.below(200) as u32,
-            3 => rng.below(140_000) as u32,
-            4 => u32::MAX - rng.below(3) as u32,
-            _ => rng.number() as u32,
-        }
-    };
     for _ in 0..rounds() {
         let settings = generate::settings(&mut rng);
-        let strict = encode(
-            settings,
-            &generate::list(&mut rng, settings, Profile::Small),
-        );
-        let stream = damaged_fields(&mut rng, &strict);
+        let list = generate::list(&mut rng, settings, Profile::Small);
+        let stream = damaged_fields(&mut rng, &encode(settings, &list));
         let calls = at_random(&mut rng, &stream);
-        let mut receiver = Receiver::start(Codec::Library, settings).expect("a receiver");
-        memory.start();
-        for call in &calls {
-            let _ = memory.call(&mut receiver, call);
-            assert!(
-                memory.rest_is_kept(),
-                "{}",
-                Request::packets(settings, &calls)
-            );
-            if rng.one_in(2) {
-                let Receiver::Library(record) = &mut receiver else {
-                    unreachable!()
-                };
-                let word = u64::from(number(&mut rng)) << 32 | u64::from(number(&mut rng));
-                record.set_word(rng.below(RECEIVER_WORDS), word);
-            }
-            for _ in 0..rng.below(4) {
-                let (part, place) = (rng.below(4), rng.below(40_000));
-                memory.change(part, place, number(&mut rng));
-            }
-        }
+        let changed = run_changed(&mut rng, &mut memory, settings, &calls);
+        changed.unwrap_or_else(|error| panic!("{error}"));
     }
 }

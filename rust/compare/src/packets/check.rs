@@ -4,6 +4,8 @@
 use super::{Call, PacketMemory, Receiver, RECEIVERS};
 use crate::event::CELLS;
 use crate::lent::{Codec, ReadReply, ReaderSizes, Settings, ENDED, LONG, ROOM, SETTINGS};
+#[cfg(feature = "packets")]
+use crate::prng::Prng;
 use crate::protocol::Request;
 use crate::sizes::MAX_STREAM;
 
@@ -241,5 +243,48 @@ impl Expected {
             let left = (MAX_STREAM + 1).saturating_sub(self.octets.len());
             self.octets.extend(&piece[..piece.len().min(left)]);
         }
+    }
+}
+
+/// The library's receiver, with its record and the lent memory changed at random between calls:
+/// every call has to return, and nothing may be touched that was not lent.
+#[cfg(feature = "packets")]
+pub fn run_changed(
+    rng: &mut Prng,
+    memory: &mut PacketMemory,
+    settings: Settings,
+    calls: &[Call],
+) -> Result<(), String> {
+    let record = plumethrift::lent::start(crate::lent::library_settings(settings));
+    let mut receiver = Receiver::Library(record);
+    memory.start();
+    for call in calls {
+        memory.call(&mut receiver, call);
+        if !memory.rest_is_kept() {
+            let request = Request::packets(settings, calls);
+            return Err(format!("{request}\na cell changed that was not lent"));
+        }
+        if let (Receiver::Library(record), true) = (&mut receiver, rng.one_in(2)) {
+            let word = u64::from(number(rng)) << 32 | u64::from(number(rng));
+            record.set_word(rng.below(plumethrift::lent::RECEIVER_WORDS), word);
+        }
+        for _ in 0..rng.below(4) {
+            let (part, place) = (rng.below(4), rng.below(40_000));
+            memory.change(part, place, number(rng));
+        }
+    }
+    Ok(())
+}
+
+/// A number as counts, places and positions are, or any.
+#[cfg(feature = "packets")]
+fn number(rng: &mut Prng) -> u32 {
+    match rng.below(6) {
+        0 => 0,
+        1 => rng.below(8) as u32,
+        2 => rng.below(200) as u32,
+        3 => rng.below(140_000) as u32,
+        4 => u32::MAX - rng.below(3) as u32,
+        _ => rng.number() as u32,
     }
 }
