@@ -325,11 +325,11 @@ plumethrift_receiver plumethrift_start(plumethrift_settings settings);
 
 /*
  * Hands over the next piece of the stream, of any length. Number 0: the stream may go on or be
- * complete; `events` and `text` show the events that are complete from the octets so far, counted in
- * the reply, and zeros past them. Refused is a piece once the octets so far, read whole, are refused
- * by a number other than ENDED. A refusal stays until a receiver is started afresh, but past 16,384
- * octets, all of them counted, it is LONG, unless it is ROOM or SETTINGS. From a refusal on every
- * call leaves all that is lent zero, but the record. Refusals 1 to 4 and 6 to 14.
+ * complete; `events` and `text` show the events that are complete from the octets so far, counted
+ * in the reply, and zeros past them. Refused is a piece once the octets so far, read whole, are
+ * refused by a number other than ENDED. A refusal stays until a receiver is started afresh, but
+ * past 16,384 octets, all of them counted, it is LONG, unless it is ROOM or SETTINGS. From a
+ * refusal on every call leaves all that is lent zero, but the record. Refusals 1 to 4 and 6 to 14.
  */
 plumethrift_read_reply plumethrift_feed(plumethrift_receiver *receiver,
                                         const uint8_t *piece, size_t piece_octets,

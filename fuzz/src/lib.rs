@@ -16,11 +16,12 @@
 //! are numbers up to the end: by how much a stamp is above the one before, and the movement, twice
 //! its size, and one more below 0.
 //!
-//! With 2 set there, too, the request is the calls of a receiver. An octet follows with the settings
-//! as above, then calls up to the end. A call is an octet, up to 240 as many octets of a piece;
-//! [`CLOSE`] is the close, [`LONG_PIECE`] a piece with its length as a number before it, [`ZEROS`]
-//! one of zeros, given by its length. Before these may stand [`OTHER_MEMORY`], which counts after the
-//! close alone, and one of the octets from [`SHORT_CALL`] on, which lend a part short.
+//! With 2 set there, too, the request is the calls of a receiver. An octet follows with the
+//! settings as above, then calls up to the end. A call is an octet, up to 240 as many octets of a
+//! piece; [`CLOSE`] is the close, [`LONG_PIECE`] a piece with its length as a number before it,
+//! [`ZEROS`] one of zeros, given by its length. Before these may stand [`OTHER_MEMORY`], which
+//! counts after the close alone, and one of the octets from [`SHORT_CALL`] on, which lend a part
+//! short.
 
 #![forbid(unsafe_code)]
 

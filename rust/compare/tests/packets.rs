@@ -1,9 +1,9 @@
 //! Streams in pieces: every implementation that has a receiver against the ordinary reader on the
 //! octets so far.
 //!
-//! A run puts 6,000 streams in a release build and 300 otherwise; `COMPARE_REQUESTS` and
-//! `COMPARE_SEED` ask for others, the first as one stream for 60 requests. What fails is told by its
-//! request line, which the batch program takes.
+//! A run puts 6,000 random streams in a release build and 300 otherwise; `COMPARE_REQUESTS` and
+//! `COMPARE_SEED` ask for others, the first as one stream for 60 requests. What fails is told by
+//! its request line, which the batch program takes.
 
 #![forbid(unsafe_code)]
 
@@ -214,7 +214,7 @@ fn streams() -> Vec<(Settings, Vec<u8>)> {
 }
 
 /// Streams up to this length are judged after each octet, longer ones after every so many.
-const SHORT_STREAM: usize = 250;
+const SHORT_STREAM: usize = 150;
 
 fn every(stream: &[u8]) -> usize {
     if stream.len() <= SHORT_STREAM {

@@ -180,8 +180,8 @@ fn settings_of_several_requests() {
     run(now.into_iter(), 13);
 }
 
-/// The requests of `cross.txt` that are understood, whatever settings they name: those to read, whole
-/// or in pieces, and those to write events without prefixes.
+/// The requests of `cross.txt` that are understood, whatever settings they name: those to read,
+/// whole or in pieces, and those to write events without prefixes.
 fn understood() -> impl Iterator<Item = &'static str> {
     let requests = lines(CROSS).map(|(request, _)| request);
     requests.filter(|request| Request::parse(request).is_ok())

@@ -294,7 +294,7 @@ pub(crate) fn feed(
     text: &mut [u32],
     work: &mut [u32],
 ) -> ReadReply {
-    // SAFETY: as in `read`; the record is borrowed like a slice, and any contents of it are allowed.
+    // SAFETY: as in `read`; the record is borrowed like a slice, and may have any contents.
     unsafe {
         plumethrift_feed(
             receiver,

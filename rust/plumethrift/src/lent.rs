@@ -300,16 +300,16 @@ pub fn start(s: SettingNumbers) -> ReceiverRecord {
 
 /// Hands over the next piece of the stream, of any length, and shows the events that are complete.
 ///
-/// Lent are [`HELD_OCTETS`] of `held`, at least, and `events`, `text` and `work` as to [`read`]; the
-/// same to each call of one receiver, as the call before left them. Before the first call they may
-/// hold anything. Number 0 says that the stream goes on: the events so far are the first
+/// Lent are [`HELD_OCTETS`] of `held`, at least, and `events`, `text` and `work` as to [`read`];
+/// the same to each call of one receiver, as the call before left them. Before the first call they
+/// may hold anything. Number 0 says that the stream goes on: the events so far are the first
 /// `9 * reply.events` of `events`, their text store the first `reply.code_points` of `text`, and
 /// cells past both are zero. `held` and `work` are then the receiver's.
 ///
 /// A piece is refused once the octets so far, read whole, are refused otherwise than as ENDED. The
 /// refusal stays; but past 16,384 octets, those of refused pieces counted, it is LONG, unless it is
-/// ROOM or SETTINGS. From then on each call leaves all that is lent zero. After [`close`] its answer
-/// is repeated.
+/// ROOM or SETTINGS. From a refusal on each call leaves all that is lent zero. After [`close`] its
+/// answer is repeated.
 #[cfg(feature = "packets")]
 pub fn feed(
     receiver: &mut ReceiverRecord,

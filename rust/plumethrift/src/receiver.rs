@@ -25,7 +25,7 @@ use crate::settings::Settings;
 /// assert_eq!(receiver.feed(&[0x80, 0x01, 0x02])?.len(), 1);
 /// assert_eq!(receiver.feed(&[0x61, 0x03, 0x04, 0x62])?.len(), 2);
 /// let progress = receiver.feed(&[0x62])?;
-/// let Some(Event::Characters(text)) = progress.new_events().next() else { panic!() };
+/// let Some(Event::Characters { text }) = progress.new_events().next() else { panic!() };
 /// assert_eq!(text, "bb");
 /// assert_eq!(receiver.feed(&[0x00])?.len(), 5);
 /// assert_eq!(receiver.close()?.len(), 5);

@@ -106,8 +106,8 @@ impl PacketComparison {
         self.run_some(settings, calls, 1)
     }
 
-    /// All calls; of those that go on every so many are judged, and the memory after each. Where not
-    /// every one is, the ordinary receiver is left out: it takes as long as the judge.
+    /// All calls; of those that go on every so many are judged, and the memory after each. Where
+    /// not every one is, the ordinary receiver is left out: it takes as long as the judge.
     pub fn run_some(
         &mut self,
         settings: Settings,
@@ -256,7 +256,7 @@ pub fn run_changed(
     calls: &[Call],
 ) -> Result<(), String> {
     let record = plumethrift::lent::start(crate::lent::library_settings(settings));
-    let mut receiver = Receiver::Library(record);
+    let mut receiver = Receiver::Library(Box::new(record));
     memory.start();
     for call in calls {
         memory.call(&mut receiver, call);

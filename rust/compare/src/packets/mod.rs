@@ -43,7 +43,7 @@ impl Call {
 #[derive(Clone, Debug)]
 pub enum Receiver {
     #[cfg(feature = "packets")]
-    Library(plumethrift::lent::ReceiverRecord),
+    Library(Box<plumethrift::lent::ReceiverRecord>),
     Ordinary(ordinary::Receiver),
 }
 
@@ -54,7 +54,7 @@ impl Receiver {
             #[cfg(feature = "packets")]
             Codec::Library => {
                 let s = crate::lent::library_settings(settings);
-                Some(Receiver::Library(plumethrift::lent::start(s)))
+                Some(Receiver::Library(Box::new(plumethrift::lent::start(s))))
             }
             #[cfg(not(feature = "packets"))]
             Codec::Library => None,
