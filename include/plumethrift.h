@@ -299,6 +299,57 @@ plumethrift_write_reply plumethrift_write_readings(plumethrift_settings settings
                                                    uint32_t *text, size_t text_cells,
                                                    uint32_t *work, size_t work_cells);
 
+#ifdef PLUMETHRIFT_PACKETS
+/*
+ * The stream in packets
+ *
+ *   A receiver reads a stream that comes in pieces. The caller keeps one record of it,
+ *   plumethrift_receiver, and lends it to each call together with the memory: `held`, at least
+ *   PLUMETHRIFT_HELD_OCTETS octets, in which the stream so far is kept, and `events`, `text` and
+ *   `work` as to plumethrift_read. Before the first call the memory may hold anything. From then on
+ *   record and memory go from call to call as they are; where one is changed between them, the
+ *   answers may be other ones, and all stays safe.
+ *
+ *   However a stream is cut, empty pieces included, the closing call answers and leaves what
+ *   plumethrift_read does for the whole of it; `held` is zero then, too.
+ */
+#define PLUMETHRIFT_HELD_OCTETS 16384 /* receiver: octets of the stream so far */
+#define PLUMETHRIFT_RECEIVER_WORDS 43 /* 64-bit words of a receiver's record */
+
+/* A receiver between its calls. What the words are is the library's affair. */
+typedef struct plumethrift_receiver {
+  uint64_t words[PLUMETHRIFT_RECEIVER_WORDS];
+} plumethrift_receiver;
+
+/* Starts a receiver for one stream. Settings without a meaning are refused by its calls. */
+plumethrift_receiver plumethrift_start(plumethrift_settings settings);
+
+/*
+ * Hands over the next piece of the stream, of any length. Number 0: the stream may go on or be
+ * complete; `events` and `text` show the events that are complete from the octets so far, counted
+ * in the reply, and zeros past them. Refused is a piece once the octets so far, read whole, are
+ * refused by a number other than ENDED. A refusal stays until a receiver is started afresh, but
+ * past 16,384 octets, all of them counted, it is LONG, unless it is ROOM or SETTINGS. From a
+ * refusal on every call leaves all that is lent zero, but the record. Refusals 1 to 4 and 6 to 14.
+ */
+plumethrift_read_reply plumethrift_feed(plumethrift_receiver *receiver,
+                                        const uint8_t *piece, size_t piece_octets,
+                                        uint8_t *held, size_t held_octets,
+                                        uint32_t *events, size_t event_cells,
+                                        uint32_t *text, size_t text_cells,
+                                        uint32_t *work, size_t work_cells);
+
+/*
+ * Says that the stream has ended. Calls after this one repeat its answer, whatever they are given;
+ * they leave what is lent as it is, or zero where the answer is a refusal. Refusals 1 to 14.
+ */
+plumethrift_read_reply plumethrift_close(plumethrift_receiver *receiver,
+                                         uint8_t *held, size_t held_octets,
+                                         uint32_t *events, size_t event_cells,
+                                         uint32_t *text, size_t text_cells,
+                                         uint32_t *work, size_t work_cells);
+#endif
+
 /* The name of a refusal, "ROOM" to "NOT_LATER" for 1 to 19; "" for any other number. */
 plumethrift_name plumethrift_refusal_name(uint32_t number);
 

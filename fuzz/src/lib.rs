@@ -15,11 +15,19 @@
 //! for the readings of a list, which follows as to write. Of the other bits only 32 counts. Readings
 //! are numbers up to the end: by how much a stamp is above the one before, and the movement, twice
 //! its size, and one more below 0.
+//!
+//! With 2 set there, too, the request is the calls of a receiver. An octet follows with the
+//! settings as above, then calls up to the end. A call is an octet, up to 240 as many octets of a
+//! piece; [`CLOSE`] is the close, [`LONG_PIECE`] a piece with its length as a number before it,
+//! [`ZEROS`] one of zeros, given by its length. Before these may stand [`OTHER_MEMORY`], which
+//! counts after the close alone, and one of the octets from [`SHORT_CALL`] on, which lend a part
+//! short.
 
 #![forbid(unsafe_code)]
 
 use compare::event::{stored_strings, strings_of, Stored, ATTRIBUTE, CELLS};
 use compare::lent::{ReaderPart, Settings, WriterPart};
+use compare::packets::Call;
 use compare::protocol::{ReadingsPart, Request};
 use compare::readings::{ListPart, Reading};
 
@@ -35,6 +43,23 @@ const LIST_PARTS: [ListPart; 2] = [ListPart::Events, ListPart::Text];
 /// In the first octet: about readings.
 const READINGS: u8 = NO_ALIGNMENT | 1;
 
+/// In the first octet: calls of a receiver.
+const PACKETS: u8 = READINGS | 2;
+
+/// In place of a piece's length, at most 240: the close.
+pub const CLOSE: u8 = 241;
+/// In place of a piece's length: this follows as a number.
+pub const LONG_PIECE: u8 = 242;
+/// In place of a piece: zeros, as many as the number that follows says.
+pub const ZEROS: u8 = 243;
+/// Before a call: other memory is lent to it.
+pub const OTHER_MEMORY: u8 = 244;
+/// Before a call: events are lent short; with the next two octets text and work.
+pub const SHORT_CALL: u8 = 245;
+
+/// The most zeros in one piece.
+const MAX_ZEROS: u32 = 20_000;
+
 /// In place of a kind: cells as they are.
 pub const RAW: u32 = 127;
 
@@ -44,6 +69,11 @@ pub const AGAIN: u32 = 126;
 pub fn request(input: &[u8]) -> Option<Request> {
     let (&first, rest) = input.split_first()?;
     let mut numbers = Numbers { octets: rest };
+    if first & PACKETS == PACKETS {
+        let settings = settings(numbers.octet(), &mut numbers);
+        let calls = calls(&mut numbers);
+        return Some(Request::Packets { settings, calls });
+    }
     if first & READINGS == READINGS {
         return Some(request_of_readings(first, &mut numbers));
     }
@@ -66,6 +96,62 @@ pub fn request(input: &[u8]) -> Option<Request> {
             list: list(&mut numbers),
         }
     })
+}
+
+fn calls(numbers: &mut Numbers) -> Vec<Call> {
+    let mut calls: Vec<Call> = Vec::new();
+    let mut next = Call::default();
+    while let Some((&first, rest)) = numbers.octets.split_first() {
+        numbers.octets = rest;
+        next.piece = match first {
+            CLOSE => None,
+            LONG_PIECE => {
+                let length = numbers.next().unwrap_or(0) as usize;
+                Some(numbers.taken(length))
+            }
+            ZEROS => Some(vec![0; numbers.next().unwrap_or(0).min(MAX_ZEROS) as usize]),
+            OTHER_MEMORY => {
+                next.fresh = calls.iter().any(|call| call.piece.is_none());
+                continue;
+            }
+            SHORT_CALL.. => {
+                let part = usize::from(first - SHORT_CALL) % READER_PARTS.len();
+                next.short = Some(READER_PARTS[part]);
+                continue;
+            }
+            length => Some(numbers.taken(usize::from(length))),
+        };
+        calls.push(std::mem::take(&mut next));
+    }
+    calls
+}
+
+fn put_calls(input: &mut Vec<u8>, calls: &[Call]) {
+    for call in calls {
+        if call.fresh {
+            input.push(OTHER_MEMORY);
+        }
+        if let Some(part) = call.short {
+            let place = READER_PARTS.iter().position(|known| *known == part);
+            input.push(SHORT_CALL + place.unwrap_or(0) as u8);
+        }
+        let Some(piece) = &call.piece else {
+            input.push(CLOSE);
+            continue;
+        };
+        let length = piece.len() as u32;
+        if length <= 240 {
+            input.push(length as u8);
+            input.extend(piece);
+        } else if length <= MAX_ZEROS && piece.iter().all(|&octet| octet == 0) {
+            input.push(ZEROS);
+            put(input, length);
+        } else {
+            input.push(LONG_PIECE);
+            put(input, length);
+            input.extend(piece);
+        }
+    }
 }
 
 fn request_of_readings(first: u8, numbers: &mut Numbers) -> Request {
@@ -104,6 +190,12 @@ fn settings(first: u8, numbers: &mut Numbers) -> Settings {
 /// The input that stands for a request, if there is one.
 pub fn input(request: &Request) -> Option<Vec<u8>> {
     let (settings, short) = match request {
+        Request::Packets { settings, calls } => {
+            let mut behind = vec![0];
+            put_settings(&mut behind, *settings)?;
+            put_calls(&mut behind, calls);
+            return Some([vec![PACKETS], behind].concat());
+        }
         Request::Readings { short, list } => {
             let mut input = vec![READINGS];
             put_short(&mut input, short.map(|_| 0));
@@ -139,7 +231,7 @@ pub fn input(request: &Request) -> Option<Vec<u8>> {
             input[0] |= WRITE;
             put_list(&mut input, list);
         }
-        Request::Readings { .. } | Request::List { .. } => {}
+        Request::Packets { .. } | Request::Readings { .. } | Request::List { .. } => {}
     }
     Some(input)
 }
@@ -289,6 +381,13 @@ impl Numbers<'_> {
         octet
     }
 
+    /// The next octets, at most as many as there are.
+    fn taken(&mut self, length: usize) -> Vec<u8> {
+        let (taken, rest) = self.octets.split_at(length.min(self.octets.len()));
+        self.octets = rest;
+        taken.to_vec()
+    }
+
     /// The low 32 bits of the next number.
     fn next(&mut self) -> Option<u32> {
         self.next_long().map(|number| number as u32)
@@ -335,8 +434,12 @@ mod tests {
             "l 0:0,5097600000:-5,7:20000,18446744073709551615:-2147483648,0:2147483647",
             "l short=events 3155759999999:-1",
             "l short=text -",
+            "f 1 0 0 0 -,80,0102,61,00,-,.,00",
+            "f 2 1 1 0 vcap=3 e<80,t<-,w<.,!.,!e<00",
         ];
-        for line in requests {
+        let zeros = format!("f 0 0 0 1 a0,{},.", "00".repeat(16_384));
+        let long = format!("f 0 0 0 1 80{},.", "ff".repeat(300));
+        for line in requests.into_iter().chain([&*zeros, &*long]) {
             let wanted = Request::parse(line).expect(line);
             let octets = input(&wanted).expect(line);
             assert_eq!(request(&octets), Some(wanted));

@@ -6,7 +6,14 @@
 use std::cell::RefCell;
 
 use compare::check::Comparison;
-use compare::lent::{ReaderSizes, WriterSizes};
+use compare::lent::{ReaderSizes, Settings, WriterSizes};
+#[cfg(feature = "packets")]
+use compare::packets::check::{run_changed, PacketComparison};
+use compare::packets::Call;
+#[cfg(feature = "packets")]
+use compare::packets::PacketMemory;
+#[cfg(feature = "packets")]
+use compare::prng::Prng;
 use compare::protocol::Request;
 use compare::readings::check::ReadingsComparison;
 use compare::readings::{ListSizes, ReadingsSizes};
@@ -14,6 +21,12 @@ use compare::readings::{ListSizes, ReadingsSizes};
 thread_local! {
     static BOTH: RefCell<Comparison> = RefCell::new(Comparison::new());
     static READINGS: RefCell<ReadingsComparison> = RefCell::new(ReadingsComparison::new());
+}
+
+#[cfg(feature = "packets")]
+thread_local! {
+    static PACKETS: RefCell<PacketComparison> = RefCell::new(PacketComparison::new());
+    static CHANGED: RefCell<PacketMemory> = RefCell::new(PacketMemory::new());
 }
 
 /// # Safety
@@ -60,9 +73,30 @@ fn check(request: &Request) -> Result<(), String> {
             Request::Write { settings, list, .. } => {
                 both.write_and_back(*settings, list).map(|_| ())
             }
+            Request::Packets { settings, calls } => check_packets(*settings, calls),
             Request::Readings { .. } | Request::List { .. } => check_readings(request),
         }
     })
+}
+
+/// The calls as they are; then once more, with record and memory changed between them.
+#[cfg(feature = "packets")]
+fn check_packets(settings: Settings, calls: &[Call]) -> Result<(), String> {
+    PACKETS.with(|both| both.borrow_mut().run(settings, calls).map(|_| ()))?;
+    let octets = calls.iter().flat_map(|call| call.piece.iter().flatten());
+    let seed = octets.fold(0u64, |seed, &octet| {
+        seed.wrapping_mul(257).wrapping_add(octet.into())
+    });
+    CHANGED.with(|memory| {
+        let mut memory = memory.borrow_mut();
+        run_changed(&mut Prng::new(seed), &mut memory, settings, calls)
+    })
+}
+
+/// This archive has no receiver.
+#[cfg(not(feature = "packets"))]
+fn check_packets(_: Settings, _: &[Call]) -> Result<(), String> {
+    Ok(())
 }
 
 fn check_readings(request: &Request) -> Result<(), String> {
@@ -79,7 +113,7 @@ fn check_readings(request: &Request) -> Result<(), String> {
                 readings,
             } => both.to_list(readings, ListSizes::short(*part)).map(|_| ()),
             Request::List { readings, .. } => both.to_list_and_back(readings).map(|_| ()),
-            Request::Read { .. } | Request::Write { .. } => Ok(()),
+            Request::Read { .. } | Request::Write { .. } | Request::Packets { .. } => Ok(()),
         }
     })
 }

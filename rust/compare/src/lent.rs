@@ -20,7 +20,7 @@ pub const BEYOND: usize = 3;
 
 pub(crate) const GUARD: usize = 5;
 pub(crate) const FILL: u32 = 0xA5A5_A5A5;
-const FILL_OCTET: u8 = 0xA5;
+pub(crate) const FILL_OCTET: u8 = 0xA5;
 
 pub const ROOM: u32 = 1;
 pub const SETTINGS: u32 = 2;

@@ -10,10 +10,10 @@
 //! (each end of each range, targets, texts of comments and instructions), `fields` (n-bit fields
 //! that end with what is lent, or are cut), `primer` (the EXI Primer's worked examples), `vectors`
 //! (requests and answers from files), `differential` (random and damaged lists and streams),
-//! `readings` (readings from lists and streams, and back), `batch` (the program of that name), `exi`
-//! and `plot` (the command line). Run them in a release build. The programs are `batch`, which
-//! answers request lines, `bench`, which times both implementations, and `fields`, which times n-bit
-//! fields by themselves.
+//! `readings` (readings from lists and streams, and back), `packets` (streams in pieces), `batch`
+//! (the program of that name), `exi` and `plot` (the command line). Run them in a release build.
+//! The programs are `batch`, which answers request lines, `bench`, which times both
+//! implementations, and `fields`, which times n-bit fields by themselves.
 
 #![forbid(unsafe_code)]
 
@@ -24,6 +24,7 @@ pub mod event;
 pub mod generate;
 pub mod lent;
 pub mod names;
+pub mod packets;
 pub mod prng;
 pub mod protocol;
 pub mod readings;

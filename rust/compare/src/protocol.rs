@@ -11,6 +11,7 @@ use crate::lent::{
     Codec, ReadReply, ReaderMemory, ReaderPart, ReaderSizes, Settings, WriteReply, WriterMemory,
     WriterPart, WriterSizes,
 };
+use crate::packets::{Call, PacketMemory, Receiver};
 use crate::readings::{
     ListMemory, ListPart, ListSizes, Reading, ReadingsMemory, ReadingsReply, ReadingsSizes,
 };
@@ -27,6 +28,11 @@ pub enum Request {
         settings: Settings,
         short: Option<WriterPart>,
         list: Stored,
+    },
+    /// The calls of one receiver.
+    Packets {
+        settings: Settings,
+        calls: Vec<Call>,
     },
     /// The readings of a list.
     Readings {
@@ -61,6 +67,13 @@ const READER_PARTS: [(&str, ReaderPart); 3] = [
     ("events", ReaderPart::Events),
     ("text", ReaderPart::Text),
     ("work", ReaderPart::Work),
+];
+
+/// The marks of a call that lends a part one short.
+const SHORT_MARKS: [(&str, ReaderPart); 3] = [
+    ("e<", ReaderPart::Events),
+    ("t<", ReaderPart::Text),
+    ("w<", ReaderPart::Work),
 ];
 
 const WRITER_PARTS: [(&str, WriterPart); 2] =
@@ -105,6 +118,14 @@ impl Request {
         }
     }
 
+    /// For the calls of a receiver.
+    pub fn packets(settings: Settings, calls: &[Call]) -> Request {
+        Request::Packets {
+            settings,
+            calls: calls.to_vec(),
+        }
+    }
+
     /// For the readings of a list, with the usual memory.
     pub fn readings(list: &Stored) -> Request {
         Request::Readings {
@@ -135,6 +156,10 @@ impl Request {
                 short: part(words.short(2)?, &WRITER_PARTS)?,
                 list: words.list()?,
             },
+            "f" => Request::Packets {
+                settings: words.settings()?,
+                calls: parse_calls(words.last()?)?,
+            },
             "m" => Request::Readings {
                 short: part(words.short(2)?, &READINGS_PARTS)?,
                 list: words.list()?,
@@ -143,7 +168,7 @@ impl Request {
                 short: part(words.short(1)?, &LIST_PARTS)?,
                 readings: parse_readings(words.next().unwrap_or(""))?,
             },
-            other => return Err(format!("none of r, w, m and l: {other:?}")),
+            other => return Err(format!("none of r, w, f, m and l: {other:?}")),
         })
     }
 }
@@ -201,6 +226,14 @@ impl<'a> Words<'a> {
             return Err(self.not_so_many(rest));
         }
         Ok(short)
+    }
+
+    /// The only word that is left.
+    fn last(&mut self) -> Result<&'a str, String> {
+        if self.left() != 1 {
+            return Err(self.not_so_many(1));
+        }
+        Ok(self.next().unwrap_or(""))
     }
 
     /// Events and their store.
@@ -276,6 +309,11 @@ impl fmt::Display for Request {
                 print_short(&mut line, *short, &WRITER_PARTS);
                 print_list(&mut line, list);
             }
+            Request::Packets { settings, calls } => {
+                line.push_str("f ");
+                print_settings(&mut line, *settings);
+                print_calls(&mut line, calls);
+            }
             Request::Readings { short, list } => {
                 line.push_str("m ");
                 print_short(&mut line, *short, &READINGS_PARTS);
@@ -296,6 +334,7 @@ pub struct Asker {
     codec: Codec,
     reader: ReaderMemory,
     writer: WriterMemory,
+    packets: PacketMemory,
     readings: ReadingsMemory,
     list: ListMemory,
 }
@@ -306,6 +345,7 @@ impl Asker {
             codec,
             reader: ReaderMemory::new(),
             writer: WriterMemory::new(),
+            packets: PacketMemory::new(),
             readings: ReadingsMemory::new(),
             list: ListMemory::new(),
         }
@@ -345,6 +385,7 @@ impl Asker {
                 });
                 print_write(&reply, &self.writer)
             }
+            Request::Packets { settings, calls } => self.answer_calls(*settings, calls),
             Request::Readings { short, list } => {
                 let sizes = short.map_or_else(ReadingsSizes::usual, |_| ReadingsSizes::short());
                 let reply = self.readings.lend(sizes, |stamps, movements| {
@@ -364,6 +405,35 @@ impl Asker {
                 print_read(&reply, events, text, self.list.fault(&reply))
             }
         }
+    }
+}
+
+impl Asker {
+    /// The answers to a receiver's calls, with what each of them added.
+    fn answer_calls(&mut self, settings: Settings, calls: &[Call]) -> String {
+        let Some(mut receiver) = Receiver::start(self.codec, settings) else {
+            return String::from("? this library has no receiver");
+        };
+        self.packets.start();
+        let mut line = String::new();
+        for (k, call) in calls.iter().enumerate() {
+            let (reply, fault) = self.packets.call(&mut receiver, call);
+            let bar = if k == 0 { "" } else { " | " };
+            write!(
+                line,
+                "{bar}{} {} {} {} ",
+                reply.number, reply.index, reply.events, reply.code_points
+            )
+            .expect("a string takes all");
+            let (events, text) = self.packets.added();
+            print_events(&mut line, events);
+            line.push(' ');
+            print_store(&mut line, text);
+            if fault.is_some() {
+                line.push_str(" DIRTY");
+            }
+        }
+        line
     }
 }
 
@@ -443,6 +513,35 @@ fn parse_store(word: &str) -> Result<Vec<u32>, String> {
     word.split(',').map(code_point).collect()
 }
 
+/// Calls of a receiver: pieces, `.` for the close, each with its marks.
+fn parse_calls(word: &str) -> Result<Vec<Call>, String> {
+    let mut calls: Vec<Call> = Vec::new();
+    for part in word.split(',') {
+        let (fresh, part) = match part.strip_prefix('!') {
+            Some(rest) => (true, rest),
+            None => (false, part),
+        };
+        if fresh && calls.iter().all(|call| call.piece.is_some()) {
+            return Err(String::from("other memory before the close"));
+        }
+        let marked = |(mark, short)| part.strip_prefix(mark).map(|rest| (Some(short), rest));
+        let (short, part) = SHORT_MARKS
+            .into_iter()
+            .find_map(marked)
+            .unwrap_or((None, part));
+        let piece = match part {
+            "." => None,
+            octets => Some(parse_octets(octets)?),
+        };
+        calls.push(Call {
+            fresh,
+            short,
+            piece,
+        });
+    }
+    Ok(calls)
+}
+
 /// A number that fits no cell, as a stamp below 0, has another in its place, also out of range.
 fn parse_readings(word: &str) -> Result<Vec<Reading>, String> {
     if word == "-" {
@@ -512,6 +611,20 @@ fn print_octets(line: &mut String, octets: &[u8]) {
     for octet in octets {
         for half in [octet >> 4, octet & 15] {
             line.push(char::from(b"0123456789abcdef"[usize::from(half)]));
+        }
+    }
+}
+
+fn print_calls(line: &mut String, calls: &[Call]) {
+    for (k, call) in calls.iter().enumerate() {
+        line.push_str(if k == 0 { "" } else { "," });
+        line.push_str(if call.fresh { "!" } else { "" });
+        for (mark, part) in SHORT_MARKS {
+            line.push_str(if call.short == Some(part) { mark } else { "" });
+        }
+        match &call.piece {
+            Some(piece) => print_octets(line, piece),
+            None => line.push('.'),
         }
     }
 }

@@ -5,6 +5,8 @@
 use std::io::{BufRead, BufReader, Write};
 use std::process::{Command, Stdio};
 
+use compare::lent::Codec;
+use compare::packets::RECEIVERS;
 use compare::protocol::{Request, BAD, BAD2};
 
 fn answers(arguments: &[&str], requests: &[u8]) -> Vec<String> {
@@ -122,6 +124,43 @@ fn answers_in_order() {
     }
 }
 
+/// Calls of a receiver, where an implementation has one.
+#[test]
+fn pieces_in_order() {
+    let requests = "f 1 0 0 0 800102,610304,62,62,00,.\n\
+        f 1 0 0 0 8001026100,.,!00,w<.\n\
+        f 1 0 0 0 -,.\n\
+        f 1 0 0 0 800100,-,.,!00\n\
+        f 1 0 0 0 80,e<01,02\n\
+        f 2 0 0 0 cap=1 -,t<.\n\
+        f 0 0 0 0 .";
+    let (opening, refused) = (format!("SD {INITIAL}"), "9 1 0 0 - -");
+    let expected = [
+        format!(
+            "0 0 1 99 {opening} | 0 0 2 100 SE:0:0:99:1 61 | 0 0 2 100 - - | \
+             0 0 3 102 CH:100:2 62,62 | 0 0 5 102 EE,ED - | 0 0 5 102 - -"
+        ),
+        format!("0 0 4 100 SD,SE:0:0:99:1,EE,ED {INITIAL},61") + &" | 0 0 4 100 - -".repeat(3),
+        format!("0 0 0 99 - {INITIAL} | 5 0 0 0 - -"),
+        [refused; 4].join(" | "),
+        format!("0 0 1 99 {opening} | 1 0 0 0 - - | 1 0 0 0 - -"),
+        "2 0 0 0 - - | 2 0 0 0 - -".to_string(),
+        "5 0 0 0 - -".to_string(),
+    ];
+    for &codec in RECEIVERS {
+        let words: &[&str] = match codec {
+            Codec::Library => &[],
+            Codec::Ordinary => &["--ordinary"],
+        };
+        assert_eq!(answers(words, requests.as_bytes()), expected);
+    }
+    if !RECEIVERS.contains(&Codec::Library) {
+        let got = answers(&[], requests.as_bytes());
+        assert_eq!(got.len(), expected.len());
+        assert!(got.iter().all(|answer| answer.starts_with('?')));
+    }
+}
+
 /// Each setting at the first number without a meaning, and at the largest ones: a bound does not
 /// come round to none. One after the other, behind ROOM and before LONG.
 #[test]
@@ -222,7 +261,20 @@ fn requests_that_are_not_understood() {
         "w 1 0 0 0 short=text SD 61",
         "w 1 0 0 0 short=work SD",
         "w 1 0 0 0 prefixes=1 SD,SE:0:0:0:1:0:0,EE,ED 61",
-        "f 1 0 0 0 80,.",
+        "f 1 0 0 0",
+        "f 1 0 0 0 ",
+        "f 1 0 0 0 80 .",
+        "f 1 0 0 0 short=text 80,.",
+        "f 1 0 0 0 80,,.",
+        "f 1 0 0 0 8,.",
+        "f 1 0 0 0 80,..",
+        "f 1 0 0 0 !80,.",
+        "f 1 0 0 0 80,!.",
+        "f 1 0 0 0 80,.,!!-",
+        "f 1 0 0 0 80,.,e<!-",
+        "f 1 0 0 0 h<80,.",
+        "f 1 0 0 0 e<t<80,.",
+        "f 1 0 0 0 e<,.",
         "x 1 0 0 0 SD,ED -",
         "w 1 0 0 0 SD",
         "w 1 0 0 0 SD ",
@@ -261,7 +313,7 @@ fn requests_that_are_not_understood() {
         "l short=work 0:0",
         "l prefixes=1 0:0",
     ];
-    let got = answers(&[], (requests.join("\n") + "\n").as_bytes());
+    let got = answers(&["--ordinary"], (requests.join("\n") + "\n").as_bytes());
     assert_eq!(got.len(), requests.len());
     for (request, answer) in requests.iter().zip(got) {
         assert!(answer.starts_with('?'), "{request:?}: {answer}");

@@ -5,7 +5,8 @@
 
 use std::collections::HashMap;
 
-use compare::lent::BOTH;
+use compare::lent::{Codec, BOTH};
+use compare::packets::RECEIVERS;
 use compare::protocol::{Asker, Request};
 
 const EDGES: &str = include_str!("../vectors/edges.txt");
@@ -24,6 +25,8 @@ const P6_ALL: &str = include_str!("../vectors/p6-all.txt");
 const P6_BASE: &str = include_str!("../vectors/p6-base.txt");
 const P6_EDGES: &str = include_str!("../vectors/p6-edges.txt");
 const P6_RANDOM: &str = include_str!("../vectors/p6-random.txt");
+const P8_EDGES: &str = include_str!("../vectors/p8-edges.txt");
+const P8_RANDOM: &str = include_str!("../vectors/p8-random.txt");
 const P12_EDGES: &str = include_str!("../vectors/p12-edges.txt");
 const P12_RANDOM: &str = include_str!("../vectors/p12-random.txt");
 
@@ -31,7 +34,7 @@ const P12_RANDOM: &str = include_str!("../vectors/p12-random.txt");
 const CHANGED: [&str; 3] = [P2_BASE, P3_BASE, P6_BASE];
 
 /// The requests of document 02 that have landed, by their numbers. Each landing adds its own.
-const LANDED: [u32; 4] = [2, 3, 6, 12];
+const LANDED: [u32; 5] = [2, 3, 6, 8, 12];
 
 /// The lines of a file, each as a request and its answer.
 fn lines(file: &str) -> impl Iterator<Item = (&str, &str)> {
@@ -48,12 +51,18 @@ fn base(file: &'static str) -> (Vec<(&'static str, &'static str)>, usize) {
     (all, count)
 }
 
+/// Whether this implementation is asked: calls of a receiver only where it has one.
+fn is_asked(codec: Codec, request: &str) -> bool {
+    !request.starts_with('f') || RECEIVERS.contains(&codec)
+}
+
 /// Both implementations answer these requests as they have to.
 fn run<'a>(lines: impl Iterator<Item = (&'a str, &'a str)>, count: usize) {
     let mut askers = BOTH.map(Asker::new);
     let mut asked = 0;
     for (request, answer) in lines {
-        for (asker, codec) in askers.iter_mut().zip(BOTH) {
+        let askers = askers.iter_mut().zip(BOTH);
+        for (asker, codec) in askers.filter(|(_, codec)| is_asked(*codec, request)) {
             let got = asker.answer_line(request);
             assert!(
                 got == answer,
@@ -110,6 +119,13 @@ fn names() {
     run(lines(P6_ALL), 1);
 }
 
+/// P8: streams in pieces.
+#[test]
+fn packets() {
+    run(lines(P8_EDGES), 129);
+    run(lines(P8_RANDOM), 600);
+}
+
 /// P12: readings of lists, and lists of readings.
 #[test]
 fn readings() {
@@ -160,12 +176,12 @@ fn settings_of_several_requests() {
     };
     let (now, later): (Vec<_>, Vec<_>) =
         lines(CROSS).partition(|(request, answer)| at_once(request, answer) || landed(request));
-    assert_eq!((now.len(), later.len()), (11, 779));
-    run(now.into_iter(), 11);
+    assert_eq!((now.len(), later.len()), (13, 777));
+    run(now.into_iter(), 13);
 }
 
-/// The requests of `cross.txt` that are understood, whatever settings they name: those to read, and
-/// those to write events without prefixes.
+/// The requests of `cross.txt` that are understood, whatever settings they name: those to read,
+/// whole or in pieces, and those to write events without prefixes.
 fn understood() -> impl Iterator<Item = &'static str> {
     let requests = lines(CROSS).map(|(request, _)| request);
     requests.filter(|request| Request::parse(request).is_ok())
@@ -177,7 +193,7 @@ const MOST: &str = "18446744073709551615";
 fn requests_are_printed_as_they_stand() {
     let files = [
         EDGES, RANDOM, ROOM, P2_EDGES, P2_RANDOM, P2_ALL, P3_EDGES, P3_RANDOM, P3_ALL, P6_EDGES,
-        P6_RANDOM, P6_ALL, P12_EDGES, P12_RANDOM,
+        P6_RANDOM, P6_ALL, P8_EDGES, P8_RANDOM, P12_EDGES, P12_RANDOM,
     ];
     let all = files.into_iter().flat_map(lines);
     let mut printed = 0;
@@ -191,7 +207,7 @@ fn requests_are_printed_as_they_stand() {
             printed += 1;
         }
     }
-    assert_eq!(printed, 5_490);
+    assert_eq!(printed, 6_402);
 }
 
 /// What a setting asks for that has not landed is SETTINGS before anything else; but ROOM comes
@@ -202,11 +218,20 @@ fn settings_that_have_not_landed() {
     let mut asked = 0;
     for request in understood() {
         let number = if request.contains("short=") { 1 } else { 2 };
-        let nothing = if request.starts_with('r') { "- -" } else { "-" };
-        for asker in &mut askers {
-            assert_eq!(asker.answer_line(request), format!("{number} 0 {nothing}"));
+        let answer = match Request::parse(request) {
+            Ok(Request::Packets { calls, .. }) => {
+                let number = if calls[0].short.is_some() { 1 } else { 2 };
+                vec![format!("{number} 0 0 0 - -"); calls.len()].join(" | ")
+            }
+            Ok(Request::Read { .. }) => format!("{number} 0 - -"),
+            _ => format!("{number} 0 -"),
+        };
+        for (asker, codec) in askers.iter_mut().zip(BOTH) {
+            if is_asked(codec, request) {
+                assert_eq!(asker.answer_line(request), answer);
+            }
         }
         asked += 1;
     }
-    assert_eq!(asked, 432);
+    assert_eq!(asked, 617);
 }

@@ -9,30 +9,66 @@ use crate::tables::{NameId, StringTable, UriId, INITIAL_TEXT};
 use crate::text::{is_char, Span};
 use crate::Failure;
 
-/// Reads a stream. Gives the number of events and of code points.
+/// How many events are complete, and how many code points the store has with their literals.
+#[derive(Clone, Copy)]
+pub struct Complete {
+    pub events: usize,
+    pub code_points: usize,
+}
+
+/// Reads a stream. Cells and store past what the answer counts may hold anything.
 pub fn read(
     options: Options,
     stream: &[u8],
     events: &mut [u32],
     text: &mut [u32],
-) -> Result<(usize, usize), Failure> {
-    if stream.len() > MAX_STREAM {
-        return Err((Refusal::Long, 0));
+) -> Result<Complete, Failure> {
+    let (complete, answer) = run(options, stream, events, text);
+    match answer {
+        Ok(()) => Ok(complete),
+        Err(refusal) => Err((refusal, complete.events)),
     }
+}
+
+/// Reads what there is of a stream: octets that end are no refusal yet.
+pub fn read_so_far(
+    options: Options,
+    octets: &[u8],
+    events: &mut [u32],
+    text: &mut [u32],
+) -> Result<Complete, Failure> {
+    let (complete, answer) = run(options, octets, events, text);
+    match answer {
+        Ok(()) | Err(Refusal::Ended) => Ok(complete),
+        Err(refusal) => Err((refusal, complete.events)),
+    }
+}
+
+fn run(
+    options: Options,
+    stream: &[u8],
+    events: &mut [u32],
+    text: &mut [u32],
+) -> (Complete, Result<(), Refusal>) {
     text[..INITIAL_TEXT.len()].copy_from_slice(&INITIAL_TEXT);
+    let complete = Complete {
+        events: 0,
+        code_points: INITIAL_TEXT.len(),
+    };
+    if stream.len() > MAX_STREAM {
+        return (complete, Err(Refusal::Long));
+    }
     let mut reader = Reader {
         bits: BitReader::new(stream, options.alignment),
         strings: StringTable::new(),
         grammars: Grammars::new(&options),
         events,
-        event_count: 0,
+        complete,
         text,
-        text_length: INITIAL_TEXT.len(),
+        text_length: complete.code_points,
     };
-    match reader.document(&options) {
-        Ok(()) => Ok((reader.event_count, reader.text_length)),
-        Err(refusal) => Err((refusal, reader.event_count)),
-    }
+    let answer = reader.document(&options);
+    (reader.complete, answer)
 }
 
 struct Reader<'a> {
@@ -40,7 +76,7 @@ struct Reader<'a> {
     strings: StringTable,
     grammars: Grammars,
     events: &'a mut [u32],
-    event_count: usize,
+    complete: Complete,
     text: &'a mut [u32],
     text_length: usize,
 }
@@ -53,13 +89,14 @@ impl Reader<'_> {
             }
         }
         while !self.grammars.is_finished() {
-            if self.event_count == MAX_EVENTS {
+            if self.complete.events == MAX_EVENTS {
                 return Err(Refusal::Limit);
             }
             let event = self.event()?;
-            let start = self.event_count * CELLS_PER_EVENT;
+            let start = self.complete.events * CELLS_PER_EVENT;
             self.events[start..start + CELLS_PER_EVENT].copy_from_slice(&event.to_cells());
-            self.event_count += 1;
+            self.complete.events += 1;
+            self.complete.code_points = self.text_length;
         }
         self.bits.finish()
     }

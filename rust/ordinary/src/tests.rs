@@ -4,6 +4,7 @@ use crate::sizes::{
 use crate::{read, write, ReadReply, Refusal, Settings, WriteReply};
 
 mod names;
+mod packets;
 mod readings;
 
 /// Work memory that is asked for.

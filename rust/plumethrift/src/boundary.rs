@@ -6,6 +6,8 @@
 //! all of it: their pointers are aligned and never null, and while a `&mut` slice is borrowed no
 //! other slice overlaps it. Any contents, lengths and numbers are allowed.
 
+#[cfg(feature = "packets")]
+use crate::lent::ReceiverRecord;
 use crate::lent::{ListReply, ReadReply, ReadingsReply, SettingNumbers, Sizes, WriteReply};
 
 /// A refusal's name: ASCII, padded with zeros.
@@ -92,6 +94,37 @@ extern "C" {
         work: *mut u32,
         work_cells: usize,
     ) -> WriteReply;
+
+    #[cfg(feature = "packets")]
+    fn plumethrift_start(settings: SettingNumbers) -> ReceiverRecord;
+
+    #[cfg(feature = "packets")]
+    fn plumethrift_feed(
+        receiver: *mut ReceiverRecord,
+        piece: *const u8,
+        piece_octets: usize,
+        held: *mut u8,
+        held_octets: usize,
+        events: *mut u32,
+        event_cells: usize,
+        text: *mut u32,
+        text_cells: usize,
+        work: *mut u32,
+        work_cells: usize,
+    ) -> ReadReply;
+
+    #[cfg(feature = "packets")]
+    fn plumethrift_close(
+        receiver: *mut ReceiverRecord,
+        held: *mut u8,
+        held_octets: usize,
+        events: *mut u32,
+        event_cells: usize,
+        text: *mut u32,
+        text_cells: usize,
+        work: *mut u32,
+        work_cells: usize,
+    ) -> ReadReply;
 
     fn plumethrift_sizes() -> Sizes;
 
@@ -235,6 +268,64 @@ pub(crate) fn write_readings(
             stamps.len(),
             movements.as_ptr(),
             movements.len(),
+            events.as_mut_ptr(),
+            events.len(),
+            text.as_mut_ptr(),
+            text.len(),
+            work.as_mut_ptr(),
+            work.len(),
+        )
+    }
+}
+
+#[cfg(feature = "packets")]
+pub(crate) fn start(settings: SettingNumbers) -> ReceiverRecord {
+    // SAFETY: the function takes any numbers, and touches no memory but its answer, which is of the
+    // record's size: a test holds that.
+    unsafe { plumethrift_start(settings) }
+}
+
+#[cfg(feature = "packets")]
+pub(crate) fn feed(
+    receiver: &mut ReceiverRecord,
+    piece: &[u8],
+    held: &mut [u8],
+    events: &mut [u32],
+    text: &mut [u32],
+    work: &mut [u32],
+) -> ReadReply {
+    // SAFETY: as in `read`; the record is borrowed like a slice, and may have any contents.
+    unsafe {
+        plumethrift_feed(
+            receiver,
+            piece.as_ptr(),
+            piece.len(),
+            held.as_mut_ptr(),
+            held.len(),
+            events.as_mut_ptr(),
+            events.len(),
+            text.as_mut_ptr(),
+            text.len(),
+            work.as_mut_ptr(),
+            work.len(),
+        )
+    }
+}
+
+#[cfg(feature = "packets")]
+pub(crate) fn close(
+    receiver: &mut ReceiverRecord,
+    held: &mut [u8],
+    events: &mut [u32],
+    text: &mut [u32],
+    work: &mut [u32],
+) -> ReadReply {
+    // SAFETY: as in `feed`.
+    unsafe {
+        plumethrift_close(
+            receiver,
+            held.as_mut_ptr(),
+            held.len(),
             events.as_mut_ptr(),
             events.len(),
             text.as_mut_ptr(),

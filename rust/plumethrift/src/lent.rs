@@ -25,6 +25,9 @@
 //! assert!(matches!(second, Some(Event::StartElement { name, .. }) if name == "a"));
 //! ```
 
+#[cfg(feature = "packets")]
+use std::{fmt, mem::MaybeUninit};
+
 use crate::boundary;
 
 /// Cells of one event: its kind, then four pairs, each the place and the length of a string. An
@@ -48,6 +51,14 @@ pub const READER_WORK_CELLS: usize = 18_432;
 
 /// Work memory to lend to the writer, at least, in cells.
 pub const WRITER_WORK_CELLS: usize = 18_432;
+
+/// Octets to lend to a receiver, at least, in which it keeps the stream so far.
+#[cfg(feature = "packets")]
+pub const HELD_OCTETS: usize = 16_384;
+
+/// Words of 64 bits in a [`ReceiverRecord`].
+#[cfg(feature = "packets")]
+pub const RECEIVER_WORDS: usize = 43;
 
 /// Stamps, and as many movements, to lend where readings are taken out, at least; also the most
 /// readings that there are in one list.
@@ -101,6 +112,37 @@ pub struct ReadReply {
     pub events: u32,
     /// Code points written to the text store.
     pub code_points: u32,
+}
+
+/// A receiver between its calls, as [`start`] answers it: the settings, how many octets were handed
+/// over, and where it stands in the stream. What it holds is the library's affair.
+///
+/// Any record is safe to lend. Where it, or the memory lent with it, does not come back as the call
+/// before left it, the answers may be other ones.
+#[cfg(feature = "packets")]
+#[repr(C)]
+#[derive(Clone, Copy)]
+pub struct ReceiverRecord {
+    words: [MaybeUninit<u64>; RECEIVER_WORDS], // with padding, which has no value
+}
+
+#[cfg(feature = "packets")]
+impl ReceiverRecord {
+    /// Changes the word at a place below [`RECEIVER_WORDS`], to try the library with other records.
+    ///
+    /// # Panics
+    ///
+    /// Where there is no such place.
+    pub fn set_word(&mut self, place: usize, word: u64) {
+        self.words[place] = MaybeUninit::new(word);
+    }
+}
+
+#[cfg(feature = "packets")]
+impl fmt::Debug for ReceiverRecord {
+    fn fmt(&self, f: &mut fmt::Formatter<'_>) -> fmt::Result {
+        f.debug_struct("ReceiverRecord").finish_non_exhaustive()
+    }
 }
 
 /// The writer's answer.
@@ -247,6 +289,53 @@ pub fn write_readings(
     work: &mut [u32],
 ) -> WriteReply {
     boundary::write_readings(s, octets, stamps, movements, events, text, work)
+}
+
+/// Starts a receiver for one stream: a record to lend to [`feed`] and [`close`]. Settings without a
+/// meaning are refused by these.
+#[cfg(feature = "packets")]
+pub fn start(s: SettingNumbers) -> ReceiverRecord {
+    boundary::start(s)
+}
+
+/// Hands over the next piece of the stream, of any length, and shows the events that are complete.
+///
+/// Lent are [`HELD_OCTETS`] of `held`, at least, and `events`, `text` and `work` as to [`read`];
+/// the same to each call of one receiver, as the call before left them. Before the first call they
+/// may hold anything. Number 0 says that the stream goes on: the events so far are the first
+/// `9 * reply.events` of `events`, their text store the first `reply.code_points` of `text`, and
+/// cells past both are zero. `held` and `work` are then the receiver's.
+///
+/// A piece is refused once the octets so far, read whole, are refused otherwise than as ENDED. The
+/// refusal stays; but past 16,384 octets, those of refused pieces counted, it is LONG, unless it is
+/// ROOM or SETTINGS. From a refusal on each call leaves all that is lent zero. After [`close`] its
+/// answer is repeated.
+#[cfg(feature = "packets")]
+pub fn feed(
+    receiver: &mut ReceiverRecord,
+    piece: &[u8],
+    held: &mut [u8],
+    events: &mut [u32],
+    text: &mut [u32],
+    work: &mut [u32],
+) -> ReadReply {
+    boundary::feed(receiver, piece, held, events, text, work)
+}
+
+/// Says that the stream has ended: the answer, and what is left in `events`, `text` and `work`, is
+/// that of [`read`] for all pieces put together, however they were cut. `held` is zero, too.
+///
+/// Calls after this one repeat the answer, whatever they are given; they leave what is lent as it
+/// is, or zero where the answer is a refusal.
+#[cfg(feature = "packets")]
+pub fn close(
+    receiver: &mut ReceiverRecord,
+    held: &mut [u8],
+    events: &mut [u32],
+    text: &mut [u32],
+    work: &mut [u32],
+) -> ReadReply {
+    boundary::close(receiver, held, events, text, work)
 }
 
 /// Asks the library for the sizes. They are this module's constants.

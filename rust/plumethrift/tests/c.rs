@@ -224,3 +224,85 @@ int main(void) {
     assert_eq!(text(&output.stdout), expected);
     assert_eq!(output.status.code(), Some(0));
 }
+
+/// The example that reads packets: what each completes, whatever their size.
+#[cfg(feature = "packets")]
+#[test]
+fn the_example_reads_packets() {
+    let packets = program(&root().join("examples/packets.c"));
+    for size in ["1", "2", "3", "240"] {
+        let output = run(
+            Command::new(&packets).args([size, "--byte-aligned"]),
+            &STREAM,
+        );
+        let said = text(&output.stdout);
+        assert!(
+            said.ends_with("closed: 5 events, 101 code points\n"),
+            "{said}"
+        );
+        assert_eq!(output.status.code(), Some(0));
+    }
+    let output = run(
+        Command::new(&packets).args(["3", "--byte-aligned"]),
+        &STREAM,
+    );
+    assert_eq!(
+        text(&output.stdout),
+        "packet 1, 3 octets: 1 events complete\npacket 2, 3 octets: 2 events complete\n\
+         packet 3, 2 octets: 5 events complete\nclosed: 5 events, 101 code points\n"
+    );
+    let tail = [&STREAM[..], &[0, 0]].concat();
+    let output = run(Command::new(&packets).args(["8", "--byte-aligned"]), &tail);
+    assert_eq!(
+        text(&output.stderr),
+        "refused: 13 TAIL at event 5, in packet 2\n"
+    );
+    assert_eq!(output.status.code(), Some(1));
+    let output = run(
+        Command::new(&packets).args(["4", "--byte-aligned"]),
+        &STREAM[..7],
+    );
+    assert_eq!(
+        text(&output.stderr),
+        "refused: 5 ENDED at event 3, at the close\n"
+    );
+    for words in [&[][..], &["0"], &["241"], &["x"], &["1", "--bit-packed"]] {
+        let output = run(Command::new(&packets).args(words), &STREAM);
+        assert_eq!(output.status.code(), Some(2));
+    }
+}
+
+/// The library writes a whole record and not an octet more: it is started in the answer's place,
+/// over two fills, by a declaration that has this place as the calling convention passes it.
+#[cfg(feature = "packets")]
+#[test]
+fn a_record_is_as_large_as_the_header_says() {
+    const START: &str = r#"
+#include <stdio.h>
+#include <string.h>
+#define PLUMETHRIFT_PACKETS
+#define plumethrift_start plumethrift_start_by_value
+#include "plumethrift.h"
+#undef plumethrift_start
+void *plumethrift_start(void *place, plumethrift_settings settings);
+
+int main(void) {
+  static uint64_t words[2][2 * PLUMETHRIFT_RECEIVER_WORDS];
+  size_t last = 0;
+  for (int i = 0; i < 2; i++) {
+    memset(words[i], i == 0 ? 0x5A : 0xA5, sizeof words[i]);
+    plumethrift_start(words[i], (plumethrift_settings){0});
+    for (size_t at = 0; at < sizeof words[i]; at++)
+      if (((uint8_t *)words[i])[at] != (i == 0 ? 0x5A : 0xA5) && at >= last)
+        last = at + 1;
+  }
+  printf("%zu %zu\n", last, sizeof(plumethrift_receiver));
+  return 0;
+}
+"#;
+    let file = Path::new(env!("CARGO_TARGET_TMPDIR")).join("record.c");
+    fs::write(&file, START).unwrap();
+    let output = run(&mut Command::new(program(&file)), &[]);
+    let octets = std::mem::size_of::<plumethrift::lent::ReceiverRecord>();
+    assert_eq!(text(&output.stdout), format!("{octets} {octets}\n"));
+}
