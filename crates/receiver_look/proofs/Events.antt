@@ -1,0 +1,244 @@
+-- The content of an event, and the event, as a look sees them.
+use Prim.Native.Nat.{ℕ, _*_, _≤_, _<_}
+use mathlib.Core.Path.{_≡_, refl, sym, _∙_, ap, subst}
+use mathlib.Core.Bool.{Bool, true, false, true≢false, cond}
+use mathlib.Core.List.{List, []}
+use mathlib.Core.Option.{Option, none, some}
+use native.Mathlib.Omega.{arith}
+use lib.ListN.{length, drop, take}
+use Rattle.spec_fields.specs.Bits.{Bits, unpack}
+use Rattle.spec_fields.specs.Parser.{return}
+use Rattle.spec_fields.specs.Field.{Alignment}
+use Rattle.text.specs.Text.{Text}
+use Rattle.spec_fields.proofs.Steady.{steady-return}
+use Rattle.spec_fields.proofs.Tests.{split}
+use Rattle.spec_exi.specs.Settings.{Settings}
+use Rattle.spec_exi.specs.Sizes.{sizes, maxStream, maxLearned}
+use Rattle.spec_exi.specs.Event.{QName, Kind, SE, AT, CH, CM, PI}
+use Rattle.spec_exi.specs.Tables.{Placed, Slot, Tables, Role, value, target, commentText}
+use Rattle.spec_exi.specs.Tables.{literals, instructionText, partitionsOf, nameText}
+use Rattle.spec_exi.specs.Grammar.{State, Production, Code}
+use Rattle.spec_exi.specs.Context.{Context, levelsIn, characterRole}
+use Rattle.spec_exi.specs.Reader.{readString, readName, readContent, step}
+use Rattle.spec_exi.proofs.Steady.{steady-code}
+use Rattle.mem_rows.specs.Rows.{Rows, kindAt, carries, carriedAt, tablesOf, contextOf, nameAt}
+use Rattle.mem_rows.specs.Rows.{placedAt}
+use Rattle.mem_state.specs.declared.Core.{Core}
+use Rattle.mem_state.specs.Holds.{inStore, Bounded, Topped, Represents, contextAt}
+use Rattle.event_code.specs.Numbers.{inTag, numberAT, numberCH}
+use Rattle.grammar_update.proofs.Represented.{code-rows, inner-state}
+use Rattle.read_contract.specs.Outcome.{Gotten}
+use Rattle.read_contract.proofs.Outcome.{return-gotten}
+use Rattle.read_production.specs.declared.ProductionRead.{ProductionRead}
+use Rattle.read_production.specs.Production.{ProductionPre, ProductionPost}
+use Rattle.receiver_strings.specs.declared.Looked.{Looked}
+use Rattle.receiver_strings.specs.Cuts.{CutAt, Sees}
+use Rattle.receiver_strings.specs.Strings.{SpotIn, StringSeen}
+use Rattle.receiver_strings.proofs.Cuts.{passes-return, cut-then, cut-behind, sees-then}
+use Rattle.receiver_strings.proofs.Cuts.{sees-nothing, sees-field}
+use Rattle.receiver_look.specs.Look.{UriPre, ThenSeen, NameSeen, Carries, AttributeSeen}
+use Rattle.receiver_look.specs.Look.{InstructionSeen, ContentSeen, Valued, LookPre, LookPost}
+use Rattle.receiver_look.proofs.Steady.{steady-string, steady-name}
+use Rattle.receiver_look.proofs.Names.{sees-string, sees-two}
+
+-- ---- a value after a name
+
+module _ (s : Settings) (t : Tables) (stream : List ℕ) (at : ℕ) (r : Looked) where
+  value-seen : (q : QName Text) → StringSeen stream at 2 r
+      → Sees s (readString sizes s t (value q)) stream at r
+  unfolding partitionsOf
+  value-seen q h = sees-string s t stream at r (value q) _ refl (h .sees s t _ refl)
+
+  text-seen : (role : Role) → partitionsOf t role ≡ literals [] → StringSeen stream at 0 r
+      → Sees s (readString sizes s t role) stream at r
+  text-seen role e h = sees-string s t stream at r role [] e (h .sees s t [] refl)
+
+module _ {a : Alignment} {stream : List ℕ} {at uris : ℕ} {r : Looked} where
+  pub attribute-known : StringSeen stream at 2 r → at ≤ 8 * length stream
+      → AttributeSeen a stream at true uris r
+  unfolding readContent readName
+  attribute-known h l =
+      record {
+        bounds = h .bounds;
+        sees = λ s b t e st q c.
+            let (x, is) = c .some-is refl refl in
+            rw is
+            (sees-field s (return (x, t)) _ stream at (steady-return (x, t)) (return-gotten (x, t) l)
+            (sees-then s _ _ stream at r (λ v. passes-return _ _)
+            (value-seen s t stream at r (nameText x) h)));
+      }
+
+  pub attribute-new : {n : Looked} → NameSeen a stream at uris n → ThenSeen stream n 2 r
+      → AttributeSeen a stream at false uris r
+  unfolding readContent
+  attribute-new {n} h y =
+      record {
+        bounds = y .bounds;
+        sees = λ s b t e st q c.
+            rw (c .none-is refl)
+            (sees-two s _ _ stream at n r (steady-name s t true) (h .sees s b t e true) y
+            (λ x z.
+            sees-then s _ _ stream (n .at) r (λ v. passes-return _ _)
+            (value-seen s (x .1) stream (n .at) r (nameText (x .0)) z)));
+      }
+
+pub instruction-seen : {stream : List ℕ} {at : ℕ} {l r : Looked} → StringSeen stream at 0 l
+    → ThenSeen stream l 0 r → InstructionSeen stream at r
+unfolding readContent partitionsOf
+instruction-seen {stream} {at} {l} {r} h y =
+    record {
+      bounds = y .bounds;
+      sees = λ s t st q.
+          sees-two s _ _ stream at l r (steady-string s t target)
+          (text-seen s t stream at l target refl h) y
+          (λ x z.
+          sees-then s _ _ stream (l .at) r (λ v. passes-return _ _)
+          (text-seen s (x .1) stream (l .at) r instructionText refl z));
+    }
+
+-- ---- by the kind
+
+module _ {a : Alignment} {stream : List ℕ} {at : ℕ} (uris : ℕ) where
+  pub content-nothing : (kind : ℕ) (learned : Bool) → at ≤ 8 * length stream
+      → ContentSeen a stream at kind learned uris (record { past = false; at = at; left = 0 })
+  content-nothing kind learned l =
+      record {
+        bounds = record { inside = l; few = omega arith };
+        sees = λ s b t e st v q c. sees-nothing s _ stream at at;
+      }
+
+  module _ {kind : ℕ} {r : Looked} where
+    pub content-name : kind ≡ 2 → NameSeen a stream at uris r
+        → ContentSeen a stream at kind false uris r
+    unfolding readContent kindAt
+    content-name k h =
+        record {
+          bounds = h .bounds;
+          sees = λ s b t e st v q c.
+              rw (k, c .none-is refl)
+              (sees-then s _ _ stream at r (λ x. passes-return _ _) (h .sees s b t e false));
+        }
+
+    pub content-attribute : kind ≡ 3 → {learned : Bool} → AttributeSeen a stream at learned uris r
+        → ContentSeen a stream at kind learned uris r
+    unfolding kindAt
+    content-attribute k h =
+        record {
+          bounds = h .bounds;
+          sees = λ s b t e st v q c.
+              rw k
+              (h .sees s b t e st q
+              (record { none-is = c .none-is; some-is = λ x _. c .some-is x k }));
+        }
+
+    pub content-characters : kind ≡ 5 → {learned : Bool} → StringSeen stream at 2 r
+        → ContentSeen a stream at kind learned uris r
+    unfolding readContent kindAt
+    content-characters k h =
+        record {
+          bounds = h .bounds;
+          sees = λ s b t e st v q c.
+              let (n, is) = v k in
+              rw (k, is)
+              (sees-then s _ _ stream at r (λ x. passes-return _ _) (value-seen s t stream at r n h));
+        }
+
+    pub content-comment : kind ≡ 6 → {learned : Bool} → StringSeen stream at 0 r
+        → ContentSeen a stream at kind learned uris r
+    unfolding readContent kindAt partitionsOf
+    content-comment k h =
+        record {
+          bounds = h .bounds;
+          sees = λ s b t e st v q c.
+              rw k
+              (sees-then s _ _ stream at r (λ x. passes-return _ _)
+              (text-seen s t stream at r commentText refl h));
+        }
+
+    pub content-instruction : kind ≡ 7 → {learned : Bool} → InstructionSeen stream at r
+        → ContentSeen a stream at kind learned uris r
+    unfolding kindAt
+    content-instruction k h =
+        record { bounds = h .bounds; sees = λ s b t e st v q c. rw k (h .sees s t st q) }
+
+-- ---- an event
+
+module _ {stream work : List ℕ} {c : Core} (pre : LookPre stream work c) where
+  pub production-asks : ProductionPre stream (c .at) (c .top) (c .learned) work
+  production-asks =
+      record {
+        size = pre .spot .size;
+        place = pre .spot .place;
+        low = pre .bounded .top;
+        few = pre .bounded .learned;
+        room = pre .rows;
+      }
+
+  pub look-nothing : (s : Settings)
+      → LookPost s stream work c (record { past = false; at = c .at; left = 0 })
+  look-nothing s =
+      record {
+        bounds = record { inside = pre .spot .place; few = omega arith };
+        cut = λ l. absurd (omega arith);
+      }
+
+  module _ {s : Settings} {p : ProductionRead}
+      (post : ProductionPost s stream (c .at) (c .mode) (c .top) (c .learned) work p)
+      (good : p .number ≡ 0) where
+    pub content-asks : UriPre stream (p .next) (c .uris)
+    content-asks =
+        record {
+          spot = record { size = pre .spot .size; place = post .inside };
+          few = pre .bounded .uris;
+        }
+
+    module _ {r : Looked}
+        (h : ContentSeen (s .alignment) stream (p .next) (p .kind) (p .learned) (c .uris) r) where
+      module _ (text : List ℕ) (w : Rows) (opened : List ℕ)
+          (rep : Represents work (inStore text (c .stored)) c w opened) (top : Topped c opened)
+          (l : 0 < r .left) where
+        abbrev here : Context
+        here = contextAt text c w opened
+
+        carried : (x : Code) → x .production
+            ≡ record {
+              kind = kindAt (p .kind);
+              qname = cond (p .learned) (carriedAt w (kindAt (p .kind)) (p .name)) none;
+            }
+            → Carries (p .learned) (p .kind) (x .production .qname)
+        unfolding carriedAt kindAt carries
+        carried x e =
+            record {
+              none-is = λ n. ap (λ (y : Production). y .qname) e ∙ rw n;
+              some-is = λ n k.
+                  (placedAt w (p .name), ap (λ (y : Production). y .qname) e ∙ rw (n, k));
+            }
+
+        valued : p .kind ≡ numberCH → Valued (here .state)
+        unfolding contextOf
+        valued k =
+            let inside = post .bounds good .stands .inside (omega arith) (omega arith) in
+            (nameAt w (c .top), inner-state rep (pre .bounded) top inside .0)
+
+        pub step-cut : CutAt (step sizes s here) (drop (c .at) (unpack stream)) s
+            (drop (r .at) (unpack stream)) (r .left)
+        unfolding step contextOf tablesOf
+        step-cut =
+            let o = post .meant w (take (c .stored) text) opened (rep .valid)
+                (code-rows rep (pre .bounded) top) in
+            let g = o .read good in
+            let is = o .is good in
+            let kind-is : g .value .production .kind ≡ kindAt (p .kind) =
+            ap (λ (y : Production). y .kind) (is .production) in
+            cut-behind _ _ _ (g .value) _ (g .result) (steady-code _ _)
+            (cut-then _ _ _
+            (rw kind-is
+            (h .sees s refl (here .tables) (sym (rep .counts .uris)) (here .state) valued
+            (g .value .production .qname) (carried (g .value) (is .production)) .cut l)))
+
+      pub look-post : LookPost s stream work c r
+      look-post =
+          record {
+            bounds = h .bounds;
+            cut = λ l text w opened rep top. step-cut text w opened rep top l;
+          }

@@ -1,0 +1,3 @@
+pub mod Steady
+pub mod Names
+pub mod Events

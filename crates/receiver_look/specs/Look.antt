@@ -1,0 +1,97 @@
+-- What looking at an event asks and leaves.
+use Prim.Native.Nat.{ℕ, _*_, _≤_, _<_}
+use mathlib.Core.Path.{_≡_}
+use mathlib.Core.Bool.{Bool, true, false}
+use mathlib.Core.List.{List, []}
+use mathlib.Core.Option.{Option, none, some}
+use lib.ListN.{length, drop}
+use Rattle.spec_fields.specs.Bits.{unpack}
+use Rattle.spec_fields.specs.Field.{Alignment}
+use Rattle.text.specs.Text.{Text}
+use Rattle.spec_exi.specs.Settings.{Settings}
+use Rattle.spec_exi.specs.Sizes.{sizes, maxUris, maxString}
+use Rattle.spec_exi.specs.Event.{QName, AT, PI}
+use Rattle.spec_exi.specs.Tables.{Placed, Slot, Tables, uri, value}
+use Rattle.spec_exi.specs.Grammar.{State}
+use Rattle.spec_exi.specs.Context.{characterRole}
+use Rattle.spec_exi.specs.Reader.{readByLiterals, readString, readName, readContent, step}
+use Rattle.mem_layout.specs.Layout.{workCells}
+use Rattle.mem_rows.specs.Rows.{Rows, kindAt}
+use Rattle.mem_state.specs.declared.Core.{Core}
+use Rattle.mem_state.specs.Holds.{inStore, Bounded, Topped, Represents, contextAt}
+use Rattle.event_code.specs.Numbers.{numberAT, numberCH}
+use Rattle.receiver_strings.specs.declared.Looked.{Looked}
+use Rattle.receiver_strings.specs.Cuts.{CutAt, Sees}
+use Rattle.receiver_strings.specs.Strings.{SpotIn, LookBounds, StringSeen}
+
+pub record UriPre (stream : List ℕ) (at uris : ℕ) : Type 0 where
+  pub spot : SpotIn stream at
+  pub few : uris ≤ maxUris
+
+-- Over any tables with so many URIs.
+pub record UriSeen (a : Alignment) (stream : List ℕ) (at uris : ℕ) (r : Looked) : Type 0 where
+  pub bounds : LookBounds stream r
+  pub sees : (s : Settings) → s .alignment ≡ a → (t : Tables) → length (t .uris) ≡ uris
+      → Sees s (readString sizes s t uri) stream at r
+
+pub record NameSeen (a : Alignment) (stream : List ℕ) (at uris : ℕ) (r : Looked) : Type 0 where
+  pub bounds : LookBounds stream r
+  pub sees : (s : Settings) → s .alignment ≡ a → (t : Tables) → length (t .uris) ≡ uris
+      → (attr : Bool) → Sees s (readName sizes s t attr none) stream at r
+
+-- ---- a string after others
+
+pub record ThenPre (stream : List ℕ) (l : Looked) : Type 0 where
+  pub spot : SpotIn stream (l .at)
+  pub few : l .left ≤ maxString
+
+pub record ThenSeen (stream : List ℕ) (l : Looked) (k : ℕ) (r : Looked) : Type 0 where
+  pub bounds : LookBounds stream r
+  pub after : l .past ≡ true → StringSeen stream (l .at) k r
+  pub stays : l .past ≡ false → r ≡ l
+
+-- ---- by the kind
+
+-- What a production carries: no name, where it is not learned; an attribute's, where it is.
+pub record Carries (learned : Bool) (kind : ℕ) (q : Option (QName Placed)) : Type 0 where
+  pub none-is : learned ≡ false → q ≡ none
+  pub some-is : learned ≡ true → kind ≡ numberAT → (x : QName Placed) × (q ≡ some x)
+
+pub record AttributeSeen (a : Alignment) (stream : List ℕ) (at : ℕ) (learned : Bool) (uris : ℕ)
+    (r : Looked) : Type 0 where
+  pub bounds : LookBounds stream r
+  pub sees : (s : Settings) → s .alignment ≡ a → (t : Tables) → length (t .uris) ≡ uris
+      → (st : State) (q : Option (QName Placed)) → Carries learned numberAT q
+      → Sees s (readContent sizes s t st AT q) stream at r
+
+pub record InstructionSeen (stream : List ℕ) (at : ℕ) (r : Looked) : Type 0 where
+  pub bounds : LookBounds stream r
+  pub sees : (s : Settings) (t : Tables) (st : State) (q : Option (QName Placed))
+      → Sees s (readContent sizes s t st PI q) stream at r
+
+-- Characters are a value.
+abbrev pub Valued : State → Type 0
+Valued st = (q : QName Text) × (characterRole st ≡ value q)
+
+pub record ContentSeen (a : Alignment) (stream : List ℕ) (at kind : ℕ) (learned : Bool) (uris : ℕ)
+    (r : Looked) : Type 0 where
+  pub bounds : LookBounds stream r
+  pub sees : (s : Settings) → s .alignment ≡ a → (t : Tables) → length (t .uris) ≡ uris
+      → (st : State) → (kind ≡ numberCH → Valued st) → (q : Option (QName Placed))
+      → Carries learned kind q → Sees s (readContent sizes s t st (kindAt kind) q) stream at r
+
+-- ---- an event
+
+pub record LookPre (stream work : List ℕ) (c : Core) : Type 0 where
+  pub spot : SpotIn stream (c .at)
+  pub rows : workCells ≤ length work
+  pub bounded : Bounded c
+
+-- Where code points are left, the definitions' step is cut there, or refused by another number than
+-- ENDED: whatever rows memory represents.
+pub record LookPost (s : Settings) (stream work : List ℕ) (c : Core) (r : Looked) : Type 0 where
+  pub bounds : LookBounds stream r
+  pub cut : 0 < r .left → (text : List ℕ) (w : Rows) (opened : List ℕ)
+      → Represents work (inStore text (c .stored)) c w opened → Topped c opened
+      → CutAt (step sizes s (contextAt text c w opened)) (drop (c .at) (unpack stream)) s
+      (drop (r .at) (unpack stream)) (r .left)

@@ -1,0 +1,126 @@
+// Where octets end inside an event (02, P8): among the code points of which string, if any. The
+// event is looked at from its first bit on, and nothing is laid. What the functions ask and leave is
+// in specs/Look.antt.
+ghost use mathlib.Core.Path.{_≡_};
+ghost use mathlib.Core.Bool.{false};
+ghost use Rattle.read_field.specs.View.{alignmentOf};
+ghost use Rattle.settings.specs.Meant.{settingsFrom};
+ghost use Rattle.receiver_strings.specs.Strings.{SpotIn};
+ghost use Rattle.receiver_look.specs.Look.{UriPre, UriSeen, ThenPre, ThenSeen, NameSeen};
+ghost use Rattle.receiver_look.specs.Look.{AttributeSeen, InstructionSeen, ContentSeen};
+ghost use Rattle.receiver_look.specs.Look.{LookPre, LookPost};
+use event_code::AT;
+use event_code::CH;
+use event_code::CM;
+use event_code::PI;
+use event_code::SE;
+use mem_state::Core;
+use read_field::Field;
+use receiver_strings::Looked;
+use settings::Settings;
+
+// Nothing is known of what stands at a position.
+fn nothing(at: usize) -> Looked
+    ensures { λ r. ⌜ r ≡ record { past = false; at = at; left = 0 } ⌝ }
+{
+    Looked {
+        past: false,
+        at,
+        left: 0,
+    }
+}
+
+// The URI of a name: a hit, or the String of a miss (EXI 7.3.2).
+fn uri(aligned: bool, stream: &[u8], at: usize, uris: u32) -> Looked
+    requires { ⌜ UriPre (now stream) at uris ⌝ }
+    ensures { λ r. ⌜ UriSeen (alignmentOf aligned) (now (stream .entry)) at uris r ⌝ }
+{
+    match read_field::choice(aligned, stream, at, uris + 1) {
+        Field::Refused(number) => nothing(at),
+        Field::Value { value, next } => {
+            if value == 0 {
+                return receiver_strings::string(stream, next, 0);
+            }
+            Looked {
+                past: true,
+                at: next,
+                left: 0,
+            }
+        }
+    }
+}
+
+// After what is passed, a string by k partitions for literals.
+fn then_string(stream: &[u8], l: Looked, k: u32) -> Looked
+    requires { ⌜ ThenPre (now stream) l ⌝ }
+    ensures { λ r. ⌜ ThenSeen (now (stream .entry)) l k r ⌝ }
+{
+    if l.past {
+        return receiver_strings::string(stream, l.at, k);
+    }
+    l
+}
+
+// A name that no production carries.
+fn name(aligned: bool, stream: &[u8], at: usize, uris: u32) -> Looked
+    requires { ⌜ UriPre (now stream) at uris ⌝ }
+    ensures { λ r. ⌜ NameSeen (alignmentOf aligned) (now (stream .entry)) at uris r ⌝ }
+{
+    let u = uri(aligned, stream, at, uris);
+    then_string(stream, u, 1)
+}
+
+// An attribute: its name, if the production carries none, and its value.
+fn attribute(aligned: bool, stream: &[u8], at: usize, learned: bool, uris: u32) -> Looked
+    requires { ⌜ UriPre (now stream) at uris ⌝ }
+    ensures { λ r. ⌜
+        AttributeSeen (alignmentOf aligned) (now (stream .entry)) at learned uris r ⌝ }
+{
+    if learned {
+        return receiver_strings::string(stream, at, 2);
+    }
+    let n = name(aligned, stream, at, uris);
+    then_string(stream, n, 2)
+}
+
+// An instruction: its target and its text.
+fn instruction(stream: &[u8], at: usize) -> Looked
+    requires { ⌜ SpotIn (now stream) at ⌝ }
+    ensures { λ r. ⌜ InstructionSeen (now (stream .entry)) at r ⌝ }
+{
+    let t = receiver_strings::string(stream, at, 0);
+    then_string(stream, t, 0)
+}
+
+// What follows an event's code, by its kind.
+fn content(aligned: bool, stream: &[u8], at: usize, kind: u32, learned: bool, uris: u32) -> Looked
+    requires { ⌜ UriPre (now stream) at uris ⌝ }
+    ensures { λ r. ⌜
+        ContentSeen (alignmentOf aligned) (now (stream .entry)) at kind learned uris r ⌝ }
+{
+    match kind {
+        SE => {
+            if learned {
+                return nothing(at);
+            }
+            name(aligned, stream, at, uris)
+        }
+        AT => attribute(aligned, stream, at, learned, uris),
+        CH => receiver_strings::string(stream, at, 2),
+        CM => receiver_strings::string(stream, at, 0),
+        PI => instruction(stream, at),
+        _ => nothing(at),
+    }
+}
+
+// Looks at the event after the core's position.
+pub fn look(o: Settings, stream: &[u8], c: Core, work: &[u32]) -> Looked
+    requires { ⌜ LookPre (now stream) (now work) c ⌝ }
+    ensures { λ r. ⌜ LookPost (settingsFrom o) (now (stream .entry)) (now (work .entry)) c r ⌝ }
+{
+    let p = read_production::read_production(o, stream, c.at, c.mode, c.top, c.learned, work);
+    if p.number != 0 {
+        return nothing(c.at);
+    }
+    content(o.aligned, stream, p.next, p.kind, p.learned, c.uris)
+}
