@@ -9,8 +9,7 @@ use lib.ListN.{length, drop, getElem?}
 use lib.Dec.{leb}
 use borrow.Author.Tests.{leb-true, leb-false}
 use Rattle.spec_fields.specs.Bits.{Bits, unpack}
-use Rattle.spec_fields.specs.Refusal.{Refusal, numberOf, ended, character, reference, loose, name}
-use Rattle.spec_fields.specs.Refusal.{limit}
+use Rattle.spec_fields.specs.Refusal.{numberOf, ended, character, reference, loose, name, limit}
 use Rattle.spec_fields.specs.Parser.{Parser, return, fail, present, andThen, _>>=_}
 use Rattle.spec_fields.specs.Field.{Alignment, numberField, width, choice}
 use Rattle.spec_fields.proofs.Steady.{Steady, steady-choice}
@@ -34,9 +33,6 @@ use Rattle.receiver_look.proofs.Steady.{steady-string}
 
 -- ---- refusals that are not ENDED
 
-other : (k : Refusal) → (numberOf k ≡ numberOf ended → ⊥) → k ≡ ended → ⊥
-other k n e = n (ap numberOf e)
-
 not-ended : numberOf reference ≡ numberOf ended → ⊥
 unfolding numberOf
 not-ended e = absurd (omega arith)
@@ -46,7 +42,7 @@ faulty-declined : {A : Type 0} {p : Parser A} {stream : List ℕ} {at n : ℕ}
 faulty-declined d n =
     record {
       refusal = d .refusal;
-      other = λ e. n (d .is ∙ ap numberOf e);
+      other = λ e. n (d .is ∙ e);
       result = d .result;
     }
 
@@ -59,10 +55,10 @@ module _ (s : Settings) (t : Tables) (stream : List ℕ) (at : ℕ) (r : Looked)
   unfolding readString numberOf
   sees-judged role h =
       sees-then s _ _ stream at r (λ v.
-      passes-need character (other character (λ e. absurd (omega arith))) _ _ _
-      (passes-need loose (other loose (λ e. absurd (omega arith))) _ _ _
-      (passes-need name (other name (λ e. absurd (omega arith))) _ _ _
-      (passes-need limit (other limit (λ e. absurd (omega arith))) _ _ _ (passes-return _ _)))))
+      passes-need character (λ e. absurd (omega arith)) _ _ _
+      (passes-need loose (λ e. absurd (omega arith)) _ _ _
+      (passes-need name (λ e. absurd (omega arith)) _ _ _
+      (passes-need limit (λ e. absurd (omega arith)) _ _ _ (passes-return _ _)))))
       h
 
   pub sees-string : (role : Role) (ess : List (List Slot)) → partitionsOf t role ≡ literals ess
@@ -120,7 +116,7 @@ unfolding present fail return _>>=_ andThen numberOf
 passes-present none g bs =
     faulty (record {
       refusal = reference;
-      other = other reference (λ e. absurd (omega arith));
+      other = λ e. absurd (omega arith);
       result = refl;
     })
 passes-present (some e) g bs = reads (g e) refl

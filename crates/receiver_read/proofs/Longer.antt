@@ -58,7 +58,7 @@ steps-shorter {s} {c} {bs = bs} (one-read {mid = mid} e h) =
 -- ---- more octets
 
 module _ (os more : List ℕ) where
-  drop-longer : (n : ℕ) → n ≤ 8 * length os
+  pub drop-longer : (n : ℕ) → n ≤ 8 * length os
       → drop n (unpack (os ++ more)) ≡ drop n (unpack os) ++ unpack more
   drop-longer n l =
       ap (drop n) (unpack-append os more)

@@ -37,7 +37,7 @@ use Rattle.read_run.proofs.Answers.{Answers, running-answers}
 use Rattle.read_body.specs.Body.{PlaceIn}
 use Rattle.read_body.proofs.Cells.{laid-store}
 use Rattle.receiver_read.specs.On.{Headed, before-it, after-it, Underway, Stands, HeaderPost}
-use Rattle.receiver_read.specs.On.{Onward, OnPost}
+use Rattle.receiver_read.specs.On.{Onward, OnPost, Ends}
 use Rattle.receiver_read.proofs.Laid.{laid-next, zero-after}
 use Rattle.receiver_read.proofs.Longer.{header-ends, steps-shorter}
 
@@ -159,6 +159,7 @@ module _ {s : Settings} {stream events text work : List ℕ} {st : State} {first
         upTo = pre .few;
         bounded = pre .bounded;
         inside = pre .place;
+        ends = λ e l. absurd (omega (arith, header-unread post some, l));
         meant = λ u. onward-header some u (u .headed);
       }
 
@@ -370,21 +371,39 @@ module _ {s : Settings} {stream events text work : List ℕ} {st : State} {first
       abbrev Leaves : Advanced → Type 0
       Leaves y = OnPost s stream events text work st first events′ text′ work′ y
 
-      leaves : (number : ℕ) → (Underway s stream events text work st first
+      -- The octets end in the next event.
+      next-ends : r .number ≡ numberOf ended → 0 < r .state .core .at
+          → Ends s stream text′ work′ (r .state) (r .index)
+      unfolding numberOf
+      next-ends e l =
+          let some : 0 < r .number = omega arith in
+          let few : r .index < maxEvents = elim (ℕ-discrete (r .index) maxEvents) [
+            | yes y ↦ absurd (omega (arith, p .full some y))
+            | no y ↦ omega (arith, p .progress .upTo)
+          ] in
+          record {
+            going = p .going some;
+            few = few;
+            begun = l;
+            next = λ w a b d. rw e at (p .refused some few .next w a b d);
+          }
+
+      leaves : (number : ℕ) → (number ≡ numberOf ended → number ≡ r .number) → (Underway s stream events text work st first
           → Onward s stream events′ text′ work′
           (record { number = number; index = r .index; state = r .state }))
           → Leaves (record { number = number; index = r .index; state = r .state })
-      leaves number f =
+      leaves number same f =
           record {
             upTo = p .progress .upTo;
             bounded = p .progress .bounded;
             inside = p .progress .inside;
+            ends = λ e l. next-ends (sym (same e) ∙ e) l;
             meant = f;
           }
 
       pub events-stop : (r .number ≡ 0 → ⊥) → Leaves r
       events-stop some =
-          leaves (r .number) (λ u.
+          leaves (r .number) (λ _. refl) (λ u.
           record {
             over = λ z. absurd (some z);
             waits = waits u;
@@ -396,7 +415,7 @@ module _ {s : Settings} {stream events text work : List ℕ} {st : State} {first
         pub all-read : padded ≡ true → Leaves r
         unfolding numberOf
         all-read f =
-            leaves (r .number) (λ u.
+            leaves (r .number) (λ _. refl) (λ u.
             record {
               over = λ _. stands u z e f;
               waits = λ n. absurd (omega arith);
@@ -407,7 +426,7 @@ module _ {s : Settings} {stream events text work : List ℕ} {st : State} {first
             → Leaves (record { number = 13; index = r .index; state = r .state })
         unfolding numberOf
         tail-read f =
-            leaves 13 (λ u.
+            leaves 13 (λ n. absurd (omega arith)) (λ u.
             record {
               over = λ n. absurd (omega arith);
               waits = λ n. absurd (omega arith);

@@ -11,15 +11,17 @@ use Rattle.spec_exi.specs.Sizes.{sizes, maxEvents, maxStore, eventCells, reader
 use Rattle.spec_exi.specs.Event.{Event}
 use Rattle.spec_exi.specs.Tables.{Placed}
 use Rattle.spec_exi.specs.Context.{Context, start}
-use Rattle.spec_exi.specs.Reader.{Reading, readHeader, readStream}
+use Rattle.spec_exi.specs.Reader.{Reading, readCharacter, step, readHeader, readStream}
 use Rattle.spec_exi.specs.Packets.{complete}
 use Rattle.event.specs.Cells.{cellsOfAll}
 use Rattle.mem_layout.specs.Layout.{zeroCells}
 use Rattle.event_code.specs.Numbers.{inDocument, isOver}
 use Rattle.mem_rows.specs.Rows.{Rows}
+use Rattle.read_contract.specs.Outcome.{Declined}
 use Rattle.mem_state.specs.Holds.{inStore, Bounded, Topped, Represents, contextAt}
 use Rattle.mem_initial.specs.Initial.{zeroed, withText, withRows}
 use Rattle.read_literal.specs.Literal.{ZeroFrom}
+use Rattle.read_literal.specs.Awaits.{Awaits}
 use Rattle.open_elements.specs.declared.State.{State}
 use Rattle.open_elements.specs.Opened.{openedIn}
 use Rattle.read_header.specs.declared.Passed.{Passed}
@@ -84,6 +86,36 @@ pub record Stands (s : Settings) (stream events text work : List ℕ) (st : Stat
     pub cut : (st .core .mode ≡ isOver → ⊥)
         → RefusedWith (readStream sizes s stream) (numberOf ended) n
 
+-- ---- an event that is cut
+
+-- Whatever rows memory holds, what is said of the context that they stand for.
+abbrev pub InContext : List ℕ → List ℕ → State → ℕ → (Context → Type 0) → Type 0
+InContext text work st n P =
+    (w : Rows) → Represents work (inStore text (st .core .stored)) (st .core) w (openedIn st)
+    → Topped (st .core) (openedIn st) → st .core .tag ≤ n + 1
+    → P (contextAt text (st .core) w (openedIn st))
+
+-- After the header and n events the octets end in the next one.
+pub record Ends (s : Settings) (stream text work : List ℕ) (st : State) (n : ℕ) : Type 0 where
+  pub going : st .core .mode ≡ isOver → ⊥
+  pub few : n < maxEvents
+  pub begun : 0 < st .core .at
+  pub next : InContext text work st n
+      (λ c. Declined (step sizes s c) stream (st .core .at) (numberOf ended))
+
+-- They end among the code points of a literal: whatever follows, the event goes on with so many code
+-- points from a position on.
+pub record Awaiting (s : Settings) (stream text work : List ℕ) (st : State) (n at left : ℕ) : Type 0
+  where
+    pub going : st .core .mode ≡ isOver → ⊥
+    pub few : n < maxEvents
+    pub begun : 0 < st .core .at
+    pub place : st .core .at ≤ 8 * length stream
+    pub inside : at ≤ 8 * length stream
+    pub next : InContext text work st n
+        (λ c. Awaits (readCharacter s) (step sizes s c) (drop (st .core .at) (unpack stream))
+        (drop at (unpack stream)) left)
+
 -- ---- reading on
 
 pub record HeaderPost (s : Settings) (stream : List ℕ) (at : ℕ) (r : Passed) : Type 0 where
@@ -106,4 +138,6 @@ pub record OnPost (s : Settings) (stream events text work : List ℕ) (st : Stat
   pub upTo : r .index ≤ maxEvents
   pub bounded : Bounded (r .state .core)
   pub inside : r .state .core .at ≤ 8 * length stream
+  pub ends : r .number ≡ numberOf ended → 0 < r .state .core .at
+      → Ends s stream text′ work′ (r .state) (r .index)
   pub meant : Underway s stream events text work st first → Onward s stream events′ text′ work′ r

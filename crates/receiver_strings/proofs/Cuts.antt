@@ -6,7 +6,7 @@ use Prim.Native.Nat.{ℕ}
 use native.Mathlib.Omega.{arith}
 use lib.ListN.{drop}
 use Rattle.spec_fields.specs.Bits.{Bits, unpack}
-use Rattle.spec_fields.specs.Refusal.{Refusal, ended}
+use Rattle.spec_fields.specs.Refusal.{Refusal, numberOf, ended}
 use Rattle.spec_fields.specs.Parser.{Result, bad, got, Parser, return, fail, need, andThen, _>>=_}
 use Rattle.spec_fields.specs.Parser.{_>>_, times}
 use Rattle.spec_fields.proofs.Steady.{Steady}
@@ -26,7 +26,7 @@ pub passes-return : {A : Type 0} (a : A) (bs : Bits) → Passes (return a) bs bs
 unfolding return
 passes-return a bs = reads a refl
 
-module _ {A : Type 0} (k : Refusal) (other : k ≡ ended → ⊥) (p : Parser A) (bs : Bits) where
+module _ {A : Type 0} (k : Refusal) (other : numberOf k ≡ numberOf ended → ⊥) (p : Parser A) (bs : Bits) where
   need-faulty : Faulty (need false k >> p) bs
   unfolding need fail _>>_ _>>=_ andThen
   need-faulty = record { refusal = k; other = other; result = refl }

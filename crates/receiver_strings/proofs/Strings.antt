@@ -1,6 +1,6 @@
 -- A string by partitions for literals, as a look sees it.
 use Prim.Native.Nat.{ℕ, zero, suc, _-_, _≤_, _<_}
-use mathlib.Core.Path.{_≡_, refl, sym, _∙_, ap}
+use mathlib.Core.Path.{_≡_, refl, sym, _∙_}
 use mathlib.Core.Bool.{Bool, true, false}
 use mathlib.Core.List.{List, [], _∷_}
 use mathlib.Core.Option.{none}
@@ -32,9 +32,9 @@ use Rattle.receiver_strings.specs.Strings.{NumberSeen}
 use Rattle.receiver_strings.proofs.Cuts.{passes-return, passes-need, cut-need, passes-then}
 use Rattle.receiver_strings.proofs.Cuts.{cut-then, sees-nothing, sees-field}
 
-pub limit-other : limit ≡ ended → ⊥
+limit-other : numberOf limit ≡ numberOf ended → ⊥
 unfolding numberOf
-limit-other e = let n : numberOf limit ≡ numberOf ended = ap numberOf e in absurd (omega arith)
+limit-other e = absurd (omega arith)
 
 -- ---- a literal
 

@@ -6,7 +6,7 @@ use mathlib.Core.List.{List}
 use Prim.Native.Nat.{ℕ, _<_}
 use lib.ListN.{drop}
 use Rattle.spec_fields.specs.Bits.{Bits, unpack}
-use Rattle.spec_fields.specs.Refusal.{Refusal, ended}
+use Rattle.spec_fields.specs.Refusal.{Refusal, numberOf, ended}
 use Rattle.spec_fields.specs.Parser.{bad, got, Parser}
 use Rattle.spec_exi.specs.Settings.{Settings}
 use Rattle.spec_exi.specs.Reader.{readCharacter}
@@ -17,7 +17,7 @@ module _ {A : Type 0} (p : Parser A) (bs : Bits) where
   -- Refused, but not because the bits end.
   pub record Faulty : Type 0 where
     pub refusal : Refusal
-    pub other : refusal ≡ ended → ⊥
+    pub other : numberOf refusal ≡ numberOf ended → ⊥
     pub result : p bs ≡ bad refusal
 
   -- It reads a value, and these bits are left.
