@@ -2,7 +2,7 @@
 use mathlib.Core.Path.{_≡_, refl, sym, ap, ap₂, subst, _∙_}
 use mathlib.Core.Bool.{Bool, true, false, _||_, true≢false}
 use mathlib.Core.List.{List, [], _++_}
-use Prim.Native.Nat.{ℕ, _+_, _≤_}
+use Prim.Native.Nat.{ℕ, _+_, _*_, _≤_, _<_}
 use native.Mathlib.Omega.{arith}
 use native.Mathlib.Decide.{ℕ-discrete}
 use lib.ListN.{length, take, drop, length-append}
@@ -12,13 +12,15 @@ use borrow.Author.Tests.{le-leb, eq-eqb, eqb-true}
 use Rattle.spec_fields.specs.Refusal.{numberOf, Answer}
 use Rattle.spec_fields.proofs.Tests.{split}
 use Rattle.spec_exi.specs.Settings.{Settings, settingsOf}
-use Rattle.spec_exi.specs.Sizes.{sizes, maxStream, maxOpen, readerWork}
+use Rattle.spec_exi.specs.Sizes.{sizes, maxStream, maxEvents, maxOpen, maxString, readerWork}
 use Rattle.spec_exi.specs.Reader.{Reading, enoughToRead}
 use Rattle.spec_exi.specs.Packets.{receive}
 use Rattle.settings.specs.Meant.{numbersOf, settingsMeant, settingsFrom}
 use Rattle.settings.specs.declared.Settings as declared
 use Rattle.open_elements.specs.declared.State.{State}
 use Rattle.settings.proofs.Laws.{settings-from}
+use Rattle.mem_state.specs.declared.Core.{Core}
+use Rattle.mem_state.specs.Holds.{Bounded}
 use Rattle.mem_initial.specs.Initial.{startAt}
 use Rattle.mem_initial.proofs.Initial.{start-bounded}
 use Rattle.open_elements.specs.Opened.{noneOpen}
@@ -28,15 +30,22 @@ use Rattle.reader.specs.declared.ReadReply.{ReadReply}
 use Rattle.reader.specs.Read.{eventsFilled, textFilled}
 use Rattle.receiver_record.specs.declared.Receiver.{Receiver}
 use Rattle.receiver_record.specs.declared.Handed.{Handed}
+use Rattle.receiver_record.specs.declared.Wait.{Wait}
 use Rattle.receiver_record.specs.Record.{isStarted, goingOn, isRefused, refusalAt, startedWith}
 use Rattle.receiver_record.specs.Record.{withReply, Lent, lent, cleared, Left, handed}
 use Rattle.receiver_course.specs.Course.{counted, refusedAfter, isSound, Within}
 use Rattle.receiver_course.proofs.Ways.{Roomy, roomy-is, sound-within, going-not-started}
 use Rattle.receiver_course.proofs.Ways.{within-sound}
 use Rattle.receiver_phases.specs.Phases.{kept, refused}
-use Rattle.receiver_read.specs.On.{BeginPre, BeginPost, Stands, Onward, OnPost}
+use Rattle.receiver_strings.specs.declared.Skipped.{Skipped}
+use Rattle.receiver_strings.specs.Strings.{SkipPost}
+use Rattle.receiver_read.specs.On.{BeginPre, BeginPost, Underway, Stands, Awaiting, Onward, OnPost}
 use Rattle.receiver_read.proofs.Longer.{underway-longer}
 use Rattle.receiver_read.proofs.Beginning.{begin-underway}
+use Rattle.receiver_wait.specs.Wait.{StillPre, CutPre, CutPost}
+use Rattle.receiver_wait.proofs.Awaiting.{awaiting-looked, awaiting-longer, awaiting-on, awaiting-refused}
+use Rattle.receiver_wait.proofs.Stops.{stops-there}
+use Rattle.receiver_piece.specs.Piece.{stayed, awaited}
 use Rattle.receiver_piece.specs.Piece.{roomIn, roomOf, SameLengths, Carries, shown, Holds}
 use Rattle.receiver_piece.specs.Piece.{Told, Took, ConcludePre, wentOn, concluded}
 use Rattle.receiver_piece.specs.Piece.{AdvancedPre, GoOnPre, GoOnPost}
@@ -46,18 +55,18 @@ use Rattle.receiver_piece.proofs.Told.{told-refused, told-stands, recei
 
 -- ---- the answer
 
-module _ (r : Receiver) (k : ℕ) (a : Advanced) (m : Lent) where
+module _ (r : Receiver) (k : ℕ) (a : Advanced) (w : Wait) (m : Lent) where
   abbrev goes : Bool
   goes = eqb (a .number) 0 || eqb (a .number) 5
 
-  pub concludes-on : {f : Handed} → goes ≡ true → f ≡ wentOn r k a
-      → handed f m ≡ concluded r k a m
+  pub concludes-on : {f : Handed} → goes ≡ true → f ≡ wentOn r k a w
+      → handed f m ≡ concluded r k a w m
   unfolding concluded numberOf
   concludes-on t e = rw (t, e)
 
   pub concludes-refused : {f : Handed} {m′ : Lent} {y : ReadReply} → goes ≡ false
       → y ≡ refusalAt (a .number) (a .index) → handed f m′ ≡ refused r y k m
-      → handed f m′ ≡ concluded r k a m
+      → handed f m′ ≡ concluded r k a w m
   unfolding concluded numberOf
   concludes-refused t e g = rw t (g ∙ ap (λ (z : ReadReply). refused r z k m) e)
 
@@ -68,10 +77,9 @@ module _ {r : Receiver} {held : List ℕ} {n : ℕ} {events text work : List ℕ
   pub held-asks : n ≤ length held
   held-asks = omega (arith, pre .size, pre .kept)
 
-  pub advance-asks : length (r .state .opened) ≡ maxOpen
-      → AdvancePre (take n held) events text work (r .state) (r .reply .events)
+  pub advance-asks : AdvancePre (take n held) events text work (r .state) (r .reply .events)
   unfolding readerWork
-  advance-asks array =
+  advance-asks =
       let l : length (take n held) ≡ n = length-take-le n held held-asks in
       record {
         size = omega (arith, l, pre .size);
@@ -81,7 +89,7 @@ module _ {r : Receiver} {held : List ℕ} {n : ℕ} {events text work : List ℕ
         cells = pre .cells;
         few = pre .within .few;
         bounded = pre .within .bounded;
-        array = array;
+        array = pre .array;
       }
 
 pub on-as : {o o′ : declared.Settings} {stream events text work : List ℕ} {st : State} {n : ℕ}
@@ -89,6 +97,28 @@ pub on-as : {o o′ : declared.Settings} {stream events text work : List ℕ} {s
     → OnPost (settingsFrom o) stream events text work st n events′ text′ work′ a
     → OnPost (settingsFrom o′) stream events text work st n events′ text′ work′ a
 on-as e h = rw e at h
+
+pub cut-as : {o o′ : declared.Settings} {stream work : List ℕ} {number : ℕ} {c : Core} {w : Wait}
+    → o ≡ o′ → CutPost (settingsFrom o) stream work number c w
+    → CutPost (settingsFrom o′) stream work number c w
+cut-as e h = rw e at h
+
+-- What a call has reached: a and the literal that is cut, if one is.
+pub record Reached (s : Settings) (stream events text work : List ℕ) (r : Receiver)
+    (events′ text′ work′ : List ℕ) (a : Advanced) (w : Wait) : Type 0 where
+  pub upTo : a .index ≤ maxEvents
+  pub bounded : Bounded (a .state .core)
+  pub inside : a .state .core .at ≤ 8 * length stream
+  pub place : w .at ≤ 8 * length stream
+  pub small : w .left ≤ maxString
+  pub meant : Underway s stream events text work (r .state) (r .reply .events)
+      → (0 < r .wait .left → Awaiting s stream text work (r .state) (r .reply .events)
+      (r .wait .at) (r .wait .left))
+      → Onward s stream events′ text′ work′ a
+  pub awaits : Underway s stream events text work (r .state) (r .reply .events)
+      → (0 < r .wait .left → Awaiting s stream text work (r .state) (r .reply .events)
+      (r .wait .at) (r .wait .left))
+      → 0 < w .left → Awaiting s stream text′ work′ (a .state) (a .index) (w .at) (w .left)
 
 -- ---- the octets
 
@@ -117,11 +147,22 @@ module _ {r : Receiver} {p : List ℕ} {m : Lent} (pre : GoOnPre r p m) where
   pub keep-asks : r .octets + length p ≤ length (m .held)
   keep-asks = omega (arith, pre .few, roomy .octets)
 
-  pub advanced-asks : (held₁ : List ℕ) → length held₁ ≡ length (m .held)
+  pub still-asks : (held₁ : List ℕ) → length held₁ ≡ length (m .held)
+      → StillPre held₁ (r .octets + length p) (r .wait .at)
+  still-asks held₁ e =
+      record {
+        size = pre .few;
+        kept = omega (arith, e, keep-asks);
+        place = omega (arith, pre .within .waits);
+      }
+
+  pub advanced-asks : length (r .state .opened) ≡ maxOpen → (held₁ : List ℕ)
+      → length held₁ ≡ length (m .held)
       → AdvancedPre r held₁ (r .octets + length p) (m .events) (m .text) (m .work)
-  advanced-asks held₁ e =
+  advanced-asks array held₁ e =
       record {
         within = pre .within;
+        array = array;
         more = omega arith;
         size = pre .few;
         kept = omega (arith, e, roomy .octets);
@@ -130,9 +171,76 @@ module _ {r : Receiver} {p : List ℕ} {m : Lent} (pre : GoOnPre r p m) where
         rows = roomy .rows;
       }
 
-  module _ {held₁ events′ text′ work′ : List ℕ} {a : Advanced} (keeps : held₁ ≡ kept (m .held) (r .octets) p)
-      (post : OnPost (settingsFrom (settingsMeant (r .settings))) (take (r .octets + length p) held₁)
-      (m .events) (m .text) (m .work) (r .state) (r .reply .events) events′ text′ work′ a) where
+  -- ---- what is reached
+
+  abbrev kept-settings : Settings
+  kept-settings = settingsFrom (settingsMeant (r .settings))
+
+  module _ {held₁ : List ℕ} (asks : AdvancedPre r held₁ (r .octets + length p) (m .events) (m .text) (m .work)) where
+    abbrev so-far : List ℕ
+    so-far = take (r .octets + length p) held₁
+
+    -- Code points are awaited, and one is refused.
+    pub reached-still : {y : Skipped} → SkipPost so-far (r .wait .at) (r .wait .left) y
+        → (y .number ≡ 0 → ⊥)
+        → Reached kept-settings so-far (m .events) (m .text) (m .work) r (m .events) (m .text) (m .work)
+        (stayed r y) (awaited y)
+    reached-still {y} post some =
+        let l : 0 < y .number = omega (arith, some) in
+        let c = post .cut l in
+        let go = advance-asks asks in
+        record {
+          upTo = pre .within .few;
+          bounded = pre .within .bounded;
+          inside = go .place;
+          place = post .inside;
+          small = omega (arith, post .few, pre .within .awaited);
+          meant = λ u f.
+              let h = f (omega (arith, c .some, post .few)) in
+              stops-there kept-settings go (h .going) (h .few) (h .begun) (y .number) l
+              (awaiting-refused h c) .meant u;
+          awaits = λ u f _. awaiting-on (f (omega (arith, c .some, post .few))) c;
+        }
+
+    -- The octets were read on.
+    pub reached-on : {events′ text′ work′ : List ℕ} {a : Advanced}
+        → OnPost kept-settings so-far (m .events) (m .text) (m .work) (r .state) (r .reply .events) events′
+        text′ work′ a
+        → {w : Wait} → CutPost kept-settings so-far work′ (a .number) (a .state .core) w
+        → Reached kept-settings so-far (m .events) (m .text) (m .work) r events′ text′ work′ a w
+    reached-on post cut =
+        record {
+          upTo = post .upTo;
+          bounded = post .bounded;
+          inside = post .inside;
+          place = cut .inside;
+          small = cut .few;
+          meant = λ u _. post .meant u;
+          awaits = λ u _ l.
+              let c = cut .cut l in
+              awaiting-looked (post .ends (c .ends) (c .begun)) (post .inside) (cut .inside) c;
+        }
+
+    pub cut-asks : {events′ text′ work′ : List ℕ} {a : Advanced}
+        → OnPost kept-settings so-far (m .events) (m .text) (m .work) (r .state) (r .reply .events) events′
+        text′ work′ a → length work′ ≡ length (m .work)
+        → CutPre held₁ (r .octets + length p) work′ (a .state .core)
+    unfolding readerWork
+    cut-asks post e =
+        let n : length so-far ≡ r .octets + length p =
+        length-take-le (r .octets + length p) held₁ (held-asks asks) in
+        record {
+          size = pre .few;
+          kept = held-asks asks;
+          place = omega (arith, post .inside, n);
+          rows = omega (arith, e, asks .rows);
+          bounded = post .bounded;
+        }
+
+  module _ {held₁ events′ text′ work′ : List ℕ} {a : Advanced} {w : Wait}
+      (keeps : held₁ ≡ kept (m .held) (r .octets) p)
+      (post : Reached kept-settings (take (r .octets + length p) held₁) (m .events) (m .text) (m .work) r
+      events′ text′ work′ a w) where
     pub conclude-asks : ConcludePre r (length p) a
     conclude-asks = record { few = pre .few; upTo = post .upTo; stored = post .bounded .stored }
 
@@ -159,10 +267,16 @@ module _ {r : Receiver} {p : List ℕ} {m : Lent} (pre : GoOnPre r p m) where
             ∙ take-at (os ++ p) (drop (r .octets + length p) (m .held)) (r .octets + length p)
             (sym total)
 
+        reached : Reached s (os ++ p) (m .events) (m .text) (m .work) r events′ text′ work′ a w
+        reached = rw (settings-from (r .settings), stream-is) at post
+
+        awaited-before : 0 < r .wait .left
+            → Awaiting s (os ++ p) (m .text) (m .work) (r .state) (r .reply .events) (r .wait .at)
+            (r .wait .left)
+        awaited-before l = awaiting-longer os p (c .awaits l)
+
         onward : Onward s (os ++ p) events′ text′ work′ a
-        onward =
-            (rw (settings-from (r .settings), stream-is) at post) .meant
-            (underway-longer os p (c .underway))
+        onward = reached .meant (underway-longer os p (c .underway)) awaited-before
 
         enough : enoughToRead sizes (roomOf m) ≡ true
         enough = room-is m ∙ pre .room
@@ -170,7 +284,7 @@ module _ {r : Receiver} {p : List ℕ} {m : Lent} (pre : GoOnPre r p m) where
         short : length (os ++ p) ≤ maxStream
         short = omega (arith, total, pre .few)
 
-        stands : goes r (length p) a m₁ ≡ true
+        stands : goes r (length p) a w m₁ ≡ true
             → Stands s (os ++ p) events′ text′ work′ (a .state) (a .index)
         unfolding numberOf
         stands t = elim (ℕ-discrete (a .number) 0) [
@@ -178,21 +292,21 @@ module _ {r : Receiver} {p : List ℕ} {m : Lent} (pre : GoOnPre r p m) where
           | no e ↦ onward .waits (is-five a t e)
         ]
 
-        sound-on : isSound (wentOn r (length p) a .receiver) ≡ true
+        sound-on : isSound (wentOn r (length p) a w .receiver) ≡ true
         unfolding wentOn shown
         sound-on =
             let n = ap length stream-is in
-            within-sound (wentOn r (length p) a .receiver) refl (pre .few)
+            within-sound (wentOn r (length p) a w .receiver) refl (pre .few)
             (record {
               place = omega (arith, post .inside, n, total);
               bounded = post .bounded;
               few = post .upTo;
-              waits = omega (arith, pre .within .waits);
-              awaited = pre .within .awaited;
+              waits = omega (arith, post .place, n, total);
+              awaited = post .small;
             })
 
-        took-on : goes r (length p) a m₁ ≡ true
-            → Took r (os ++ p) m (wentOn r (length p) a .receiver) m₁ (wentOn r (length p) a .reply)
+        took-on : goes r (length p) a w m₁ ≡ true
+            → Took r (os ++ p) m (wentOn r (length p) a w .receiver) m₁ (wentOn r (length p) a w .reply)
         unfolding wentOn shown
         took-on t =
             let h = stands t in
@@ -209,6 +323,7 @@ module _ {r : Receiver} {p : List ℕ} {m : Lent} (pre : GoOnPre r p m) where
                     held = ap (λ n. take n held₁) (sym total) ∙ stream-is;
                     reply = refl;
                     stands = h;
+                    awaits = reached .awaits (underway-longer os p (c .underway)) awaited-before;
                   };
               stops = λ l. absurd (omega arith);
             }
@@ -224,7 +339,7 @@ module _ {r : Receiver} {p : List ℕ} {m : Lent} (pre : GoOnPre r p m) where
         abbrev y : ReadReply
         y = refusalAt (a .number) (a .index)
 
-        took-refused : goes r (length p) a m₁ ≡ false
+        took-refused : goes r (length p) a w m₁ ≡ false
             → Took r (os ++ p) m
             (withReply r isRefused (counted (r .octets) (length p))
             (refusedAfter (counted (r .octets) (length p)) y))
@@ -249,20 +364,20 @@ module _ {r : Receiver} {p : List ℕ} {m : Lent} (pre : GoOnPre r p m) where
                   };
             })
 
-      module _ {f : Handed} {m′ : Lent} (e : handed f m′ ≡ concluded r (length p) a m₁) where
+      module _ {f : Handed} {m′ : Lent} (e : handed f m′ ≡ concluded r (length p) a w m₁) where
         abbrev TookAs : List ℕ → Left → Type 0
         TookAs os x = Took r os m (x .receiver) (x .lent) (x .reply)
 
         concluded-took : (os : List ℕ) → Carries r m os
-            → TookAs (os ++ p) (concluded r (length p) a m₁)
+            → TookAs (os ++ p) (concluded r (length p) a w m₁)
         unfolding concluded refused numberOf
         concluded-took os c =
-            split (goes r (length p) a m₁) (λ t. rw t (took-on os c t))
+            split (goes r (length p) a w m₁) (λ t. rw t (took-on os c t))
             (λ t. rw t (took-refused os c t))
 
-        settings-kept : concluded r (length p) a m₁ .receiver .settings ≡ r .settings
+        settings-kept : concluded r (length p) a w m₁ .receiver .settings ≡ r .settings
         unfolding concluded wentOn refused numberOf
-        settings-kept = split (goes r (length p) a m₁) (λ t. rw t) (λ t. rw t)
+        settings-kept = split (goes r (length p) a w m₁) (λ t. rw t) (λ t. rw t)
 
         pub goes-on : GoOnPost r p m m′ f
         goes-on =
@@ -374,6 +489,7 @@ module _ {r : Receiver} {p : List ℕ} {m : Lent} (pre : PiecePre r p m) where
             count = refl;
             held = refl;
             underway = begin-underway begun-asks post (settingsOf (numbersOf (r .settings)));
+            awaits = λ l. absurd (omega arith);
           }
 
       kept-first : first-record .settings ≡ r .settings
@@ -409,7 +525,12 @@ module _ {r : Receiver} {p : List ℕ} {m : Lent} (pre : PiecePre r p m) where
       carries-further os h =
           let (same, x, y, z) = begun .other (λ n. going-not-started (h .phase) n) in
           rw (same, x, y, z)
-          (record { count = h .count; held = h .held; underway = h .stands .underway })
+          (record {
+            count = h .count;
+            held = h .held;
+            underway = h .stands .underway;
+            awaits = h .awaits;
+          })
 
       pub piece-read : PiecePost r p m m′ f
       piece-read =

@@ -7,7 +7,8 @@ use lib.ListN.{length, take}
 use lib.Dec.{leb, eqb}
 use Rattle.spec_fields.specs.Refusal.{numberOf, ended, Answer}
 use Rattle.spec_exi.specs.Settings.{meaningful, settingsOf}
-use Rattle.spec_exi.specs.Sizes.{maxStream, maxEvents, maxStore, eventCells, readerWork}
+use Rattle.spec_exi.specs.Sizes.{maxStream, maxEvents, maxOpen, maxStore, eventCells}
+use Rattle.spec_exi.specs.Sizes.{readerWork}
 use Rattle.spec_exi.specs.Reader.{Reading, ReaderRoom, readReply}
 use Rattle.spec_exi.specs.Packets.{receive}
 use Rattle.settings.specs.Meant.{numbersOf}
@@ -16,11 +17,13 @@ use Rattle.reader.specs.declared.ReadReply.{ReadReply}
 use Rattle.reader.specs.Read.{replyOf, eventsFilled, textFilled}
 use Rattle.receiver_record.specs.declared.Receiver.{Receiver}
 use Rattle.receiver_record.specs.declared.Handed.{Handed}
+use Rattle.receiver_record.specs.declared.Wait.{Wait}
 use Rattle.receiver_record.specs.Record.{isStarted, goingOn, isRefused, refusalAt, startedWith}
 use Rattle.receiver_record.specs.Record.{withReply, Lent, cleared, Left, handed}
 use Rattle.receiver_course.specs.Course.{hasRoom, isSound, Within}
 use Rattle.receiver_phases.specs.Phases.{refused}
-use Rattle.receiver_read.specs.On.{BeginPost, Underway, Stands}
+use Rattle.receiver_read.specs.On.{BeginPost, Underway, Stands, Awaiting}
+use Rattle.receiver_strings.specs.declared.Skipped.{Skipped}
 
 -- ---- room
 
@@ -51,13 +54,16 @@ pub record Carries (r : Receiver) (m : Lent) (os : List ℕ) : Type 0 where
   pub held : take (length os) (m .held) ≡ os
   pub underway : Underway (settingsOf (numbersOf (r .settings))) os (m .events) (m .text) (m .work)
       (r .state) (r .reply .events)
+  pub awaits : 0 < r .wait .left
+      → Awaiting (settingsOf (numbersOf (r .settings))) os (m .text) (m .work) (r .state)
+      (r .reply .events) (r .wait .at) (r .wait .left)
 
 -- The reply of a piece that is not refused.
 unfoldable pub shown : ℕ → ℕ → ReadReply
 shown events points = record { number = 0; index = 0; events = events; «code_points» = points }
 
 -- A receiver that goes on, as the last call left it: these octets were handed over, and all their
--- complete events are read.
+-- complete events are read; where it awaits code points, the octets end among those of a literal.
 pub record Holds (r : Receiver) (m : Lent) (os : List ℕ) : Type 0 where
   pub phase : r .phase ≡ goingOn
   pub sound : isSound r ≡ true
@@ -66,6 +72,9 @@ pub record Holds (r : Receiver) (m : Lent) (os : List ℕ) : Type 0 where
   pub reply : r .reply ≡ shown (r .reply .events) (r .state .core .stored)
   pub stands : Stands (settingsOf (numbersOf (r .settings))) os (m .events) (m .text) (m .work)
       (r .state) (r .reply .events)
+  pub awaits : 0 < r .wait .left
+      → Awaiting (settingsOf (numbersOf (r .settings))) os (m .text) (m .work) (r .state)
+      (r .reply .events) (r .wait .at) (r .wait .left)
 
 -- ---- what a piece leaves
 
@@ -98,8 +107,8 @@ pub record ConcludePre (r : Receiver) (k : ℕ) (a : Advanced) : Type 0 where
   pub upTo : a .index ≤ maxEvents
   pub stored : a .state .core .stored ≤ maxStore
 
-unfoldable pub wentOn : Receiver → ℕ → Advanced → Handed
-wentOn r k a =
+unfoldable pub wentOn : Receiver → ℕ → Advanced → Wait → Handed
+wentOn r k a w =
     record {
       receiver = record {
         settings = r .settings;
@@ -107,22 +116,30 @@ wentOn r k a =
         octets = r .octets + k;
         reply = shown (a .index) (a .state .core .stored);
         state = a .state;
-        wait = r .wait;
+        wait = w;
       };
       reply = shown (a .index) (a .state .core .stored);
     }
 
 -- It goes on where the octets ended or are whole; else it is refused.
-unfoldable pub concluded : Receiver → ℕ → Advanced → Lent → Left
-concluded r k a m =
-    cond (eqb (a .number) 0 || eqb (a .number) (numberOf ended)) (handed (wentOn r k a) m)
+unfoldable pub concluded : Receiver → ℕ → Advanced → Wait → Lent → Left
+concluded r k a w m =
+    cond (eqb (a .number) 0 || eqb (a .number) (numberOf ended)) (handed (wentOn r k a w) m)
     (refused r (refusalAt (a .number) (a .index)) k m)
+
+-- Where code points are awaited, and one is refused.
+abbrev pub stayed : Receiver → Skipped → Advanced
+stayed r s = record { number = s .number; index = r .reply .events; state = r .state }
+
+abbrev pub awaited : Skipped → Wait
+awaited s = record { at = s .at; left = s .left }
 
 -- ---- the octets
 
 pub record AdvancedPre (r : Receiver) (held : List ℕ) (n : ℕ) (events text work : List ℕ) : Type 0
   where
     pub within : Within r
+    pub array : length (r .state .opened) ≡ maxOpen
     pub more : r .octets ≤ n
     pub size : n ≤ maxStream
     pub kept : maxStream ≤ length held

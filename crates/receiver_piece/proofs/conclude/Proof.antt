@@ -10,7 +10,7 @@ went-on-requires : tie.Need-went-on-requires
 went-on-requires c κs = c .before .before .before .before .before .before .before .pre
 
 returns : tie.Need-returns
-returns c = concludes-on _ _ _ _ (c .before .if1 .taken) (c .went-on .ensures)
+returns c = concludes-on _ _ _ _ _ (c .before .if1 .taken) (c .went-on .ensures)
 
 cast-refusal-at : tie.Need-cast-refusal-at
 unfolding maxEvents
@@ -41,7 +41,7 @@ returns-2 c =
     let refuse = c .before .before .before .before .before .before .before .before in
     let refusal-at = refuse .before .before .before .before .before in
     let if1 = refusal-at .before .before in
-    concludes-refused _ _ _ _ (if1 .if1 .left) (refusal-at .refusal-at .ensures) (refuse .refuse
+    concludes-refused _ _ _ _ _ (if1 .if1 .left) (refusal-at .refusal-at .ensures) (refuse .refuse
     .ensures)
 
 pub conclude-spec : {M : Type 1} → statement M

@@ -6,13 +6,13 @@ use mathlib.Core.Path.{refl}
 use Rattle.receiver_piece.proofs.went_on.Statement.{statement}
 use Rattle.receiver_piece.proofs.went_on.Tie as tie
 
-cast-t7 : tie.Need-cast-t7
-unfolding maxEvents
-cast-t7 c = omega (arith, c .before .before .pre .upTo)
-
 cast-t8 : tie.Need-cast-t8
+unfolding maxEvents
+cast-t8 c = omega (arith, c .before .before .pre .upTo)
+
+cast-t9 : tie.Need-cast-t9
 unfolding maxStore
-cast-t8 c = omega (arith, c .before .before .before .pre .stored)
+cast-t9 c = omega (arith, c .before .before .before .pre .stored)
 
 add-receiver : tie.Need-add-receiver
 unfolding maxStream
@@ -26,7 +26,7 @@ pub went-on-spec : {M : Type 1} → statement M
 went-on-spec =
     tie.close
     (tie.spec
-    cast-t7
     cast-t8
+    cast-t9
     add-receiver
     returns)
