@@ -225,7 +225,7 @@ module _ {stream work : List ℕ} {c : Core} (pre : LookPre stream work c) where
         unfolding step contextOf tablesOf
         step-cut =
             let o = post .meant w (take (c .stored) text) opened (rep .valid)
-                (code-rows rep (pre .bounded) top) in
+            (code-rows rep (pre .bounded) top) in
             let g = o .read good in
             let is = o .is good in
             let kind-is : g .value .production .kind ≡ kindAt (p .kind) =

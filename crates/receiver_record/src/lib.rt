@@ -15,8 +15,8 @@ pub const REFUSED: u32 = 2;
 
 pub const CLOSED: u32 = 3;
 
-// A literal that is cut: the position of its next code point, and how many are to come. (Both are
-// 0, as yet.)
+// A literal that is cut: the position of its next code point, and how many are to come; none where
+// no literal is.
 #[repr(C)]
 pub struct Wait {
     pub at: usize,

@@ -41,7 +41,7 @@ module _ {stream : List ℕ} {at : ℕ} (pre : SpotIn stream at) where
     pub point-refused : {n : ℕ} → f ≡ Refused n → PointRead stream at (record { number = n; next = at })
     point-refused z =
         let d = refused-declined (readCharacter base) stream at
-            (sym (character-refused stream at (sym answer ∙ z))) in
+        (sym (character-refused stream at (sym answer ∙ z))) in
         record { refused = λ _. d; read = λ e. absurd (omega (arith, declined-number d)) }
 
     module _ {v q : ℕ} (z : f ≡ Value v q) where

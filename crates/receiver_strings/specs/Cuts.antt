@@ -1,5 +1,5 @@
--- What a parser comes to where bits may end: it passes, or it is cut among code points. Each may be refused instead,
--- by another number than ENDED.
+-- What a parser comes to where bits may end: it passes, or it is cut among code points. Either may
+-- be refused instead, by another number than ENDED.
 use mathlib.Core.Path.{_≡_}
 use mathlib.Core.Bool.{true}
 use mathlib.Core.List.{List}

@@ -27,8 +27,8 @@ pub record CutPre (held : List ℕ) (n : ℕ) (work : List ℕ) (c : Core) : Typ
   pub rows : workCells ≤ length work
   pub bounded : Bounded c
 
--- The octets end, the header is read, and the step after the core is cut among code points: or refused by another number
--- than ENDED.
+-- The octets end, the header is read, and the step after the core is cut among code points, or
+-- refused by another number than ENDED.
 pub record CutIn (s : Settings) (stream work : List ℕ) (number : ℕ) (c : Core) (r : Wait) : Type 0
   where
     pub ends : number ≡ numberOf ended
