@@ -176,7 +176,8 @@ module _ {r : Receiver} {p : List ℕ} {m : Lent} (pre : GoOnPre r p m) where
   abbrev kept-settings : Settings
   kept-settings = settingsFrom (settingsMeant (r .settings))
 
-  module _ {held₁ : List ℕ} (asks : AdvancedPre r held₁ (r .octets + length p) (m .events) (m .text) (m .work)) where
+  module _ {held₁ : List ℕ}
+      (asks : AdvancedPre r held₁ (r .octets + length p) (m .events) (m .text) (m .work)) where
     abbrev so-far : List ℕ
     so-far = take (r .octets + length p) held₁
 

@@ -1,20 +1,15 @@
+-- `then_string` meets its contract.
 use Rattle.receiver_look.proofs.Names.{then-after, then-stays}
 use borrow.Author.Needs.{needs}
 use Rattle.receiver_look.proofs.then_string.Statement.{statement}
 use Rattle.receiver_look.proofs.then_string.Tie as tie
-use Rattle.receiver_look.proofs.then_string.Reads as reads
-use Rattle.receiver_look.proofs.then_string.Lts as lts
-use Rattle.receiver_strings.proofs.string.Reads as string-reads
 
--- src/lib.rt:59:9
 string-requires : tie.Need-string-requires
 string-requires c κs = c .before .before .pre .spot
 
--- src/lib.rt:59:9
 returns : tie.Need-returns
 returns c = then-after (c .before .before .before .pre) (c .before .if1 .taken) (c .string .ensures)
 
--- src/lib.rt:54:1
 returns-2 : tie.Need-returns-2
 returns-2 c = then-stays (c .before .before .pre) (c .if1 .left)
 

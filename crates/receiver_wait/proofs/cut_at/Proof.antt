@@ -1,3 +1,4 @@
+-- `cut_at` meets its contract.
 use native.Mathlib.Omega.{arith}
 use mathlib.Core.Path.{_≡_}
 use Prim.Native.Nat.{_-_}
@@ -5,46 +6,35 @@ use Rattle.receiver_wait.proofs.Asks.{look-asks, cut-nothing, cut-looke
 use borrow.Author.Needs.{needs}
 use Rattle.receiver_wait.proofs.cut_at.Statement.{statement}
 use Rattle.receiver_wait.proofs.cut_at.Tie as tie
-use Rattle.receiver_wait.proofs.cut_at.Reads as reads
-use Rattle.receiver_wait.proofs.cut_at.Lts as lts
-use Rattle.receiver_look.proofs.look.Reads as look-reads
-use Rattle.receiver_wait.proofs.nothing.Reads as nothing-reads
 
--- src/lib.rt:37:9
 nothing-requires : tie.Need-nothing-requires
 nothing-requires c κs = search needs
 
--- src/lib.rt:37:9
 returns : tie.Need-returns
 returns c = cut-nothing (c .before .before .before .before .pre) _ _ (c .nothing .ensures)
 
--- src/lib.rt:40:9
 nothing-requires-2 : tie.Need-nothing-requires-2
 nothing-requires-2 c κs = search needs
 
--- src/lib.rt:40:9
 returns-2 : tie.Need-returns-2
-returns-2 c = cut-nothing (c .before .before .before .before .before .before .pre) _ _ (c .nothing2 .ensures)
+returns-2 c =
+    let start = c .before .before .before .before .before .before in
+    cut-nothing (start .pre) _ _ (c .nothing2 .ensures)
 
--- src/lib.rt:42:36
 sub-look : tie.Need-sub-look
 sub-look c = search needs
 
--- src/lib.rt:42:36
 part-look-start : tie.Need-part-look-start
 part-look-start c = search needs
 
--- src/lib.rt:42:36
 part-look-end : tie.Need-part-look-end
 part-look-end c = search needs
 
--- src/lib.rt:42:9
 look-requires : tie.Need-look-requires
 look-requires c κs =
     let start = c .before .before .before .before .before .before in
     let e : start .args .n - 0 ≡ start .args .n = omega arith in rw e (look-asks (start .pre))
 
--- src/lib.rt:31:1
 returns-3 : tie.Need-returns-3
 returns-3 c =
     let if2 = c .before .before in

@@ -1,3 +1,4 @@
+-- `still` meets its contract.
 use native.Mathlib.Omega.{arith}
 use mathlib.Core.Path.{_≡_}
 use Prim.Native.Nat.{_-_}
@@ -5,29 +6,21 @@ use Rattle.receiver_wait.proofs.Asks.{still-asks}
 use borrow.Author.Needs.{needs}
 use Rattle.receiver_wait.proofs.still.Statement.{statement}
 use Rattle.receiver_wait.proofs.still.Tie as tie
-use Rattle.receiver_wait.proofs.still.Reads as reads
-use Rattle.receiver_wait.proofs.still.Lts as lts
-use Rattle.receiver_strings.proofs.skip.Reads as skip-reads
 
--- src/lib.rt:19:28
 sub-skip : tie.Need-sub-skip
 sub-skip c = search needs
 
--- src/lib.rt:19:28
 part-skip-start : tie.Need-part-skip-start
 part-skip-start c = search needs
 
--- src/lib.rt:19:28
 part-skip-end : tie.Need-part-skip-end
 part-skip-end c = search needs
 
--- src/lib.rt:19:5
 skip-requires : tie.Need-skip-requires
 skip-requires c κs =
     let start = c .before .before in
     let e : start .args .n - 0 ≡ start .args .n = omega arith in rw e (still-asks (start .pre))
 
--- src/lib.rt:15:1
 returns : tie.Need-returns
 returns c =
     let start = c .before .before .before in
