@@ -1,39 +1,37 @@
 -- The content of an event, and the event, as a look sees them.
 use Prim.Native.Nat.{ℕ, _*_, _≤_, _<_}
-use mathlib.Core.Path.{_≡_, refl, sym, _∙_, ap, subst}
-use mathlib.Core.Bool.{Bool, true, false, true≢false, cond}
+use mathlib.Core.Path.{_≡_, refl, sym, _∙_, ap}
+use mathlib.Core.Bool.{Bool, true, false, cond}
 use mathlib.Core.List.{List, []}
-use mathlib.Core.Option.{Option, none, some}
+use mathlib.Core.Option.{none}
 use native.Mathlib.Omega.{arith}
 use lib.ListN.{length, drop, take}
-use Rattle.spec_fields.specs.Bits.{Bits, unpack}
+use Rattle.spec_fields.specs.Bits.{unpack}
 use Rattle.spec_fields.specs.Parser.{return}
 use Rattle.spec_fields.specs.Field.{Alignment}
 use Rattle.text.specs.Text.{Text}
 use Rattle.spec_fields.proofs.Steady.{steady-return}
-use Rattle.spec_fields.proofs.Tests.{split}
 use Rattle.spec_exi.specs.Settings.{Settings}
-use Rattle.spec_exi.specs.Sizes.{sizes, maxStream, maxLearned}
-use Rattle.spec_exi.specs.Event.{QName, Kind, SE, AT, CH, CM, PI}
-use Rattle.spec_exi.specs.Tables.{Placed, Slot, Tables, Role, value, target, commentText}
+use Rattle.spec_exi.specs.Sizes.{sizes}
+use Rattle.spec_exi.specs.Event.{QName}
+use Rattle.spec_exi.specs.Tables.{Tables, Role, value, target, commentText}
 use Rattle.spec_exi.specs.Tables.{literals, instructionText, partitionsOf, nameText}
-use Rattle.spec_exi.specs.Grammar.{State, Production, Code}
-use Rattle.spec_exi.specs.Context.{Context, levelsIn, characterRole}
+use Rattle.spec_exi.specs.Grammar.{Production, Code}
+use Rattle.spec_exi.specs.Context.{Context}
 use Rattle.spec_exi.specs.Reader.{readString, readName, readContent, step}
 use Rattle.spec_exi.proofs.Steady.{steady-code}
 use Rattle.mem_rows.specs.Rows.{Rows, kindAt, carries, carriedAt, tablesOf, contextOf, nameAt}
 use Rattle.mem_rows.specs.Rows.{placedAt}
 use Rattle.mem_state.specs.declared.Core.{Core}
-use Rattle.mem_state.specs.Holds.{inStore, Bounded, Topped, Represents, contextAt}
-use Rattle.event_code.specs.Numbers.{inTag, numberAT, numberCH}
+use Rattle.mem_state.specs.Holds.{inStore, Topped, Represents, contextAt}
+use Rattle.event_code.specs.Numbers.{numberCH}
 use Rattle.grammar_update.proofs.Represented.{code-rows, inner-state}
-use Rattle.read_contract.specs.Outcome.{Gotten}
 use Rattle.read_contract.proofs.Outcome.{return-gotten}
 use Rattle.read_production.specs.declared.ProductionRead.{ProductionRead}
 use Rattle.read_production.specs.Production.{ProductionPre, ProductionPost}
 use Rattle.receiver_strings.specs.declared.Looked.{Looked}
 use Rattle.receiver_strings.specs.Cuts.{CutAt, Sees}
-use Rattle.receiver_strings.specs.Strings.{SpotIn, StringSeen}
+use Rattle.receiver_strings.specs.Strings.{StringSeen}
 use Rattle.receiver_strings.proofs.Cuts.{passes-return, cut-then, cut-behind, sees-then}
 use Rattle.receiver_strings.proofs.Cuts.{sees-nothing, sees-field}
 use Rattle.receiver_look.specs.Look.{UriPre, ThenSeen, NameSeen, Carries, AttributeSeen}

@@ -1,8 +1,8 @@
 -- What looking at an event asks and leaves.
-use Prim.Native.Nat.{ℕ, _*_, _≤_, _<_}
+use Prim.Native.Nat.{ℕ, _≤_, _<_}
 use mathlib.Core.Path.{_≡_}
 use mathlib.Core.Bool.{Bool, true, false}
-use mathlib.Core.List.{List, []}
+use mathlib.Core.List.{List}
 use mathlib.Core.Option.{Option, none, some}
 use lib.ListN.{length, drop}
 use Rattle.spec_fields.specs.Bits.{unpack}
@@ -11,10 +11,10 @@ use Rattle.text.specs.Text.{Text}
 use Rattle.spec_exi.specs.Settings.{Settings}
 use Rattle.spec_exi.specs.Sizes.{sizes, maxUris, maxString}
 use Rattle.spec_exi.specs.Event.{QName, AT, PI}
-use Rattle.spec_exi.specs.Tables.{Placed, Slot, Tables, uri, value}
+use Rattle.spec_exi.specs.Tables.{Placed, Tables, uri, value}
 use Rattle.spec_exi.specs.Grammar.{State}
 use Rattle.spec_exi.specs.Context.{characterRole}
-use Rattle.spec_exi.specs.Reader.{readByLiterals, readString, readName, readContent, step}
+use Rattle.spec_exi.specs.Reader.{readString, readName, readContent, step}
 use Rattle.mem_layout.specs.Layout.{workCells}
 use Rattle.mem_rows.specs.Rows.{Rows, kindAt}
 use Rattle.mem_state.specs.declared.Core.{Core}

@@ -9,7 +9,7 @@ use borrow.Author.Tests.{le-leb, eq-eqb, ne-eqb}
 use Rattle.spec_fields.specs.Refusal.{Refusal, numberOf, ended, refused, accepted}
 use Rattle.spec_fields.proofs.Tests.{split}
 use Rattle.spec_exi.specs.Settings.{SettingNumbers, meaningful, settingsOf}
-use Rattle.spec_exi.specs.Sizes.{sizes, maxStream, maxEvents, maxStore, cellsPerEvent, eventCells}
+use Rattle.spec_exi.specs.Sizes.{sizes, maxStream, maxEvents, maxStore, eventCells}
 use Rattle.spec_exi.specs.Sizes.{readerWork}
 use Rattle.spec_exi.specs.Reader.{Reading, ReaderRoom, enoughToRead, readSized, readStream}
 use Rattle.spec_exi.specs.Reader as format

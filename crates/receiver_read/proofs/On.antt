@@ -12,7 +12,7 @@ use Rattle.spec_fields.specs.Refusal.{Refusal, numberOf, ended, tail, refused, 
 use Rattle.spec_fields.specs.Parser.{bad, got}
 use Rattle.spec_fields.proofs.Pack.{length-unpack}
 use Rattle.spec_exi.specs.Settings.{Settings, headerOf}
-use Rattle.spec_exi.specs.Sizes.{sizes, maxEvents, cellsPerEvent, eventCells}
+use Rattle.spec_exi.specs.Sizes.{sizes, maxEvents, eventCells}
 use Rattle.spec_exi.specs.Event.{Event}
 use Rattle.spec_exi.specs.Tables.{Placed}
 use Rattle.spec_exi.specs.Grammar.{isFinished}

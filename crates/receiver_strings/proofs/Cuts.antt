@@ -1,22 +1,19 @@
 -- How parsers pass, and are cut, one after the other.
 use mathlib.Core.Path.{_≡_, refl, sym, _∙_, ap}
 use mathlib.Core.Bool.{Bool, true, false, true≢false}
-use mathlib.Core.List.{List, _++_}
+use mathlib.Core.List.{List}
 use Prim.Native.Nat.{ℕ}
 use native.Mathlib.Omega.{arith}
 use lib.ListN.{drop}
 use Rattle.spec_fields.specs.Bits.{Bits, unpack}
 use Rattle.spec_fields.specs.Refusal.{Refusal, numberOf, ended}
-use Rattle.spec_fields.specs.Parser.{Result, bad, got, Parser, return, fail, need, andThen, _>>=_}
-use Rattle.spec_fields.specs.Parser.{_>>_, times}
+use Rattle.spec_fields.specs.Parser.{got, Parser, return, fail, need, andThen, _>>=_}
+use Rattle.spec_fields.specs.Parser.{_>>_}
 use Rattle.spec_fields.proofs.Steady.{Steady}
-use Rattle.spec_fields.proofs.Tests.{split}
 use Rattle.spec_exi.specs.Settings.{Settings}
-use Rattle.spec_exi.specs.Reader.{readCharacter}
 use Rattle.read_contract.specs.Outcome.{Gotten}
 use Rattle.read_contract.proofs.Outcome.{need-true}
-use Rattle.read_literal.specs.Awaits.{Awaits}
-use Rattle.read_literal.proofs.Awaits.{then-then, awaits-then, awaits-behind, awaits-need}
+use Rattle.read_literal.proofs.Awaits.{awaits-then, awaits-behind, awaits-need}
 use Rattle.receiver_strings.specs.declared.Looked.{Looked}
 use Rattle.receiver_strings.specs.Cuts.{Faulty, Passes, faulty, reads, CutAt, cut, Sees}
 

@@ -1,10 +1,10 @@
 -- A code point, and a turn of the loop that passes over code points.
-use Prim.Native.Nat.{ℕ, suc, _+_, _*_, _-_, _≤_, _<_}
-use mathlib.Core.Path.{_≡_, refl, sym, _∙_, ap}
+use Prim.Native.Nat.{ℕ, suc, _+_, _-_, _≤_, _<_}
+use mathlib.Core.Path.{_≡_, refl, sym, _∙_}
 use mathlib.Core.Bool.{true, false}
 use mathlib.Core.List.{List}
 use native.Mathlib.Omega.{arith}
-use lib.ListN.{length, drop}
+use lib.ListN.{drop}
 use Rattle.spec_fields.specs.Bits.{unpack}
 use Rattle.spec_fields.specs.Refusal.{numberCharacter}
 use Rattle.spec_fields.specs.Parser.{times}
@@ -16,14 +16,13 @@ use Rattle.spec_exi.specs.Reader.{readCharacter}
 use Rattle.read_field.specs.declared.Field.{Field}
 use Rattle.read_field.specs.declared.Field.the-variants.{Value, Refused}
 use Rattle.read_field.specs.View.{fieldAt, InStream}
-use Rattle.read_contract.specs.Outcome.{Declined, Gotten}
+use Rattle.read_contract.specs.Outcome.{Gotten}
 use Rattle.read_contract.proofs.Outcome.{declined-number, refused-declined, times-empty, times-gotten}
 use Rattle.read_literal.specs.Awaits.{Awaits}
-use Rattle.read_literal.specs.Literal.{base, Cut}
+use Rattle.read_literal.specs.Literal.{base}
 use Rattle.read_literal.proofs.Laws.{character-gotten, character-not, character-refused}
 use Rattle.read_literal.proofs.Awaits.{awaits-all, awaits-one}
 use Rattle.receiver_strings.specs.declared.Point.{Point}
-use Rattle.receiver_strings.specs.declared.Skipped.{Skipped}
 use Rattle.receiver_strings.specs.Strings.{SpotIn, PointRead, SkipPost}
 
 -- ---- a code point

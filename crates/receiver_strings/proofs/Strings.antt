@@ -1,33 +1,31 @@
 -- A string by partitions for literals, as a look sees it.
 use Prim.Native.Nat.{ℕ, zero, suc, _-_, _≤_, _<_}
 use mathlib.Core.Path.{_≡_, refl, sym, _∙_}
-use mathlib.Core.Bool.{Bool, true, false}
+use mathlib.Core.Bool.{false}
 use mathlib.Core.List.{List, [], _∷_}
 use mathlib.Core.Option.{none}
 use native.Mathlib.Omega.{arith}
 use native.Mathlib.Decide.{ℕ-discrete}
 use lib.ListN.{length, drop, getElem?}
-use lib.Dec.{leb, eqb}
+use lib.Dec.{eqb}
 use borrow.Author.Tests.{eqb-true}
 use Rattle.spec_fields.specs.Bits.{unpack}
 use Rattle.spec_fields.specs.Refusal.{ended, limit, numberOf}
-use Rattle.spec_fields.specs.Parser.{return, times}
 use Rattle.spec_fields.specs.Field.{unsigned}
 use Rattle.spec_fields.proofs.Steady.{steady-unsigned}
 use Rattle.spec_exi.specs.Settings.{Settings}
 use Rattle.spec_exi.specs.Sizes.{sizes, maxString}
-use Rattle.spec_exi.specs.Tables.{Slot, Tables, literal, laid}
+use Rattle.spec_exi.specs.Tables.{Tables, literal}
 use Rattle.spec_exi.specs.Reader.{readCharacter, readLiteral, readIn, readByLiterals}
 use Rattle.read_field.specs.declared.Field.{Field}
 use Rattle.read_field.specs.declared.Field.the-variants.{Value}
 use Rattle.read_field.specs.View.{fieldAt}
 use Rattle.read_contract.specs.Outcome.{Gotten}
 use Rattle.read_contract.proofs.Outcome.{unsigned-gotten}
-use Rattle.read_literal.specs.Literal.{base}
 use Rattle.receiver_strings.specs.declared.Skipped.{Skipped}
 use Rattle.receiver_strings.specs.declared.Looked.{Looked}
-use Rattle.receiver_strings.specs.Cuts.{Passes, reads, CutAt, cut, Sees}
-use Rattle.receiver_strings.specs.Strings.{SpotIn, SkipPost, LookBounds, StringSeen}
+use Rattle.receiver_strings.specs.Cuts.{Passes, reads, CutAt, cut}
+use Rattle.receiver_strings.specs.Strings.{SpotIn, SkipPost, StringSeen}
 use Rattle.receiver_strings.specs.Strings.{NumberSeen}
 use Rattle.receiver_strings.proofs.Cuts.{passes-return, passes-need, cut-need, passes-then}
 use Rattle.receiver_strings.proofs.Cuts.{cut-then, sees-nothing, sees-field}

@@ -1,18 +1,18 @@
 -- What the functions ask of their callees, and leave.
-use Prim.Native.Nat.{ℕ, _*_, _≤_, _<_}
-use mathlib.Core.Path.{_≡_, refl}
+use Prim.Native.Nat.{ℕ}
+use mathlib.Core.Path.{_≡_}
 use mathlib.Core.List.{List}
 use native.Mathlib.Omega.{arith}
 use lib.ListN.{length, take}
 use lib.Seq.{length-take-le}
-use Rattle.spec_fields.specs.Refusal.{numberOf, ended}
+use Rattle.spec_fields.specs.Refusal.{numberOf}
 use Rattle.spec_exi.specs.Settings.{Settings}
 use Rattle.mem_state.specs.declared.Core.{Core}
 use Rattle.receiver_record.specs.declared.Wait.{Wait}
 use Rattle.receiver_strings.specs.declared.Looked.{Looked}
 use Rattle.receiver_strings.specs.Strings.{SpotIn}
 use Rattle.receiver_look.specs.Look.{LookPre, LookPost}
-use Rattle.receiver_wait.specs.Wait.{StillPre, CutPre, CutIn, CutPost}
+use Rattle.receiver_wait.specs.Wait.{StillPre, CutPre, CutPost}
 
 pub still-asks : {held : List ℕ} {n at : ℕ} → StillPre held n at → SpotIn (take n held) at
 still-asks {held} {n} pre =

@@ -1,13 +1,12 @@
 -- A literal that is cut, as more octets come.
-use Prim.Native.Nat.{ℕ, suc, _+_, _*_, _-_, _≤_, _<_}
-use mathlib.Core.Path.{_≡_, refl, sym, _∙_, ap}
+use Prim.Native.Nat.{ℕ, suc, _+_, _*_, _-_, _≤_}
+use mathlib.Core.Path.{_≡_, sym, _∙_, ap}
 use mathlib.Core.List.{List, _++_}
 use native.Mathlib.Omega.{arith}
 use lib.ListN.{length, drop, length-append}
 use Rattle.spec_fields.specs.Bits.{Bits, unpack}
 use Rattle.spec_fields.specs.Refusal.{Refusal, numberOf, ended}
-use Rattle.spec_fields.specs.Parser.{Result, bad, got, Parser, andThen, _>>=_, times}
-use Rattle.spec_fields.proofs.Exact.{not-got}
+use Rattle.spec_fields.specs.Parser.{Result, bad, Parser, andThen, _>>=_, times}
 use Rattle.spec_exi.specs.Settings.{Settings}
 use Rattle.spec_exi.specs.Sizes.{sizes}
 use Rattle.spec_exi.specs.Context.{Context}
@@ -16,7 +15,7 @@ use Rattle.open_elements.specs.declared.State.{State}
 use Rattle.open_elements.specs.Opened.{openedIn}
 use Rattle.read_contract.specs.Outcome.{Declined}
 use Rattle.read_literal.specs.Awaits.{Awaits}
-use Rattle.read_literal.specs.Literal.{base, Cut}
+use Rattle.read_literal.specs.Literal.{Cut}
 use Rattle.read_literal.proofs.Awaits.{then-then, awaits-more, awaits-refused}
 use Rattle.receiver_record.specs.declared.Wait.{Wait}
 use Rattle.receiver_strings.specs.Cuts.{CutAt, faulty, cut}

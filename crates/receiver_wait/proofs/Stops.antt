@@ -1,24 +1,20 @@
 -- Where the next event is refused at once, the answer is that of the definitions.
-use Prim.Native.Nat.{ℕ, _+_, _*_, _≤_, _<_}
-use mathlib.Core.Path.{_≡_, refl, sym, _∙_, ap}
+use Prim.Native.Nat.{ℕ, _*_, _<_}
+use mathlib.Core.Path.{_≡_, refl}
 use mathlib.Core.List.{List, []}
 use native.Mathlib.Omega.{arith}
-use lib.ListN.{length}
-use Rattle.spec_exi.specs.Settings.{Settings, headerOf}
+use Rattle.spec_exi.specs.Settings.{Settings}
 use Rattle.spec_exi.specs.Sizes.{sizes, maxEvents}
 use Rattle.spec_exi.specs.Reader.{step}
 use Rattle.event.specs.Cells.{cellsOfAll}
 use Rattle.event_code.specs.Numbers.{isOver}
-use Rattle.mem_rows.specs.Rows.{Rows}
 use Rattle.open_elements.specs.declared.State.{State}
-use Rattle.open_elements.specs.Opened.{openedIn}
 use Rattle.read_contract.specs.Outcome.{Declined}
 use Rattle.read_literal.proofs.Store.{laid-none}
-use Rattle.read_header.specs.declared.Passed.{Passed}
 use Rattle.read_run.specs.declared.Advanced.{Advanced}
 use Rattle.read_run.specs.Events.{none-read}
 use Rattle.read_run.specs.Run.{AdvancePre, AdvancePost, Progress}
-use Rattle.receiver_read.specs.On.{HeaderPost, Underway, Onward, InContext, OnPost}
+use Rattle.receiver_read.specs.On.{HeaderPost, InContext, OnPost}
 use Rattle.receiver_read.proofs.On.{events-stop}
 
 module _ (s : Settings) {stream events text work : List ℕ} {st : State} {first : ℕ}

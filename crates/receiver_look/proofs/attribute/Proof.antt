@@ -1,7 +1,6 @@
 -- `attribute` meets its contract.
 use Rattle.receiver_look.proofs.Events.{attribute-known, attribute-new}
 use Rattle.receiver_look.proofs.Names.{then-spot}
-use borrow.Author.Needs.{needs}
 use Rattle.receiver_look.proofs.attribute.Statement.{statement}
 use Rattle.receiver_look.proofs.attribute.Tie as tie
 

@@ -1,7 +1,6 @@
 -- `instruction` meets its contract.
 use Rattle.receiver_look.proofs.Events.{instruction-seen}
 use Rattle.receiver_look.proofs.Names.{then-spot}
-use borrow.Author.Needs.{needs}
 use Rattle.receiver_look.proofs.instruction.Statement.{statement}
 use Rattle.receiver_look.proofs.instruction.Tie as tie
 

@@ -1,6 +1,5 @@
 -- `name` meets its contract.
 use Rattle.receiver_look.proofs.Names.{then-spot, name-seen}
-use borrow.Author.Needs.{needs}
 use Rattle.receiver_look.proofs.name.Statement.{statement}
 use Rattle.receiver_look.proofs.name.Tie as tie
 

@@ -1,6 +1,5 @@
 -- `then_string` meets its contract.
 use Rattle.receiver_look.proofs.Names.{then-after, then-stays}
-use borrow.Author.Needs.{needs}
 use Rattle.receiver_look.proofs.then_string.Statement.{statement}
 use Rattle.receiver_look.proofs.then_string.Tie as tie
 

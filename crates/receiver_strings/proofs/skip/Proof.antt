@@ -2,7 +2,6 @@
 use native.Mathlib.Omega.{arith}
 use Rattle.receiver_strings.proofs.Points.{Turn, turn-start, turn-asks, turn-refused}
 use Rattle.receiver_strings.proofs.Points.{turn-next, turn-end}
-use borrow.Author.Needs.{needs}
 use Rattle.receiver_strings.proofs.skip.Statement.{statement}
 use Rattle.receiver_strings.proofs.skip.Tie as tie
 
