@@ -126,6 +126,10 @@ stateOf mode [] =
     getD (document ∷ docContent ∷ docEnd ∷ finished ∷ fragmentContent ∷ []) mode finished
 stateOf mode (q ∷ outer) = cond (eqb mode inTag) (startTag q outer) (elementContent q outer)
 
+-- The number after characters, a comment or an instruction (`inContent`).
+abbrev pub contentAfter : ℕ → ℕ
+contentAfter mode = cond (eqb mode inTag) inElement mode
+
 -- The number after an event of this kind, in a fragment or not, where so many elements were open
 -- (`stateAfter`).
 unfoldable pub modeAfter : Bool → ℕ → ℕ → ℕ → ℕ
@@ -136,7 +140,7 @@ modeAfter isFragment kind mode depth =
     (cond (eqb kind (kindNumber AT)) mode
     (cond (eqb kind (kindNumber EE))
     (cond (eqb depth 1) (cond isFragment inFragment inDocEnd) inElement)
-    (cond (eqb mode inTag) inElement mode)))))
+    (contentAfter mode)))))
 
 -- The open elements after it, where its name has this row.
 unfoldable pub openedAfter : ℕ → ℕ → List ℕ → List ℕ
