@@ -52,6 +52,15 @@ module _ (mode top : ℕ) where
       split (ltb mode inTag) (λ u. rw u (omega arith))
       (λ u. rw u (split (eqb mode inTag) (λ t. rw t (omega arith)) (λ t. rw t (omega arith))))
 
+-- Only outside of every element it is the fragment's.
+pub site-outer : (mode top : ℕ) → top < nameRows → siteIn mode top ≡ fragmentSite → mode < inTag
+site-outer mode top h e =
+    split (ltb mode inTag)
+    (λ t. ltb-true mode inTag t)
+    (λ t. absurd (split (eqb mode inTag)
+    (λ u. let z = rw (t, u) at e in omega (arith, z))
+    (λ u. let z = rw (t, u) at e in omega (arith, z))))
+
 pub count-asks : {work : List ℕ} (mode : ℕ) {top site : ℕ} → SitePre work top
     → site ≡ siteIn mode top → Sited work site 0
 count-asks mode {top} h e =
