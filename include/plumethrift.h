@@ -70,7 +70,7 @@ extern "C" {
  * bit-packed, no cookie, nothing kept: name the members that differ, and leave out the others, as
  * in `= {.alignment = PLUMETHRIFT_BYTE_ALIGNED}`; in C++17, assign to members of a `= {}`.
  *
- * The last six are for what this version does not do: as yet, a number other than 0 is refused. The
+ * The last five are for what this version does not do: as yet, a number other than 0 is refused. The
  * struct stays as it is when they get their meanings.
  */
 typedef struct plumethrift_settings {
@@ -78,7 +78,7 @@ typedef struct plumethrift_settings {
   uint32_t cookie;         /* 1: the stream begins with 24 45 58 49 ("$EXI"); 0: it does not */
   uint32_t comments;       /* 1: comments are kept; 0: no list or stream has any */
   uint32_t instructions;   /* 1: processing instructions are kept; 0: no list or stream has any */
-  uint32_t fragment;       /* 0: a document, with one root */
+  uint32_t fragment;       /* 1: a fragment, with elements in any number; 0: a document, with one root */
   uint32_t value_length;   /* PLUMETHRIFT_UNBOUNDED: values of any length join the tables */
   uint32_t value_capacity; /* PLUMETHRIFT_UNBOUNDED: no value in the tables is replaced */
   uint32_t loose;          /* 0: the reader takes strict forms alone */
@@ -199,9 +199,10 @@ plumethrift_read_reply plumethrift_read(plumethrift_settings settings,
  * PLUMETHRIFT_WRITER_WORK_CELLS cells. Refusals 1 to 3, 8, 11, 12, 14 and 15.
  *
  * A well-formed list is: start document; comments and instructions; one element, balanced; comments
- * and instructions; end document; nothing after. Attributes come before any other event in their
- * element, and no two of one start tag have the same URI and local name. Kinds that the settings
- * drop are not allowed.
+ * and instructions; end document; nothing after. In a fragment comments, instructions and balanced
+ * elements stand between start and end document, in any order and number, none too. Attributes come
+ * before any other event in their element, and no two of one start tag have the same URI and local
+ * name. Kinds that the settings drop are not allowed.
  *
  * Its strings have only XML 1.0 Chars. Local names are NCNames of Namespaces in XML 1.0 (by XML 1.0,
  * Fifth Edition), and so are targets, but not xml in any case; no attribute is nil or type of

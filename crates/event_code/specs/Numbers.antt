@@ -1,9 +1,9 @@
--- States and kinds as numbers, and which event teaches a production (EXI 8.4.3) by them.
+-- States and kinds as numbers, and which event teaches a production (EXI 8.4.2, 8.4.3) by them.
 use Prim.Native.Nat.{ℕ}
 use mathlib.Core.Bool.{Bool, _&&_, _||_}
 use lib.Dec.{eqb, leb}
 use Rattle.spec_exi.specs.Grammar.{State, document, docContent, docEnd, finished, startTag}
-use Rattle.spec_exi.specs.Grammar.{elementContent}
+use Rattle.spec_exi.specs.Grammar.{fragmentContent, elementContent}
 
 -- ---- states and kinds: src/lib.rt has the same names
 
@@ -19,11 +19,16 @@ inDocEnd = 2
 abbrev pub isOver : ℕ
 isOver = 3
 
+-- From here on something is learned.
+abbrev pub inFragment : ℕ
+inFragment = 4
+
+-- And from here on an element is open.
 abbrev pub inTag : ℕ
-inTag = 4
+inTag = 5
 
 abbrev pub inElement : ℕ
-inElement = 5
+inElement = 6
 
 -- The kinds' are the definitions' `kindNumber`, written out.
 abbrev pub numberSD : ℕ
@@ -60,6 +65,7 @@ modeOf document = inDocument
 modeOf docContent = inDocContent
 modeOf docEnd = inDocEnd
 modeOf finished = isOver
+modeOf fragmentContent = inFragment
 modeOf (startTag q outer) = inTag
 modeOf (elementContent q outer) = inElement
 
@@ -70,3 +76,4 @@ unfoldable pub teachesIn : ℕ → ℕ → Bool
 teachesIn mode kind =
     (eqb mode inTag && leb numberSE kind && leb kind numberCH)
     || (eqb mode inElement && (eqb kind numberSE || eqb kind numberCH))
+    || (eqb mode inFragment && eqb kind numberSE)

@@ -1,5 +1,5 @@
 // The kinds of event and the grammar's states as numbers, and which event teaches a production
-// (EXI 8.4.3). What the contract cites is in specs/Numbers.antt.
+// (EXI 8.4.2, 8.4.3). What the contract cites is in specs/Numbers.antt.
 ghost use mathlib.Core.Path.{_≡_};
 ghost use Rattle.event_code.specs.Numbers.{teachesIn};
 
@@ -20,7 +20,8 @@ pub const CM: u32 = 6;
 
 pub const PI: u32 = 7;
 
-// The grammar's states.
+// The grammar's states: from a fragment's content on something is learned, from a start tag on an
+// element is open.
 pub const IN_DOCUMENT: u32 = 0;
 
 pub const IN_DOC_CONTENT: u32 = 1;
@@ -29,9 +30,11 @@ pub const IN_DOC_END: u32 = 2;
 
 pub const IS_OVER: u32 = 3;
 
-pub const IN_TAG: u32 = 4;
+pub const IN_FRAGMENT: u32 = 4;
 
-pub const IN_ELEMENT: u32 = 5;
+pub const IN_TAG: u32 = 5;
+
+pub const IN_ELEMENT: u32 = 6;
 
 // Whether an event of this kind, with a code that is not learned, teaches a production.
 pub fn teaches(mode: u32, kind: u32) -> bool
@@ -40,6 +43,7 @@ pub fn teaches(mode: u32, kind: u32) -> bool
     match mode {
         IN_TAG => (SE <= kind) & (kind <= CH),
         IN_ELEMENT => (kind == SE) | (kind == CH),
+        IN_FRAGMENT => kind == SE,
         _ => false,
     }
 }

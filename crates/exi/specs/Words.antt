@@ -18,6 +18,7 @@ words =
     ∷ text "--cookie"
     ∷ text "--comments"
     ∷ text "--instructions"
+    ∷ text "--fragment"
     ∷ text "--help"
     ∷ text "--ms"
     ∷ text "show"
@@ -42,7 +43,7 @@ isOption w = eqb (getD w 0 0) 45 && not (eqb (getD w 1 0) 0)
 -- understood, and anything else names the file, then the file to write.
 unfoldable pub taken : Asked → ℕ → Bool → ℕ → Asked
 taken a place option at =
-    cond (ltb place 7)
+    cond (ltb place 8)
     (record { flags = set (a .flags) place 1; file = a .file; out = a .out; wrong = a .wrong })
     (cond (option || not (eqb (a .out) 0))
     (record { flags = a .flags; file = a .file; out = a .out; wrong = at })
@@ -58,7 +59,7 @@ numbersOf flags =
       cookie = getD flags 2 0;
       comments = getD flags 3 0;
       instructions = getD flags 4 0;
-      fragment = 0;
+      fragment = getD flags 5 0;
       «value_length» = 0;
       «value_capacity» = 0;
       loose = 0;

@@ -190,6 +190,7 @@ before or after them, and say how the stream is written:
   --cookie          the stream begins with $EXI
   --comments        comments are kept
   --instructions    processing instructions are kept
+  --fragment        elements in any number stand in the place of one root
 
 Status 0: the stream is accepted, or written. 1: stream or CSV is refused, and standard
 error has number, name, event, reading or line, and reason. 2: nothing was read or

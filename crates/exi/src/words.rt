@@ -11,19 +11,20 @@ type Word = [u8; 16];
 // Which flags are given, by their places in the table; which words name the file and the file to
 // write, and which is the first that is not understood, 0 for none.
 pub struct Asked {
-    pub flags: [u32; 7],
+    pub flags: [u32; 8],
     pub file: usize,
     pub out: usize,
     pub wrong: usize,
 }
 
 // The flags, and then the commands.
-const WORDS: [Word; 11] = [
+const WORDS: [Word; 12] = [
     *b"--bit-packed\0\0\0\0",
     *b"--byte-aligned\0\0",
     *b"--cookie\0\0\0\0\0\0\0\0",
     *b"--comments\0\0\0\0\0\0",
     *b"--instructions\0\0",
+    *b"--fragment\0\0\0\0\0\0",
     *b"--help\0\0\0\0\0\0\0\0\0\0",
     *b"--ms\0\0\0\0\0\0\0\0\0\0\0\0",
     *b"show\0\0\0\0\0\0\0\0\0\0\0\0",
@@ -42,24 +43,26 @@ const COMMENTS: usize = 3;
 
 const INSTRUCTIONS: usize = 4;
 
-pub const HELP: usize = 5;
+const FRAGMENT: usize = 5;
 
-pub const MS: usize = 6;
+pub const HELP: usize = 6;
 
-pub const SHOW: usize = 7;
+pub const MS: usize = 7;
 
-pub const CHECK: usize = 8;
+pub const SHOW: usize = 8;
 
-pub const READINGS: usize = 9;
+pub const CHECK: usize = 9;
 
-pub const WRITE_READINGS: usize = 10;
+pub const READINGS: usize = 10;
 
-// The place of a word in the table, or 11.
+pub const WRITE_READINGS: usize = 11;
+
+// The place of a word in the table, or 12.
 fn place_of(word: Word) -> usize
     ensures { λ r. ⌜ r ≡ wordPlace word ⌝ }
 {
     let mut i = 0;
-    while i < 11 {
+    while i < 12 {
         if check::same(&word, &WORDS[i]) {
             return i;
         }
@@ -80,7 +83,7 @@ fn take(a: Asked, place: usize, option: bool, at: usize) -> Asked
     ensures { λ r. ⌜ r ≡ taken a place option at ⌝ }
 {
     let mut b = a;
-    if place < 7 {
+    if place < 8 {
         b.flags[place] = 1;
         return b;
     }
@@ -114,7 +117,7 @@ pub(crate) fn place_at(i: usize) -> usize {
 // What the words from the second on ask for, up to the first that is not understood.
 pub(crate) fn read_words(count: usize) -> Asked {
     let mut a = Asked {
-        flags: [0; 7],
+        flags: [0; 8],
         file: 0,
         out: 0,
         wrong: 0,
@@ -132,7 +135,7 @@ pub(crate) fn read_words(count: usize) -> Asked {
 }
 
 // The settings that the flags mean. What has no flag is at its base.
-pub(crate) fn numbers(flags: [u32; 7]) -> SettingNumbers
+pub(crate) fn numbers(flags: [u32; 8]) -> SettingNumbers
     ensures { λ r. ⌜ r ≡ numbersOf flags ⌝ }
 {
     SettingNumbers {
@@ -140,7 +143,7 @@ pub(crate) fn numbers(flags: [u32; 7]) -> SettingNumbers
         cookie: flags[COOKIE],
         comments: flags[COMMENTS],
         instructions: flags[INSTRUCTIONS],
-        fragment: 0,
+        fragment: flags[FRAGMENT],
         value_length: 0,
         value_capacity: 0,
         loose: 0,

@@ -12,7 +12,7 @@ use Rattle.spec_fields.specs.Field.{Alignment, choiceBits}
 use Rattle.spec_fields.proofs.Tests.{split}
 use Rattle.spec_exi.specs.Event.{Kind}
 use Rattle.spec_exi.specs.Grammar.{Production, unnamed, allEmpty, choices, atLevel, below, codeBits}
-use Rattle.event_code.specs.Numbers.{inTag, inElement}
+use Rattle.event_code.specs.Numbers.{inFragment, inTag, inElement}
 use Rattle.grammar_codes.specs.Table.{tables, tableOf, levelAt, noKinds, valuesOf, valuesAt}
 use Rattle.grammar_codes.specs.Table.{leveled, withLearned, codeAt, raisedBy, afterLearned}
 use Rattle.grammar_codes.specs.Table.{fixedBits}
@@ -119,13 +119,18 @@ module _ (a : Alignment) where
         go [] z = absurd (omega arith)
         go (l ∷ ls) z = one-part ps l ls v
 
--- In an element the table has levels.
-pub element-levels : (c i : Bool) {mode : ℕ} → inTag ≤ mode → mode ≤ inElement → 0 < length (tableOf c i mode)
+-- Where something is learned the table has levels.
+pub learning-levels : (c i : Bool) {mode : ℕ} → inFragment ≤ mode → mode ≤ inElement
+    → 0 < length (tableOf c i mode)
 unfolding tableOf tables
-element-levels c i {mode} l h =
+learning-levels c i {mode} l h =
     split (eqb mode inTag)
     (λ t. let z : mode ≡ inTag = eqb-true mode inTag t in rw z (omega arith))
-    (λ t. let z : mode ≡ inElement = omega (arith, eqb-false mode inTag t) in rw z (omega arith))
+    (λ t. split (eqb mode inElement)
+    (λ u. let z : mode ≡ inElement = eqb-true mode inElement u in rw z (omega arith))
+    (λ u.
+    let z : mode ≡ inFragment = omega (arith, eqb-false mode inTag t, eqb-false mode inElement u) in
+    rw z (omega arith)))
 
 -- A level that has a production is one of the table.
 pub level-there : (c i : Bool) (mode level : ℕ) {v : ℕ} → v < length (levelAt c i mode level)

@@ -14,7 +14,8 @@ use Rattle.text.proofs.Equal.{eqText-no}
 use Rattle.spec_exi.specs.Event.{Event, Kind, SD, CM, PI, kindOf}
 use Rattle.spec_exi.specs.Settings.{Settings}
 use Rattle.spec_exi.specs.Grammar.{Production, Code, unnamed, kindNumber, fitsName, fits, State}
-use Rattle.spec_exi.specs.Grammar.{document, docContent, docEnd, finished, startTag, elementContent}
+use Rattle.spec_exi.specs.Grammar.{document, docContent, docEnd, finished, fragmentContent}
+use Rattle.spec_exi.specs.Grammar.{startTag, elementContent}
 use Rattle.spec_exi.specs.Grammar.{Learned, siteOf, learnedAt, kept, levelsWith, levels, atLevel}
 use Rattle.spec_exi.specs.Grammar.{below, raised, firstFit, codeOr, codeOf, sameCode}
 use Rattle.event_code.specs.Numbers.{modeOf}
@@ -41,6 +42,7 @@ levels-table s ls document = refl
 levels-table s ls docContent = rw (kept-table (s .comments) (s .instructions))
 levels-table s ls docEnd = rw (kept-table (s .comments) (s .instructions))
 levels-table s ls finished = refl
+levels-table s ls fragmentContent = rw (kept-table (s .comments) (s .instructions))
 levels-table s ls (startTag q outer) =
     rw (kept-table (s .comments) (s .instructions), append-nil)
 levels-table s ls (elementContent q outer) = rw (kept-table (s .comments) (s .instructions))

@@ -10,8 +10,8 @@ use borrow.Author.Tests.{eqb-true, eqb-false, lt-ltb, le-ltb}
 use Rattle.spec_fields.proofs.Tests.{split}
 use Rattle.spec_exi.specs.Event.{Kind, SD, ED, SE, AT, EE, CH}
 use Rattle.spec_exi.specs.Grammar.{kindNumber}
-use Rattle.event_code.specs.Numbers.{inDocument, inDocContent, inDocEnd, inTag, inElement, numberSE, numberAT, numberEE}
-use Rattle.event_code.specs.Numbers.{numberCH}
+use Rattle.event_code.specs.Numbers.{inDocument, inDocContent, inDocEnd, inFragment, inTag, inElement}
+use Rattle.event_code.specs.Numbers.{numberED, numberSE, numberAT, numberEE, numberCH}
 use Rattle.grammar_codes.specs.Table.{keptKinds, tables, tableOf, levelAt, noKinds, valuesOf}
 use Rattle.grammar_codes.specs.Table.{leadsOn, fixedLevels, fixedKinds, Stands}
 use Rattle.grammar_codes.proofs.Table.{nth-is, one-kind, beyond, dropped, few-kinds}
@@ -72,7 +72,8 @@ module _ (c i : Bool) where
   fixed-first (suc (suc (suc zero))) = refl
   fixed-first (suc (suc (suc (suc zero)))) = refl
   fixed-first (suc (suc (suc (suc (suc zero))))) = refl
-  fixed-first (suc (suc (suc (suc (suc (suc mode)))))) = refl
+  fixed-first (suc (suc (suc (suc (suc (suc zero)))))) = refl
+  fixed-first (suc (suc (suc (suc (suc (suc (suc mode))))))) = refl
 
   -- Where one leads on, it is to those kept.
   pub fixed-next : (mode : ℕ) → noKinds (drop 1 (fixedLevels c i mode)) ≡ false
@@ -84,8 +85,9 @@ module _ (c i : Bool) where
   fixed-next (suc (suc (suc zero))) h = absurd (true≢false h)
   fixed-next (suc (suc (suc (suc zero)))) h = refl
   fixed-next (suc (suc (suc (suc (suc zero))))) h = refl
-  fixed-next (suc (suc (suc (suc (suc (suc m)))))) h =
-      let e = fixed-over (suc (suc (suc (suc (suc (suc m)))))) refl in
+  fixed-next (suc (suc (suc (suc (suc (suc zero)))))) h = refl
+  fixed-next (suc (suc (suc (suc (suc (suc (suc m))))))) h =
+      let e = fixed-over (suc (suc (suc (suc (suc (suc (suc m))))))) refl in
       absurd (true≢false (ap (λ ls. noKinds (drop 1 ls)) (sym e) ∙ h))
 
   -- ---- where the level leads on
@@ -98,24 +100,25 @@ module _ (c i : Bool) where
       (sym (kept-none c i z) ∙ ap noKinds (sym (fixed-next mode t)) ∙ t)))
 
   pub leads-over : (mode : ℕ) → (mode ≡ inDocContent → ⊥) → (mode ≡ inDocEnd → ⊥) → (mode ≡ inTag → ⊥)
-      → (mode ≡ inElement → ⊥) → 0 ≡ leadsOn (drop 1 (fixedLevels c i mode))
+      → (mode ≡ inElement → ⊥) → (mode ≡ inFragment → ⊥)
+      → 0 ≡ leadsOn (drop 1 (fixedLevels c i mode))
   unfolding fixedLevels tableOf tables noKinds
-  leads-over mode b d e f =
+  leads-over mode b d e f g =
       split (eqb mode inDocument)
       (λ t. let z : mode ≡ inDocument = eqb-true mode inDocument t in rw z)
       (λ t.
-      rw (fixed-over mode (beyond c i mode (eqb-false mode inDocument t) b d e f)))
+      rw (fixed-over mode (beyond c i mode (eqb-false mode inDocument t) b d e f g)))
 
 -- ---- their kinds
 
 pub fixed-none : (mode v : ℕ) → (mode ≡ inDocContent → ⊥) → (mode ≡ inDocEnd → ⊥) → (mode ≡ inTag → ⊥)
-    → (mode ≡ inElement → ⊥)
+    → (mode ≡ inElement → ⊥) → (mode ≡ inFragment → ⊥)
     → 0 ≡ kindNumber (getD (fixedKinds mode) v SD)
 unfolding fixedKinds fixedLevels tableOf tables kindNumber
-fixed-none mode v b d e f =
+fixed-none mode v b d e f g =
     split (eqb mode inDocument)
     (λ t. let z : mode ≡ inDocument = eqb-true mode inDocument t in rw z (nothing v))
-    (λ t. rw (fixed-over false false mode (beyond false false mode (eqb-false mode inDocument t) b d e f)))
+    (λ t. rw (fixed-over false false mode (beyond false false mode (eqb-false mode inDocument t) b d e f g)))
   where
     nothing : (n : ℕ) → 0 ≡ kindNumber (getD (SD ∷ []) n SD)
     nothing zero = refl
@@ -123,9 +126,9 @@ fixed-none mode v b d e f =
 
 pub no-fixed : (mode : ℕ) → (mode ≡ inDocument → ⊥) → (mode ≡ inDocContent → ⊥) → (mode ≡ inDocEnd → ⊥)
     → (mode ≡ inTag → ⊥)
-    → (mode ≡ inElement → ⊥) → 0 ≡ length (fixedKinds mode)
+    → (mode ≡ inElement → ⊥) → (mode ≡ inFragment → ⊥) → 0 ≡ length (fixedKinds mode)
 unfolding fixedKinds
-no-fixed mode a b d e f = rw (fixed-over false false mode (beyond false false mode a b d e f))
+no-fixed mode a b d e f g = rw (fixed-over false false mode (beyond false false mode a b d e f g))
 
 module _ (v : ℕ) where
   pub content-kind : getD (2 ∷ 0 ∷ 0 ∷ 0 ∷ []) v 0 ≡ kindNumber (getD (fixedKinds 1) v SD)
@@ -146,6 +149,12 @@ module _ (v : ℕ) where
   unfolding fixedKinds fixedLevels tableOf tables kindNumber
   element-kind =
       nth-is (λ n. kindNumber (getD (SE ∷ CH ∷ []) n SD)) refl refl refl refl (λ n. refl) v
+
+  pub fragment-kind : getD (numberSE ∷ numberED ∷ 0 ∷ 0 ∷ []) v 0
+      ≡ kindNumber (getD (fixedKinds inFragment) v SD)
+  unfolding fixedKinds fixedLevels tableOf tables kindNumber
+  fragment-kind =
+      nth-is (λ n. kindNumber (getD (SE ∷ ED ∷ []) n SD)) refl refl refl refl (λ n. refl) v
 
 pub fixed-few : (mode : ℕ) → length (fixedKinds mode) ≤ 4
 unfolding fixedKinds fixedLevels levelAt

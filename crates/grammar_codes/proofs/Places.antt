@@ -13,8 +13,9 @@ use Rattle.text.specs.Text.{Text}
 use Rattle.spec_exi.specs.Event.{Event, Kind, SD, kindOf}
 use Rattle.spec_exi.specs.Grammar.{Production, unnamed, kindNumber, fitsName, fits, atLevel}
 use Rattle.spec_exi.specs.Grammar.{below, firstFit, codeOr, codeOf}
-use Rattle.event_code.specs.Numbers.{inDocument, inDocContent, inDocEnd, inTag, inElement, numberSD, numberSE, numberAT}
-use Rattle.event_code.specs.Numbers.{numberEE, numberCH, numberCM, numberPI}
+use Rattle.event_code.specs.Numbers.{inDocument, inDocContent, inDocEnd, inFragment, inTag, inElement}
+use Rattle.event_code.specs.Numbers.{numberSD, numberED, numberSE, numberAT, numberEE, numberCH}
+use Rattle.event_code.specs.Numbers.{numberCM, numberPI}
 use Rattle.grammar_codes.specs.declared.Place.{Place}
 use Rattle.grammar_codes.specs.Table.{keptKinds, tables, tableOf, levelAt, numberIn, inLevel, maxLevels}
 use Rattle.grammar_codes.specs.Table.{placeIn, placeAs, keptPlace, leveled, withLearned}
@@ -261,6 +262,14 @@ module _ (c i : Bool) (kind : ℕ) where
         ne-eqb numberCH kind (λ y. e (sym y)),
       )
 
+  pub fragment-other : (kind ≡ numberSE → ⊥) → (kind ≡ numberED → ⊥) → {r : Place}
+      → r ≡ keptPlace 1 (numberIn (keptKinds c i) kind)
+      → r ≡ placeAs (placeIn (tableOf c i inFragment) kind)
+  unfolding tableOf tables placeIn numberIn kindNumber
+  fragment-other a d z =
+      z ∙ below-one (numberIn (keptKinds c i) kind)
+      ∙ rw (ne-eqb numberSE kind (λ y. a (sym y)), ne-eqb numberED kind (λ y. d (sym y)))
+
   module _ (k : Kind) {first : ℕ} (f : kindNumber k ≡ first) where
     pub outer-first : kind ≡ first
         → record { level = 0; value = 0 } ≡ placeAs (placeIn ((k ∷ []) ∷ keptKinds c i ∷ []) kind)
@@ -281,9 +290,10 @@ module _ (c i : Bool) (kind : ℕ) where
 
   pub over-place : {mode : ℕ} → (mode ≡ inDocument → ⊥) → (mode ≡ inDocContent → ⊥) → (mode ≡ inDocEnd → ⊥)
       → (mode ≡ inTag → ⊥)
-      → (mode ≡ inElement → ⊥) → placeAs none ≡ placeAs (placeIn (tableOf c i mode) kind)
+      → (mode ≡ inElement → ⊥) → (mode ≡ inFragment → ⊥)
+      → placeAs none ≡ placeAs (placeIn (tableOf c i mode) kind)
   unfolding placeIn
-  over-place {mode} a b d e f = rw (beyond c i mode a b d e f)
+  over-place {mode} a b d e f g = rw (beyond c i mode a b d e f g)
 
 -- ---- in an element
 
@@ -309,6 +319,11 @@ module _ (c i : Bool) where
   content-has (suc (suc (suc (suc zero)))) a b n e = Option·none-ne-some _ (sym e)
   content-has (suc (suc (suc (suc (suc zero))))) a b n e = Option·none-ne-some _ (sym e)
   content-has (suc (suc (suc (suc (suc (suc k)))))) a b n e = omega arith
+
+  -- SE has one in a fragment's content, too.
+  pub fragment-has : placeIn (tableOf c i inFragment) numberSE ≡ none → ⊥
+  unfolding tableOf tables placeIn numberIn inLevel kindNumber
+  fragment-has e = Option·none-ne-some _ (sym e)
 
   pub element-has : {mode : ℕ} → inTag ≤ mode → mode ≤ inElement → (k : ℕ) → numberSE ≤ k → k ≤ numberCH
       → (k ≡ numberAT → mode ≡ inTag) → placeIn (tableOf c i mode) k ≡ none → ⊥

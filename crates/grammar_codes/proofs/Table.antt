@@ -10,7 +10,8 @@ use borrow.Author.Tests.{eqb-true, eq-eqb, ne-eqb, ltb-true, leb-true, le-ltb, l
 use Rattle.spec_fields.proofs.Tests.{split, T-is, is-T, left, right}
 use Rattle.spec_exi.specs.Event.{Kind, SD, ED, SE, AT, EE, CH, CM, PI}
 use Rattle.spec_exi.specs.Grammar.{kindNumber}
-use Rattle.event_code.specs.Numbers.{inDocument, inDocContent, inDocEnd, inTag, inElement, numberSE, numberEE, numberCH}
+use Rattle.event_code.specs.Numbers.{inDocument, inDocContent, inDocEnd, inFragment, inTag, inElement}
+use Rattle.event_code.specs.Numbers.{numberSE, numberEE, numberCH}
 use Rattle.event_code.specs.Numbers.{numberCM, numberPI, kinds}
 use Rattle.grammar_codes.specs.Table.{keptKinds, tables, tableOf, levelAt, noKinds, valuesAt, maxLevels}
 use Rattle.grammar_codes.specs.Table.{CountAt, Stands}
@@ -237,15 +238,16 @@ one-kind v k = nth-is (λ n. kindNumber (getD (k ∷ []) n SD)) refl refl refl r
 
 -- The states that have no production.
 pub beyond : (c i : Bool) (mode : ℕ) → (mode ≡ inDocument → ⊥) → (mode ≡ inDocContent → ⊥) → (mode ≡ inDocEnd → ⊥)
-    → (mode ≡ inTag → ⊥) → (mode ≡ inElement → ⊥) → tableOf c i mode ≡ []
+    → (mode ≡ inTag → ⊥) → (mode ≡ inElement → ⊥) → (mode ≡ inFragment → ⊥) → tableOf c i mode ≡ []
 unfolding tableOf tables
-beyond c i zero a b d e f = absurd (a refl)
-beyond c i (suc zero) a b d e f = absurd (b refl)
-beyond c i (suc (suc zero)) a b d e f = absurd (d refl)
-beyond c i (suc (suc (suc zero))) a b d e f = refl
-beyond c i (suc (suc (suc (suc zero)))) a b d e f = absurd (e refl)
-beyond c i (suc (suc (suc (suc (suc zero))))) a b d e f = absurd (f refl)
-beyond c i (suc (suc (suc (suc (suc (suc mode)))))) a b d e f = refl
+beyond c i zero a b d e f g = absurd (a refl)
+beyond c i (suc zero) a b d e f g = absurd (b refl)
+beyond c i (suc (suc zero)) a b d e f g = absurd (d refl)
+beyond c i (suc (suc (suc zero))) a b d e f g = refl
+beyond c i (suc (suc (suc (suc zero)))) a b d e f g = absurd (g refl)
+beyond c i (suc (suc (suc (suc (suc zero))))) a b d e f g = absurd (e refl)
+beyond c i (suc (suc (suc (suc (suc (suc zero)))))) a b d e f g = absurd (f refl)
+beyond c i (suc (suc (suc (suc (suc (suc (suc mode))))))) a b d e f g = refl
 
 module _ (c i : Bool) where
   pub count-is : {mode level r : ℕ} → r ≡ length (levelAt c i mode level) → CountAt c i mode level r
@@ -280,11 +282,17 @@ module _ (c i : Bool) where
     element-count k =
         nth-is (λ n. length (levelAt c i inElement n)) refl refl k refl (λ n. refl) level
 
-    pub no-count : {mode : ℕ} → (mode ≡ inDocument → ⊥) → (mode ≡ inDocContent → ⊥) → (mode ≡ inDocEnd → ⊥)
-        → (mode ≡ inTag → ⊥)
-        → (mode ≡ inElement → ⊥) → 0 ≡ length (levelAt c i mode level)
+    pub fragment-count : {kept : ℕ} → kept ≡ length (keptKinds c i)
+        → getD (2 ∷ kept ∷ 0 ∷ 0 ∷ []) level 0 ≡ length (levelAt c i inFragment level)
+    unfolding levelAt tableOf tables
+    fragment-count k =
+        nth-is (λ n. length (levelAt c i inFragment n)) refl k refl refl (λ n. refl) level
+
+    pub no-count : {mode : ℕ} → (mode ≡ inDocument → ⊥) → (mode ≡ inDocContent → ⊥)
+        → (mode ≡ inDocEnd → ⊥) → (mode ≡ inTag → ⊥) → (mode ≡ inElement → ⊥)
+        → (mode ≡ inFragment → ⊥) → 0 ≡ length (levelAt c i mode level)
     unfolding levelAt
-    no-count {mode} a b d e f = rw (beyond c i mode a b d e f)
+    no-count {mode} a b d e f g = rw (beyond c i mode a b d e f g)
 
 -- The kept kinds.
 module _ (v : ℕ) where

@@ -1,8 +1,8 @@
--- What a code of the table teaches in an element, by the state and the kind.
+-- What a code of the table teaches, by the state and the kind.
 use Prim.Native.Nat.{ℕ, suc, _≤_}
 use native.Mathlib.Omega.{arith}
 use mathlib.Core.Path.{_≡_, refl, sym, subst, _∙_}
-use mathlib.Core.Bool.{Bool, true, false, cond, _&&_, not}
+use mathlib.Core.Bool.{Bool, true, false, cond, _&&_, not, true≢false}
 use mathlib.Core.List.{List, [], _∷_}
 use lib.ListN.{length, getD}
 use lib.Dec.{T, eqb}
@@ -11,19 +11,20 @@ use Rattle.spec_fields.proofs.Tests.{split, T-is, is-T, left, right}
 use Rattle.spec_exi.specs.Event.{Kind, SD, ED, SE, AT, EE, CH, CM, PI}
 use Rattle.spec_exi.specs.Grammar.{Production, Code, unnamed, kindNumber, isWildcard, atLevel, below}
 use Rattle.spec_exi.specs.Grammar.{hasKind, teaches}
-use Rattle.event_code.specs.Numbers.{teachesIn, inTag, inElement, numberAT, numberEE, numberCH}
+use Rattle.event_code.specs.Numbers.{teachesIn, inFragment, inTag, inElement, numberAT, numberEE}
+use Rattle.event_code.specs.Numbers.{numberCH}
 use Rattle.grammar_codes.specs.Table.{keptKinds, tables, tableOf, Reaches, at-level, in-next}
 use Rattle.grammar_codes.specs.Table.{FixedCode, raisedBy, afterLearned}
 use Rattle.grammar_codes.proofs.Table.{every, every-at}
 
 -- ---- one test of the table
 
--- Where AT stands, and how many parts the codes of EE and CH have.
+-- Where AT and CH stand, and how many parts the codes of EE and CH have.
 unfoldable partsTest : ℕ → ℕ → ℕ → Bool
 partsTest mode parts kind =
     cond (eqb kind numberAT) (eqb mode inTag)
     (cond (eqb kind numberEE) (cond (eqb mode inTag) (eqb parts 2) (not (eqb parts 2)))
-    (cond (eqb kind numberCH) (eqb parts 2) true))
+    (cond (eqb kind numberCH) (not (eqb mode inFragment) && eqb parts 2) true))
 
 unfoldable levelsTest : (ℕ → Kind → Bool) → List (List Kind) → Bool
 levelsTest p [] = true
@@ -45,6 +46,13 @@ element-tested true true = refl
 element-tested true false = refl
 element-tested false true = refl
 element-tested false false = refl
+
+fragment-tested : (c i : Bool) → levelsTest (tested inFragment) (tableOf c i inFragment) ≡ true
+unfolding levelsTest partsTest every tableOf tables keptKinds kindNumber
+fragment-tested true true = refl
+fragment-tested true false = refl
+fragment-tested false true = refl
+fragment-tested false false = refl
 
 reached-test : (p : ℕ → Kind → Bool) {t : List (List Kind)} {x : Code} → Reaches t x
     → T (levelsTest p t) → T (p (length (x .parts)) (x .production .kind))
@@ -97,7 +105,20 @@ module _ (n : ℕ) (ls : List Production) (x : Code) (wild : isWildcard (x .prod
     element-teaches CM t new = refl
     element-teaches PI t new = refl
 
-module _ (c i : Bool) {mode : ℕ} (l : inTag ≤ mode) (h : mode ≤ inElement) {x : Code} (k : Kind)
+    -- In a fragment's content.
+    fragment-teaches : (k : Kind) → partsTest inFragment (length (x .parts)) (kindNumber k) ≡ true
+        → teaches ls (afterLearned n x) k ≡ teachesIn inFragment (kindNumber k)
+    unfolding teaches teachesIn partsTest afterLearned kindNumber
+    fragment-teaches SD t = refl
+    fragment-teaches ED t = refl
+    fragment-teaches SE t = wild
+    fragment-teaches AT t = wild ∙ sym t
+    fragment-teaches EE t = rw (raised-length n (x .parts), not-true (eqb (length (x .parts)) 2) t)
+    fragment-teaches CH t = absurd (true≢false (sym t))
+    fragment-teaches CM t = refl
+    fragment-teaches PI t = refl
+
+module _ (c i : Bool) {mode : ℕ} (l : inFragment ≤ mode) (h : mode ≤ inElement) {x : Code} (k : Kind)
     (f : FixedCode (tableOf c i mode) (kindNumber k) x) where
   wild : isWildcard (x .production .qname) ≡ true
   unfolding isWildcard unnamed
@@ -118,6 +139,10 @@ module _ (c i : Bool) {mode : ℕ} (l : inTag ≤ mode) (h : mode ≤ inElement)
       (λ t.
       let z : mode ≡ inTag = eqb-true mode inTag t in
       rw z (tag-teaches n ls x wild k (parts-test inTag z (tag-tested c i)) new))
-      (λ t.
-      let z : mode ≡ inElement = omega (arith, eqb-false mode inTag t) in
+      (λ t. split (eqb mode inElement)
+      (λ u.
+      let z : mode ≡ inElement = eqb-true mode inElement u in
       rw z (element-teaches n ls x wild k (parts-test inElement z (element-tested c i)) new))
+      (λ u.
+      let z : mode ≡ inFragment = omega (arith, eqb-false mode inTag t, eqb-false mode inElement u) in
+      rw z (fragment-teaches n ls x wild k (parts-test inFragment z (fragment-tested c i)))))

@@ -1,5 +1,5 @@
--- The productions of each state that are not learned, level by level of their event codes (EXI
--- 8.4.1, 8.4.3; scope, "Grammars": the table of codes).
+-- The productions of each state that are not learned, level by level of their event codes (EXI 8.4;
+-- scope, "Grammars": the table of codes; P1).
 --
 -- States and kinds are numbers (crates/event_code/specs/Numbers.antt). Levels: 0 the first part of
 -- a code, 1 the second, 2 the third.
@@ -27,7 +27,8 @@ maxLevels = 3
 unfoldable pub keptKinds : Bool → Bool → List Kind
 keptKinds comments instructions = cond comments (CM ∷ []) [] ++ cond instructions (PI ∷ []) []
 
--- By the state's number. In an element the learned productions stand before the first level's.
+-- By the state's number. In an element and a fragment's content the learned productions stand before
+-- the first level's.
 unfoldable pub tables : Bool → Bool → List (List (List Kind))
 tables comments instructions =
     let kept = keptKinds comments instructions in
@@ -35,6 +36,7 @@ tables comments instructions =
     ∷ ((SE ∷ []) ∷ kept ∷ [])
     ∷ ((ED ∷ []) ∷ kept ∷ [])
     ∷ []
+    ∷ ((SE ∷ ED ∷ []) ∷ kept ∷ [])
     ∷ ([] ∷ (EE ∷ AT ∷ SE ∷ CH ∷ []) ∷ kept ∷ [])
     ∷ ((EE ∷ []) ∷ (SE ∷ CH ∷ []) ∷ kept ∷ [])
     ∷ []

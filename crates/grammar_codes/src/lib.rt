@@ -1,4 +1,4 @@
-// The productions of each state that are not learned (EXI 8.4.1, 8.4.3), level by level of their
+// The productions of each state that are not learned (EXI 8.4), level by level of their
 // event codes, in one table. States and kinds are numbers; comments and
 // instructions stand where they are kept. The table is in specs/Table.antt.
 ghost use mathlib.Core.Path.{_≡_};
@@ -8,7 +8,7 @@ ghost use mathlib.Core.Option.{none};
 ghost use lib.ListN.{length, getD, drop};
 ghost use Rattle.spec_exi.specs.Event.{Kind, SD};
 ghost use Rattle.spec_exi.specs.Grammar.{kindNumber};
-ghost use Rattle.event_code.specs.Numbers.{inTag, inElement};
+ghost use Rattle.event_code.specs.Numbers.{inFragment, inTag, inElement};
 ghost use Rattle.grammar_codes.specs.Table.{maxLevels, keptKinds, CountAt, valuesAt, PlaceAt};
 ghost use Rattle.grammar_codes.specs.Table.{leadsOn, fixedLevels, fixedKinds};
 ghost use Rattle.grammar_codes.specs.Table.{tableOf, numberIn, keptPlace, placeIn, placeAs};
@@ -21,6 +21,7 @@ use event_code::IN_DOC_CONTENT;
 use event_code::IN_DOC_END;
 use event_code::IN_DOCUMENT;
 use event_code::IN_ELEMENT;
+use event_code::IN_FRAGMENT;
 use event_code::IN_TAG;
 use event_code::PI;
 use event_code::SD;
@@ -91,6 +92,7 @@ pub fn count_at(mode: u32, level: u32, comments: bool, instructions: bool) -> u3
         IN_DOC_END => nth(level, 1, kept, 0, 0),
         IN_TAG => nth(level, 0, 4, kept, 0),
         IN_ELEMENT => nth(level, 1, 2, kept, 0),
+        IN_FRAGMENT => nth(level, 2, kept, 0, 0),
         _ => 0,
     }
 }
@@ -105,6 +107,7 @@ pub fn fixed_count(mode: u32) -> u32
         IN_DOC_END => 1,
         IN_TAG => 4,
         IN_ELEMENT => 2,
+        IN_FRAGMENT => 2,
         _ => 0,
     }
 }
@@ -118,6 +121,7 @@ pub fn fixed_kind(mode: u32, v: u32) -> u32
         IN_DOC_END => nth(v, ED, 0, 0, 0),
         IN_TAG => nth(v, EE, AT, SE, CH),
         IN_ELEMENT => nth(v, SE, CH, 0, 0),
+        IN_FRAGMENT => nth(v, SE, ED, 0, 0),
         _ => SD,
     }
 }
@@ -134,6 +138,7 @@ pub fn leads_on(mode: u32, comments: bool, instructions: bool) -> u32
         IN_DOC_END => 1,
         IN_TAG => 1,
         IN_ELEMENT => 1,
+        IN_FRAGMENT => 1,
         _ => 0,
     }
 }
@@ -214,6 +219,16 @@ fn element_place(kind: u32, comments: bool, instructions: bool) -> Place
     }
 }
 
+fn fragment_place(kind: u32, comments: bool, instructions: bool) -> Place
+    ensures { λ r. ⌜ r ≡ placeAs (placeIn (tableOf comments instructions inFragment) kind) ⌝ }
+{
+    match kind {
+        SE => Place { level: 0, value: 0 },
+        ED => Place { level: 0, value: 1 },
+        _ => kept_place(kind, 1, comments, instructions),
+    }
+}
+
 // Outside the root element: one kind stands in the first level.
 fn outer_place(first: u32, kind: u32, comments: bool, instructions: bool) -> Place
     ensures { λ r. ⌜
@@ -241,6 +256,7 @@ pub fn place_of(mode: u32, kind: u32, comments: bool, instructions: bool) -> Pla
         IN_DOC_END => outer_place(ED, kind, comments, instructions),
         IN_TAG => tag_place(kind, comments, instructions),
         IN_ELEMENT => element_place(kind, comments, instructions),
+        IN_FRAGMENT => fragment_place(kind, comments, instructions),
         _ => nowhere(),
     }
 }

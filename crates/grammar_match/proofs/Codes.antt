@@ -21,15 +21,16 @@ use Rattle.spec_exi.specs.Grammar.{Production, Code, kindNumber, isWildcard, at
 use Rattle.spec_exi.specs.Grammar.{codeOf, sameCode, codeBits, hasKind, teaches, taught}
 use Rattle.spec_exi.specs.Context.{levelsIn}
 use Rattle.spec_exi.proofs.Codes.{code-same}
-use Rattle.event_code.specs.Numbers.{teachesIn, inTag, numberEE, numberCH}
+use Rattle.event_code.specs.Numbers.{teachesIn, inFragment, inTag, numberSE, numberEE}
+use Rattle.event_code.specs.Numbers.{numberCH}
 use Rattle.grammar_codes.specs.declared.Place.{Place}
 use Rattle.grammar_codes.specs.Table.{tableOf, valuesAt, placeIn, withLearned, FixedCode, codeAt, maxLevels}
 use Rattle.grammar_codes.specs.Table.{afterLearned, fixedBits, PlaceAt}
 use Rattle.grammar_codes.proofs.Table.{kinds-once}
 use Rattle.grammar_codes.proofs.Codes.{fixed-code, fixed-loose}
 use Rattle.grammar_codes.proofs.Codes as codes
-use Rattle.grammar_codes.proofs.Places.{place-none, no-place, has-place, element-has}
-use Rattle.grammar_codes.proofs.Bits.{code-bits, element-levels}
+use Rattle.grammar_codes.proofs.Places.{place-none, no-place, has-place, element-has, fragment-has}
+use Rattle.grammar_codes.proofs.Bits.{code-bits, learning-levels}
 use Rattle.grammar_codes.proofs.Bits as bits
 use Rattle.grammar_codes.proofs.Teaches.{fixed-teaches}
 use Rattle.mem_index.specs.Index.{tally}
@@ -40,8 +41,8 @@ use Rattle.mem_state.specs.Holds.{taughtIn}
 use Rattle.grammar_match.specs.Here.{siteIn, CountedHere, CodeRows, learnedHere, codeHere}
 use Rattle.grammar_match.specs.Codes.{Strict, Unlearned}
 use Rattle.grammar_match.specs.Found.{FitsAt, PartHere}
-use Rattle.grammar_match.proofs.Here.{site-half, levels-here, outer-here, inner-here}
-use Rattle.grammar_match.proofs.Here.{top-row, table-empty}
+use Rattle.grammar_match.proofs.Here.{outer-site, levels-here, outer-here, inner-here}
+use Rattle.grammar_match.proofs.Here.{site-fits, table-empty}
 use Rattle.grammar_match.proofs.Unfit.{number-kind, kind-none, outer-none}
 use Rattle.grammar_match.proofs.Rows.{here-count, kind-unlearned}
 
@@ -76,7 +77,9 @@ odd-tag : (mode top : ℕ) → siteIn mode top % 2 ≡ 1 → mode ≡ inTag
 odd-tag mode top h =
     split (eqb mode inTag)
     (λ t. eqb-true mode inTag t)
-    (λ t. absurd (let z = rw t at h in omega (arith, z)))
+    (λ t. absurd (split (ltb mode inTag)
+    (λ u. let z = rw u at h in omega (arith, z))
+    (λ u. let z = rw (u, t) at h in omega (arith, z))))
 
 module _ {work : List ℕ} {learned mode top : ℕ} {w : Rows} {opened : List ℕ} (valid : Valid w)
     (h : CodeRows work learned mode top w opened) where
@@ -87,22 +90,22 @@ module _ {work : List ℕ} {learned mode top : ℕ} {w : Rows} {opened : List �
   pub count-is : {count : ℕ} → CountedHere work mode top count
       → count ≡ length (learnedHere w mode opened)
   count-is counted =
-      split (ltb mode inTag)
+      split (ltb mode inFragment)
       (λ t.
-      let l = ltb-true mode inTag t in
+      let l = ltb-true mode inFragment t in
       counted .outside l ∙ ap length (sym (outer-here h l)))
       (λ t.
-      let l = ltb-false mode inTag t in
+      let l = ltb-false mode inFragment t in
       counted .counted l .count learned (taughtIn w) (h .hold)
       ∙ ap (tally _) (sym (h .hold .count))
-      ∙ sym (here-count valid (siteIn mode top) (omega (arith, site-half mode top, top-row h l)))
+      ∙ sym (here-count valid (siteIn mode top) (site-fits h l))
       ∙ ap length (sym (inner-here h l)))
 
-  unlearned : inTag ≤ mode → (e : Event Text) → firstFit here e ≡ none → nameOf e ≡ none
+  unlearned : inFragment ≤ mode → (e : Event Text) → firstFit here e ≡ none → nameOf e ≡ none
       → hasKind (kindOf e) here ≡ false
   unlearned l e miss n =
       rw (inner-here h l)
-      (kind-unlearned valid (siteIn mode top) (omega (arith, site-half mode top, top-row h l)) e n
+      (kind-unlearned valid (siteIn mode top) (site-fits h l) e n
       (rw (inner-here h l) at miss))
 
   module _ (s : Settings) (store : Text) where
@@ -177,7 +180,7 @@ module _ {work : List ℕ} {learned mode top : ℕ} {w : Rows} {opened : List �
         × (r < count)
     found-strict {g = g} {e = e} f {count = count} z counted part =
         let (is, low) = part .means w learned g (h .hold) z (f .inside)
-        (subst (λ k. CountedAt work k count) (sym (f .site)) (counted .counted (f .element))) in (
+        (subst (λ k. CountedAt work k count) (sym (f .site)) (counted .counted (f .learns))) in (
           learned-strict (learntAt (w .learned) g) e
               (f .first ∙ ap (λ n. some (n, productionOf w (learntAt (w .learned) g))) (sym is))
               (ap kindAt (f .kind) ∙ number-kind (kindOf e)),
@@ -190,13 +193,23 @@ module _ {work : List ℕ} {learned mode top : ℕ} {w : Rows} {opened : List �
         (e : Event Text) (k : kindNumber (kindOf e) ≡ kind) where
       unplaced : placeIn t kind ≡ none → firstFit here e ≡ none
       unplaced z =
-          split (ltb mode inTag)
-          (λ a. outer-none valid h e (ltb-true mode inTag a))
+          split (ltb mode inFragment)
+          (λ a. outer-none valid h e (ltb-true mode inFragment a))
           (λ a.
-          let l = ltb-false mode inTag a in
-          kind-none valid h e l
-          (λ j b d tag y. element-has (s .comments) (s .instructions) l (h .fits .known) j b d
-          (λ o. odd-tag mode top (tag o)) (ap (placeIn t) (sym (sym k ∙ y)) ∙ z)))
+          let l = ltb-false mode inFragment a in
+          kind-none valid h e l (λ j b d tag alone y.
+          let gone : placeIn t j ≡ none = ap (placeIn t) (sym (sym k ∙ y)) ∙ z in
+          split (ltb mode inTag)
+          (λ u.
+          let m = ltb-true mode inTag u in
+          let f : mode ≡ inFragment = omega arith in
+          let only : j ≡ numberSE = alone (sym (outer-site top m)) in
+          fragment-has (s .comments) (s .instructions)
+          (ap (λ n. placeIn (tableOf (s .comments) (s .instructions) n) numberSE) (sym f)
+          ∙ ap (placeIn t) (sym only) ∙ gone))
+          (λ u.
+          element-has (s .comments) (s .instructions) (ltb-false mode inTag u) (h .fits .known) j b d
+          (λ o. odd-tag mode top (tag o)) gone)))
 
       -- The state has no such production: SHAPE.
       pub no-code : p .level ≡ maxLevels → codeHere s w store mode opened e ≡ none
@@ -226,10 +239,10 @@ module _ {work : List ℕ} {learned mode top : ℕ} {w : Rows} {opened : List �
       table-bits level v l = rw (levels-here h s store) (code-bits a here t level v l)
 
       -- Of a learned one.
-      pub learned-bits : inTag ≤ mode → (v : ℕ)
+      pub learned-bits : inFragment ≤ mode → (v : ℕ)
           → codeBits a (levelsIn s (contextOf w store mode opened)) (v ∷ [])
           ≡ choiceBits a (length here + valuesAt (s .comments) (s .instructions) mode 0) v
       learned-bits l v =
           rw (levels-here h s store)
           (bits.learned-bits a (s .comments) (s .instructions) mode
-          (element-levels (s .comments) (s .instructions) l (h .fits .known)) here v)
+          (learning-levels (s .comments) (s .instructions) l (h .fits .known)) here v)

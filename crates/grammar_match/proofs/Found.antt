@@ -25,17 +25,17 @@ use Rattle.mem_learned.specs.declared.Production as cell
 use Rattle.mem_learned.specs.Learned as cells
 use Rattle.mem_learned.proofs.Newest.{fitAt}
 use Rattle.mem_rows.specs.Rows.{Learnt, Rows, nameAt, kindAt, siteAt, learnedOf}
-use Rattle.mem_rows.specs.Valid.{learntAt, LearntFits, Valid}
-use Rattle.mem_rows.proofs.Kept.{name-kept}
+use Rattle.mem_rows.specs.Valid.{learntAt, SiteFits, LearntFits, Valid}
+use Rattle.mem_rows.proofs.Kept.{name-kept, site-kept}
 use Rattle.mem_state.specs.Holds.{taughtOf, taughtIn, Ahead}
 use Rattle.mem_state.proofs.Taught.{placeOf, is-named, taught-count, taught-row, ahead-kept}
 use Rattle.mem_state.proofs.Taught.{learned-ahead, taught-ahead}
 use Rattle.mem_state.proofs.Taught as taught
-use Rattle.event_code.specs.Numbers.{inTag, numberSE, numberCH}
+use Rattle.event_code.specs.Numbers.{inFragment, numberSE, numberCH}
 use Rattle.grammar_match.specs.Here.{siteIn, learnedHere, CodeRows}
 use Rattle.grammar_match.specs.Found.{FindPre, foundHere, NamedBy, newerIn, FitsAt, Finds}
 use Rattle.grammar_match.specs.Found.{FoundHere, PartPre, PartHere}
-use Rattle.grammar_match.proofs.Here.{site-half, site-low, inner-here, top-row}
+use Rattle.grammar_match.proofs.Here.{site-fits, site-low, inner-here}
 use Rattle.grammar_match.proofs.Unfit.{kind-number, kind-none, outer-none}
 use Rattle.grammar_match.proofs.Rows.{fit-found, production-is}
 
@@ -61,18 +61,18 @@ none-fits : {w : Rows} {mode top name : ℕ} {opened : List ℕ} {e : Event Text
 none-fits z = record { miss = λ _. z; hit = λ g y. absurd (omega arith) }
 
 module _ {work : List ℕ} {mode : ℕ} (top kind name learned : ℕ) where
-  pub found-outside : mode < inTag → FoundHere work mode top kind name learned 0
+  pub found-outside : mode < inFragment → FoundHere work mode top kind name learned 0
   unfolding foundHere firstFit
   found-outside l =
       record {
-        is = rw (lt-ltb mode inTag l);
+        is = rw (lt-ltb mode inFragment l);
         within = omega arith;
         means = λ w v opened e valid ahead-valid ahead rows k n.
             none-fits (outer-none valid rows e l);
         fresh = λ w h m a b z. absurd (omega arith);
       }
 
-  other-post : inTag ≤ mode → ((k : ℕ) → 2 ≤ k → k ≤ 5 → kind ≡ k → ⊥)
+  other-post : inFragment ≤ mode → ((k : ℕ) → 2 ≤ k → k ≤ 5 → kind ≡ k → ⊥)
       → 0 ≡ foundHere work mode top kind name learned
       → FoundHere work mode top kind name learned 0
   other-post l other is =
@@ -80,20 +80,20 @@ module _ {work : List ℕ} {mode : ℕ} (top kind name learned : ℕ) where
         is = is;
         within = omega arith;
         means = λ w v opened e valid ahead-valid ahead rows k n.
-            none-fits (kind-none valid rows e l (λ j a b _ z. other j a b (sym k ∙ z)));
+            none-fits (kind-none valid rows e l (λ j a b _ _ z. other j a b (sym k ∙ z)));
         fresh = λ w h m a b z. absurd (other kind a b refl);
       }
 
-  pub found-low : inTag ≤ mode → kind < numberSE → FoundHere work mode top kind name learned 0
+  pub found-low : inFragment ≤ mode → kind < numberSE → FoundHere work mode top kind name learned 0
   unfolding foundHere
   found-low l h =
-      other-post l (λ k a b z. omega arith) (rw (le-ltb mode inTag l, lt-ltb kind numberSE h))
+      other-post l (λ k a b z. omega arith) (rw (le-ltb mode inFragment l, lt-ltb kind numberSE h))
 
-  pub found-high : inTag ≤ mode → numberSE ≤ kind → numberCH < kind → FoundHere work mode top kind name learned 0
+  pub found-high : inFragment ≤ mode → numberSE ≤ kind → numberCH < kind → FoundHere work mode top kind name learned 0
   unfolding foundHere
   found-high l a h =
       other-post l (λ k a b z. omega arith)
-      (rw (le-ltb mode inTag l, le-ltb kind numberSE a, lt-ltb numberCH kind h))
+      (rw (le-ltb mode inFragment l, le-ltb kind numberSE a, lt-ltb numberCH kind h))
 
 -- ---- what is found
 
@@ -102,13 +102,12 @@ unfolding fitAt
 fit-none p t n r z = rw z
 
 module _ {w v : Rows} (valid : Valid w) (vv : Valid v) (ahead : Ahead w v) (site : ℕ)
-    (there : site / 2 < length (w .names)) (e : Event Text) (name : ℕ) (n : NamedBy v e name) where
+    (there : SiteFits (length (w .names)) site) (e : Event Text) (name : ℕ) (n : NamedBy v e name) where
   -- What is learned at the site is the same, with the strings ahead.
   same-here : learnedIn (siteAt v site) (learnedOf v) ≡ learnedIn (siteAt w site) (learnedOf w)
-  unfolding siteAt
   same-here =
       rw (
-        name-kept (ahead-kept ahead (valid .refers)) (site / 2) there,
+        site-kept (ahead-kept ahead (valid .refers)) site there,
         learned-ahead ahead (valid .refers),
       )
 
@@ -130,7 +129,7 @@ module _ {w v : Rows} (valid : Valid w) (vv : Valid v) (ahead : Ahead w v) (site
       let hold′ = subst (LearnedHold work learned) (sym (taught-ahead ahead (valid .refers))) hold
       in
       ap (λ l. firstFit l e) (sym same-here)
-      ∙ fit-found vv site (omega (arith, ahead .fewerNames)) e name meant r
+      ∙ fit-found vv site (λ o. omega (arith, ahead .fewerNames, there o)) e name meant r
       (f .means (taughtIn v) hold′
       ∙ ap (lastThat (isRow (taughtIn v) site (kindNumber (kindOf e)) name)) (sym (hold′ .count)))
 
@@ -150,7 +149,7 @@ row-there w i b site kind name h e =
     )
 
 -- Where a row has this kind and name, it is the first that fits.
-module _ {work : List ℕ} {mode top kind name learned r : ℕ} (l : inTag ≤ mode)
+module _ {work : List ℕ} {mode top kind name learned r : ℕ} (l : inFragment ≤ mode)
     (found : FoundLearned work (siteIn mode top) kind name learned r) {w v : Rows}
     {opened : List ℕ} {e : Event Text} (valid : Valid w) (ahead : Ahead w v)
     (rows : CodeRows work learned mode top w opened) (k : kindNumber (kindOf e) ≡ kind)
@@ -203,10 +202,9 @@ module _ {work : List ℕ} {mode top kind name learned r : ℕ} (l : inTag ≤ m
   unfolding newerIn fitAt
   fits-at =
       let site = siteIn mode top in
-      let there : siteIn mode top / 2 < length (w .names) =
-      omega (arith, site-half mode top, top-row rows l) in
+      let there : SiteFits (length (w .names)) (siteIn mode top) = site-fits rows l in
       record {
-        element = l;
+        learns = l;
         inside = row-inside;
         fit = row-fits;
         site = row-is .0;
@@ -227,7 +225,7 @@ module _ {work : List ℕ} {mode top kind name learned r : ℕ} (l : inTag ≤ m
             (production-is valid site there g row-inside);
       }
 
-module _ {work : List ℕ} (mode top : ℕ) {kind name learned site r : ℕ} (l : inTag ≤ mode)
+module _ {work : List ℕ} (mode top : ℕ) {kind name learned site r : ℕ} (l : inFragment ≤ mode)
     (a : numberSE ≤ kind) (b : kind ≤ numberCH) (s : site ≡ siteIn mode top)
     (f : FoundLearned work site kind name learned r) where
   found : FoundLearned work (siteIn mode top) kind name learned r
@@ -237,14 +235,13 @@ module _ {work : List ℕ} (mode top : ℕ) {kind name learned site r : ℕ} (l 
   unfolding foundHere
   found-row =
       record {
-        is = rw (le-ltb mode inTag l, le-ltb kind numberSE a, le-ltb numberCH kind b) (found .is);
+        is = rw (le-ltb mode inFragment l, le-ltb kind numberSE a, le-ltb numberCH kind b) (found .is);
         within = f .within;
         means = λ w v opened e valid vv ahead rows k n.
             record {
               miss = λ z.
                   ap (λ ps. firstFit ps e) (inner-here rows l)
-                  ∙ ahead-fit valid vv ahead (siteIn mode top)
-                  (omega (arith, site-half mode top, top-row rows l)) e name n (rows .hold)
+                  ∙ ahead-fit valid vv ahead (siteIn mode top) (site-fits rows l) e name n (rows .hold)
                   (subst (λ m. FoundLearned work (siteIn mode top) m name learned r) (sym k) found)
                   ∙ fit-none _ _ (length (taughtIn v)) r z;
               hit = λ g z. fits-at l found valid ahead rows k n g z;

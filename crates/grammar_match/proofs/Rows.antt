@@ -21,7 +21,8 @@ use Rattle.mem_chain.specs.Chain.{lastThat}
 use Rattle.mem_chain.proofs.Last.{last-only}
 use Rattle.mem_index.specs.Index.{tally, hasKey}
 use Rattle.mem_index.proofs.Codes.{both, and-true}
-use Rattle.mem_learned.specs.Learned.{Taught, rowAt, siteOfRow, isRow, isNamed, Meant}
+use Rattle.mem_learned.specs.Learned.{Taught, rowAt, siteOfRow, isRow, SiteKnown, isNamed}
+use Rattle.mem_learned.specs.Learned.{Meant}
 use Rattle.mem_learned.specs.Learned as cells
 use Rattle.mem_learned.specs.declared.Production as cell
 use Rattle.mem_learned.proofs.Newest.{fitAt}
@@ -29,7 +30,7 @@ use Rattle.mem_learned.proofs.Sites.{learned-count, learned-fit}
 use Rattle.mem_learned.proofs.Sites.{learned-kind}
 use Rattle.mem_rows.specs.Rows.{Learnt, Rows, placedAt, nameAt, kindAt, carries, siteAt, carriedAt}
 use Rattle.mem_rows.specs.Rows.{productionOf, learnedOf}
-use Rattle.mem_rows.specs.Valid.{learntAt, LearntFits, Valid}
+use Rattle.mem_rows.specs.Valid.{learntAt, SiteFits, LearntFits, Valid}
 use Rattle.mem_state.specs.Holds.{taughtOf, taughtIn}
 use Rattle.mem_state.proofs.Taught.{placeOf, keys-of, site-same, is-named, production-same}
 use Rattle.mem_state.proofs.Taught.{taught-count, taught-row, learns-of}
@@ -64,12 +65,12 @@ module _ {w : Rows} (valid : Valid w) where
   abbrev rs : List Taught
   rs = taughtIn w
 
-  module _ (site : ℕ) (there : site / 2 < length (w .names)) where
+  module _ (site : ℕ) (there : SiteFits (length (w .names)) site) where
     abbrev here : List Production
     here = learnedIn (siteAt w site) (learnedOf w)
 
-    pub site-key : taught.isRow w (site / 2) ≡ true
-    site-key = lt-ltb (site / 2) (length (w .names)) there
+    pub site-key : SiteKnown (taught.isRow w) site
+    site-key n = lt-ltb (site / 2) (length (w .names)) (there n)
 
     -- By the answer of `find`.
     pub fit-found : (e : Event Text) (j : ℕ) → Meant (nameAt w) (taught.isRow w) e j → (r : ℕ)

@@ -9,7 +9,7 @@ use Rattle.spec_exi.specs.Event.{QName, Event, kindOf}
 use Rattle.spec_exi.specs.Settings.{Settings}
 use Rattle.spec_exi.specs.Tables.{Placed}
 use Rattle.spec_exi.specs.Grammar.{Code, taught}
-use Rattle.event_code.specs.Numbers.{teachesIn, inTag}
+use Rattle.event_code.specs.Numbers.{teachesIn, inFragment}
 use Rattle.mem_rows.specs.Rows.{Rows}
 use Rattle.grammar_match.specs.Here.{learnedHere, codeHere}
 
@@ -20,9 +20,9 @@ module _ (s : Settings) (w : Rows) (store : Text) (mode : ℕ) (opened : List �
     pub untaught : (q : Option (QName Placed))
         → taught (learnedHere w mode opened) x (kindOf e) q ≡ none
 
-  -- By another, where no learned one fits. What it teaches counts in an element alone.
+  -- By another, where no learned one fits. What it teaches counts where something is learned.
   pub record Unlearned (kind : ℕ) (x : Code) (e : Event Text) : Type 0 where
     pub is : codeHere s w store mode opened e ≡ some x
-    pub taught-is : inTag ≤ mode → (q : Option (QName Placed))
+    pub taught-is : inFragment ≤ mode → (q : Option (QName Placed))
         → taught (learnedHere w mode opened) x (kindOf e) q
         ≡ cond (teachesIn mode kind) (some (record { kind = kindOf e; qname = q })) none

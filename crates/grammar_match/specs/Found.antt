@@ -17,7 +17,7 @@ use Rattle.mem_learned.specs.Learned.{partIn, CountedAt}
 use Rattle.mem_rows.specs.Rows.{Rows, nameAt, carries, productionOf}
 use Rattle.mem_rows.specs.Valid.{learntAt, LearntFits, Valid}
 use Rattle.mem_state.specs.Holds.{taughtIn, Ahead}
-use Rattle.event_code.specs.Numbers.{inTag, numberSE, numberCH}
+use Rattle.event_code.specs.Numbers.{inFragment, numberSE, numberCH}
 use Rattle.grammar_match.specs.Here.{siteIn, CodeRows, learnedHere}
 
 -- ---- by kind and name
@@ -28,10 +28,10 @@ pub record FindPre (work : List ℕ) (top name learned : ℕ) : Type 0 where
   pub nameLow : name < nameRows
   pub few : learned ≤ maxLearned
 
--- Outside an element nothing is learned, and in one only SE, AT, EE and CH.
+-- Only SE, AT, EE and CH are learned, and nothing in the document's own states.
 unfoldable pub foundHere : List ℕ → ℕ → ℕ → ℕ → ℕ → ℕ → ℕ
 foundHere work mode top kind name learned =
-    cond (ltb mode inTag || ltb kind numberSE || ltb numberCH kind) 0
+    cond (ltb mode inFragment || ltb kind numberSE || ltb numberCH kind) 0
     (foundIn work nameIndex learned 0 (nameCode (siteIn mode top) kind name))
 
 -- The event's name has this row in v, which has the rows of memory and the event's own strings.
@@ -49,7 +49,7 @@ newerIn w g =
 -- The first that fits is the one in row g.
 pub record FitsAt (w : Rows) (mode top nameRow : ℕ) (opened : List ℕ) (e : Event Text) (g : ℕ)
     : Type 0 where
-  pub element : inTag ≤ mode
+  pub learns : inFragment ≤ mode
   pub inside : g < length (w .learned)
   pub fit : LearntFits (length (w .names)) (learntAt (w .learned) g)
   pub site : learntAt (w .learned) g .site ≡ siteIn mode top
@@ -71,7 +71,7 @@ pub record FoundHere (work : List ℕ) (mode top kind name learned r : ℕ) : Ty
       → CodeRows work learned mode top w opened → kindNumber (kindOf e) ≡ kind → NamedBy v e name
       → Finds w mode top name opened e r
   -- no learned production of the site has this kind and name
-  pub fresh : (w : Rows) → LearnedHold work learned (taughtIn w) → inTag ≤ mode → numberSE ≤ kind
+  pub fresh : (w : Rows) → LearnedHold work learned (taughtIn w) → inFragment ≤ mode → numberSE ≤ kind
       → kind ≤ numberCH → r ≡ 0 → (i : ℕ) → i < length (w .learned)
       → learntAt (w .learned) i
       ≡ record { site = siteIn mode top; kind = kind; name = name } → ⊥

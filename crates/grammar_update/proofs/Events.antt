@@ -3,12 +3,12 @@
 use Prim.Native.Nat.{ℕ, _/_, _≤_, _<_}
 use native.Mathlib.Omega.{arith}
 use mathlib.Core.Path.{_≡_, refl, sym, ap, subst, _∙_}
-use mathlib.Core.Bool.{Bool, true, false, cond, _&&_, not, true≢false}
+use mathlib.Core.Bool.{Bool, true, false, cond, _&&_, not, true≢false, and-false}
 use mathlib.Core.List.{List, [], _∷_, map}
 use mathlib.Core.Option.{Option, none, some, Option·map}
 use lib.ListN.{length}
 use lib.Dec.{eqb, ltb}
-use borrow.Author.Tests.{eqb-true, ltb-true, ltb-false}
+use borrow.Author.Tests.{eqb-true, ne-eqb, ltb-true, ltb-false}
 use Rattle.spec_fields.proofs.Tests.{split}
 use Rattle.text.specs.Text.{Text}
 use Rattle.spec_exi.specs.Sizes.{sizes, maxLearned}
@@ -21,17 +21,18 @@ use Rattle.spec_exi.specs.Grammar.{kindNumber, Production, Code, Site, siteOf, 
 use Rattle.spec_exi.specs.Context.{levelsIn, items, afterItems, after, next}
 use Rattle.spec_exi.specs.Lists.{withinGrammars}
 use Rattle.spec_exi.specs.Alike.{Alike, AlikeTables}
-use Rattle.event_code.specs.Numbers.{teachesIn, inTag, inElement, numberSE, numberAT, numberCH}
+use Rattle.event_code.specs.Numbers.{teachesIn, inFragment, inTag, inElement, numberSE, numberAT}
+use Rattle.event_code.specs.Numbers.{numberCH}
 use Rattle.event_code.proofs.Numbers.{teaches-in}
 use Rattle.grammar_codes.specs.Table.{Stands}
-use Rattle.mem_layout.specs.Layout.{uriRows, nameRows}
+use Rattle.mem_layout.specs.Layout.{uriRows, nameRows, fragmentSite}
 use Rattle.mem_entries.specs.Entries.{keyAt}
 use Rattle.mem_learned.proofs.Grammars.{flag-is}
 use Rattle.mem_rows.specs.Rows.{Rows, placedAt, nameAt, kindAt, carries, carriedAt, siteAt}
 use Rattle.mem_rows.specs.Rows.{productionOf, stateOf, isAmong, modeAfter, openedAfter}
 use Rattle.mem_rows.specs.Rows.{leaves, contextOf, tablesOf}
-use Rattle.mem_rows.specs.Valid.{learntAt, Valid}
-use Rattle.mem_rows.proofs.Kept.{Kept, all-at, name-kept}
+use Rattle.mem_rows.specs.Valid.{learntAt, SiteFits, Valid}
+use Rattle.mem_rows.proofs.Kept.{Kept, all-at, site-kept}
 use Rattle.mem_rows.proofs.States.{site-none}
 use Rattle.mem_rows.proofs.Events.{EventRows, event-context, Fresh, leaves-valid}
 use Rattle.mem_rows.proofs.Alike.{event-alike}
@@ -45,7 +46,8 @@ use Rattle.mem_state.proofs.Taught.{ahead-kept}
 use Rattle.grammar_match.specs.Here.{siteIn, CodeRows, learnedHere}
 use Rattle.grammar_match.specs.Codes.{Strict, Unlearned}
 use Rattle.grammar_match.specs.Found.{NamedBy, FoundHere}
-use Rattle.grammar_match.proofs.Here.{site-half, site-low, site-here, tag-site}
+use Rattle.grammar_match.proofs.Here.{site-half, site-low, site-fits, site-here, tag-site}
+use Rattle.grammar_match.proofs.Here.{site-outer}
 use Rattle.grammar_match.proofs.Unfit.{number-kind, kind-number}
 use Rattle.grammar_update.specs.Growth.{growthOf, fitsIn}
 use Rattle.grammar_update.proofs.Tests.{fits-learned, fits-within}
@@ -67,10 +69,10 @@ pub record EventTaught (w : Rows) (mode top kind row : ℕ) (opened : List ℕ) 
     (x : Code) (e : Event Text) : Type 0 where
   pub untaught : learned ≡ true → (q : Option (QName Placed))
       → taught (learnedHere w mode opened) x (kindOf e) q ≡ none
-  pub taught-is : learned ≡ false → inTag ≤ mode → (q : Option (QName Placed))
+  pub taught-is : learned ≡ false → inFragment ≤ mode → (q : Option (QName Placed))
       → taught (learnedHere w mode opened) x (kindOf e) q
       ≡ cond (teachesIn mode kind) (some (record { kind = kindOf e; qname = q })) none
-  pub fresh : learned ≡ false → inTag ≤ mode → numberSE ≤ kind → kind ≤ numberCH → (i : ℕ)
+  pub fresh : learned ≡ false → inFragment ≤ mode → numberSE ≤ kind → kind ≤ numberCH → (i : ℕ)
       → i < length (w .learned)
       → learntAt (w .learned) i ≡ record { site = siteIn mode top; kind = kind; name = row } → ⊥
 
@@ -152,22 +154,18 @@ module _ {v : Rows} {mode : ℕ} {s : Strings} {kind : ℕ} {e : Event Text}
 
 -- ---- sites
 
-site-kept : {w v : Rows} → Kept w v → (k : ℕ) → k / 2 < length (w .names)
-    → siteAt w k ≡ siteAt v k
-unfolding siteAt
-site-kept kept k h = rw (name-kept kept (k / 2) h)
-
--- A site is in an element.
-in-element : {work : List ℕ} {learned mode top : ℕ} {w : Rows} {opened : List ℕ}
+-- Where there is a site, something is learned.
+in-learning : {work : List ℕ} {learned mode top : ℕ} {w : Rows} {opened : List ℕ}
     → CodeRows work learned mode top w opened → (k : Site)
-    → siteOf (stateOf mode (map (nameAt w) opened)) ≡ some k → inTag ≤ mode
-in-element {mode = mode} {w = w} {opened = opened} r k e =
-    split (ltb mode inTag)
+    → siteOf (stateOf mode (map (nameAt w) opened)) ≡ some k → inFragment ≤ mode
+in-learning {mode = mode} {w = w} {opened = opened} r k e =
+    split (ltb mode inFragment)
     (λ t.
-    let z : opened ≡ [] = none-open opened (r .fits .outer (ltb-true mode inTag t)) in
-    absurd (none-some (sym (site-none mode)
+    let l = ltb-true mode inFragment t in
+    let z : opened ≡ [] = none-open opened (r .fits .outer (omega arith)) in
+    absurd (none-some (sym (site-none mode l)
     ∙ ap (λ ns. siteOf (stateOf mode (map (nameAt w) ns))) (sym z) ∙ e)))
-    (λ t. ltb-false mode inTag t)
+    (λ t. ltb-false mode inFragment t)
   where
     none-open : (ns : List ℕ) → length ns ≡ 0 → ns ≡ []
     none-open [] h = refl
@@ -183,8 +181,18 @@ teaches-tag mode kind t e =
     split (eqb mode inTag)
     (λ a. eqb-true mode inTag a)
     (λ a. split (eqb mode inElement)
-    (λ b. absurd (true≢false (sym t ∙ rw (e, a, b))))
-    (λ b. absurd (true≢false (sym t ∙ rw (e, a, b)))))
+    (λ b. absurd (true≢false (sym t ∙ rw (e, a, b) (and-false (eqb mode inFragment)))))
+    (λ b. absurd (true≢false (sym t ∙ rw (e, a, b) (and-false (eqb mode inFragment))))))
+
+-- Outside of every element SE alone does.
+teaches-alone : (mode kind : ℕ) → teachesIn mode kind ≡ true → mode < inTag → kind ≡ numberSE
+unfolding teachesIn
+teaches-alone mode kind t l =
+    let a = ne-eqb mode inTag (λ z. omega arith) in
+    let b = ne-eqb mode inElement (λ z. omega arith) in
+    split (eqb mode inFragment)
+    (λ d. eqb-true kind numberSE (rw (a, b, d) at t))
+    (λ d. absurd (true≢false (sym (rw (a, b, d) at t))))
 
 -- ---- what the event leaves
 
@@ -230,7 +238,7 @@ module _ {work : List ℕ} {from : Stores} {c : Core} {w : Rows} {opened : List 
 
   -- ---- what it teaches
 
-  -- Only in an element, by a code that is not learned.
+  -- Only by a code that is not learned.
   teaches-parts : (not learned && teachesIn (c .mode) kind) ≡ true
       → (learned ≡ false) × (teachesIn (c .mode) kind ≡ true)
   teaches-parts h =
@@ -243,11 +251,10 @@ module _ {work : List ℕ} {from : Stores} {c : Core} {w : Rows} {opened : List 
   unfolding growthOf productionOf
   produced = ap (λ (k : Kind). record { kind = k; qname = q }) kind-at
 
-  site-is : inTag ≤ c .mode → siteOf state ≡ some (siteAt v (siteIn (c .mode) (c .top)))
+  site-is : inFragment ≤ c .mode → siteOf state ≡ some (siteAt v (siteIn (c .mode) (c .top)))
   site-is h =
       site-here here h
-      ∙ ap some (site-kept kept (siteIn (c .mode) (c .top))
-      (omega (arith, site-half (c .mode) (c .top), inner-state rep b top h .1)))
+      ∙ ap some (sym (site-kept kept (siteIn (c .mode) (c .top)) (site-fits here h)))
 
   taught-here : Option Production
   taught-here = taught (learnedHere w (c .mode) opened) x (kindOf e) q
@@ -273,7 +280,7 @@ module _ {work : List ℕ} {from : Stores} {c : Core} {w : Rows} {opened : List 
       (λ f.
       let z : teachesIn (c .mode) kind ≡ false =
       sym (ap (λ y. not y && teachesIn (c .mode) kind) f) ∙ h in
-      by .taught-is f (in-element here k site) q
+      by .taught-is f (in-learning here k site) q
       ∙ ap (λ y. cond y (some (record { kind = kindOf e; qname = q })) none) z)
 
   -- ---- the rows
@@ -319,13 +326,13 @@ module _ {work : List ℕ} {from : Stores} {c : Core} {w : Rows} {opened : List 
         ∙ ap (isAmong row) (sym (ahead .grammars)))
 
     -- The sizes are the definitions' test.
-    pub fits-is : (store : Text)
+    pub fits-is : (f : Bool) (store : Text)
         → withinGrammars sizes
         (contextOf (leaves (g .kind) (g .name) (g .teaches) (learntOf g) v) store
-        (modeAfter (g .kind) (c .mode) (c .depth)) (openedAfter (g .kind) (g .name) opened))
+        (modeAfter f (g .kind) (c .mode) (c .depth)) (openedAfter (g .kind) (g .name) opened))
         ≡ fitsIn c g
-    fits-is store =
-        fits-within v g store (modeAfter (g .kind) (c .mode) (c .depth)) opened b
+    fits-is f store =
+        fits-within v g store (modeAfter f (g .kind) (c .mode) (c .depth)) opened b
         (rep .opens .size) grammars-same learned-same enters-is
 
     pub grows : s .«uri_row» < uriRows → fitsIn c g ≡ true → Grows v c g
@@ -345,16 +352,29 @@ module _ {work : List ℕ} {from : Stores} {c : Core} {w : Rows} {opened : List 
               (λ k. rw k (known .plain (carries-as k)));
         }
 
+  -- What has no name is taught in an element, whose name has a row.
+  plain-low : teachesIn (c .mode) kind ≡ true → carries (kindAt kind) ≡ false
+      → row < length (v .names)
+  unfolding carries kindAt
+  plain-low z y =
+      split (ltb (c .mode) inTag)
+      (λ t.
+      let e = teaches-alone (c .mode) kind z (ltb-true (c .mode) inTag t) in
+      absurd (true≢false (rw e at y)))
+      (λ t.
+      let k = inner-state rep b top (ltb-false (c .mode) inTag t) .1 in
+      omega (arith, k, kept .fewer, known .named .nameless (carries-as y)))
+
   fresh : g .teaches ≡ true → Fresh v (learntOf g)
   unfolding growthOf
   fresh t =
       let (f, z) = teaches-parts t in
       let d = teaches-in (c .mode) kind z in
-      let k = inner-state rep b top (d .0) .1 in
       let n = kept .fewer in
       record {
         fits = record {
-          site = omega (arith, site-half (c .mode) (c .top));
+          site = λ o. omega (arith, site-fits here (d .0) o);
+          alone = λ o. teaches-alone (c .mode) kind z (site-outer (c .mode) (c .top) (b .top) o);
           from = d .1;
           upTo = d .2;
           tag = λ y.
@@ -362,7 +382,7 @@ module _ {work : List ℕ} {from : Stores} {c : Core} {w : Rows} {opened : List 
               omega (arith, j);
           name = split (carries (kindAt kind))
               (λ y. known .named .low (carries-as y))
-              (λ y. omega (arith, known .named .nameless (carries-as y)));
+              (λ y. plain-low z y);
           plain = λ y. known .named .nameless (carries-as y);
         };
         new = λ i h y.
@@ -389,14 +409,14 @@ module _ {work : List ℕ} {from : Stores} {c : Core} {w : Rows} {opened : List 
     pub left-context :
         after o (contextOf w store (c .mode) opened) x (tablesOf v store′) q e
         ≡ contextOf (leaves (g .kind) (g .name) (g .teaches) (learntOf g) v) store′
-        (modeAfter (g .kind) (c .mode) (c .depth)) (openedAfter (g .kind) (g .name) opened)
+        (modeAfter (o .fragment) (g .kind) (c .mode) (c .depth)) (openedAfter (g .kind) (g .name) opened)
     unfolding growthOf
     left-context =
         sym (event-context o (rep .valid .refers) valid event-rows store store′)
         ∙ ap (λ k. contextOf (leaves k row (g .teaches) (learntOf g) v) store′
-        (modeAfter k (c .mode) (length opened)) (openedAfter k row opened)) (known .kind-is)
+        (modeAfter (o .fragment) k (c .mode) (length opened)) (openedAfter k row opened)) (known .kind-is)
         ∙ ap (λ d. contextOf (leaves kind row (g .teaches) (learntOf g) v) store′
-        (modeAfter kind (c .mode) d) (openedAfter kind row opened)) (rep .opens .size)
+        (modeAfter (o .fragment) kind (c .mode) d) (openedAfter kind row opened)) (rep .opens .size)
 
     -- The same up to places, where its strings leave tables alike.
     pub left-alike :
@@ -405,13 +425,13 @@ module _ {work : List ℕ} {from : Stores} {c : Core} {w : Rows} {opened : List 
         (tablesOf v store′)
         → Alike (next o (contextOf w store (c .mode) opened) e)
         (contextOf (leaves (g .kind) (g .name) (g .teaches) (learntOf g) v) store′
-        (modeAfter (g .kind) (c .mode) (c .depth)) (openedAfter (g .kind) (g .name) opened))
+        (modeAfter (o .fragment) (g .kind) (c .mode) (c .depth)) (openedAfter (g .kind) (g .name) opened))
     unfolding growthOf
     left-alike code tables =
         subst (λ d. Alike (next o (contextOf w store (c .mode) opened) e)
         (contextOf (leaves kind row (g .teaches) (learntOf g) v) store′
-        (modeAfter kind (c .mode) d) (openedAfter kind row opened))) (rep .opens .size)
+        (modeAfter (o .fragment) kind (c .mode) d) (openedAfter kind row opened))) (rep .opens .size)
         (subst (λ k. Alike (next o (contextOf w store (c .mode) opened) e)
         (contextOf (leaves k row (g .teaches) (learntOf g) v) store′
-        (modeAfter k (c .mode) (length opened)) (openedAfter k row opened))) (known .kind-is)
+        (modeAfter (o .fragment) k (c .mode) (length opened)) (openedAfter k row opened))) (known .kind-is)
         (event-alike o (rep .valid .refers) valid event-rows store store′ code carried-text tables))

@@ -2,7 +2,7 @@
 use Prim.Native.Nat.{ℕ, _+_, _≤_, _<_}
 use native.Mathlib.Omega.{arith}
 use mathlib.Core.Path.{_≡_, refl, sym, ap, subst, _∙_}
-use mathlib.Core.Bool.{cond}
+use mathlib.Core.Bool.{Bool, cond}
 use mathlib.Core.List.{List}
 use lib.ListN.{length}
 use Rattle.spec_exi.specs.Event.{SE}
@@ -33,9 +33,9 @@ module _ {from : Stores} {c : Core} {s : Strings} {g : Growth} {w v : Rows} {ope
   abbrev left : Rows
   left = leaves (g .kind) (g .name) (g .teaches) (learntOf g) v
 
-  left-counts : (at stored n : ℕ) → Counts (coreAfter c at stored s g n) left
+  left-counts : (f : Bool) (at stored n : ℕ) → Counts (coreAfter f c at stored s g n) left
   unfolding turned counted
-  left-counts at stored n =
+  left-counts f at stored n =
       let ls = leaves-lists (g .kind) (g .name) (g .teaches) (learntOf g) v in
       let a = strings-ahead joins in
       record {
@@ -52,22 +52,22 @@ module _ {from : Stores} {c : Core} {s : Strings} {g : Growth} {w v : Rows} {ope
       }
 
   -- The event has come after n others, and marks are older.
-  pub left-represents : {work : List ℕ} → StringsPre work c s → Holds work from w
+  pub left-represents : (f : Bool) {work : List ℕ} → StringsPre work c s → Holds work from w
       → MarksHold work (c .tag) (inTagOf w)
       → Valid (leaves (g .kind) (g .name) (g .teaches) (learntOf g) v)
       → (g .kind ≡ kindNumber SE → g .name < length (v .names)) → (at stored n : ℕ)
       → c .tag ≤ n + 1
-      → Represents (grown c g (joinedStrings c s work)) from (coreAfter c at stored s g n)
+      → Represents (grown c g (joinedStrings c s work)) from (coreAfter f c at stored s g n)
       (leaves (g .kind) (g .name) (g .teaches) (learntOf g) v)
       (openedAfter (g .kind) (g .name) opened)
   unfolding turned counted
-  left-represents {work} asks holds marks valid named at stored n late =
+  left-represents f {work} asks holds marks valid named at stored n late =
       let ls = leaves-lists (g .kind) (g .name) (g .teaches) (learntOf g) v in
       let m = ap length (ls .1) in
       record {
         valid = valid;
         holds = grown-holds grows (strings-hold joins counts asks holds);
-        counts = left-counts at stored n;
+        counts = left-counts f at stored n;
         opens = record {
           size = opened-after (g .kind) (g .name) opened
               ∙ ap (depthAfter (g .kind)) (opens .size);
@@ -81,11 +81,11 @@ module _ {from : Stores} {c : Core} {s : Strings} {g : Growth} {w v : Rows} {ope
       }
 
 -- The open elements after it.
-pub left-turned : {c : Core} (s : Strings) {g : Growth} {n : ℕ} {w : Rows} {opened : List ℕ}
+pub left-turned : (f : Bool) {c : Core} (s : Strings) {g : Growth} {n : ℕ} {w : Rows} {opened : List ℕ}
     → AfterPre c g n → Opens c w opened → Topped c opened → (at stored : ℕ)
-    → Turned c (coreAfter c at stored s g n) opened (openedAfter (g .kind) (g .name) opened)
+    → Turned c (coreAfter f c at stored s g n) opened (openedAfter (g .kind) (g .name) opened)
 unfolding turned counted kindNumber
-left-turned s {g} {opened = opened} a opens top at stored =
+left-turned f s {g} {opened = opened} a opens top at stored =
     opened-turned (g .kind) (g .name) opened (opens .size)
     (λ k. a .bounded .fits .inner (a .stands .inside (omega (arith, k)) (omega (arith, k)))) top
     refl refl

@@ -25,6 +25,7 @@ module _ {work : List ℕ} {from : Stores} {c : Core} {w : Rows} {opened : List 
         fits = subst (ModeFits (c .mode)) (sym (r .opens .size)) (b .fits);
         rows = r .opens .rows;
         topped = λ h. t .is (omega (arith, r .opens .size, h));
+        low = b .top;
       }
 
   -- In an element, characters are values of the innermost one, which has a row.

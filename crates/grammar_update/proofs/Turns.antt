@@ -2,7 +2,7 @@
 use Prim.Native.Nat.{ℕ, _+_, _-_, _≤_, _<_}
 use native.Mathlib.Omega.{arith}
 use mathlib.Core.Path.{_≡_, ap}
-use mathlib.Core.Bool.{true}
+use mathlib.Core.Bool.{Bool, true}
 use mathlib.Core.List.{List}
 use lib.Dec.{eqb}
 use Rattle.spec_fields.proofs.Tests.{split}
@@ -30,17 +30,18 @@ tag-few kind n tag l h =
     split (eqb kind (kindNumber AT)) (λ e. rw e h) (λ e. rw e (omega arith))
 
 -- After an event the mark is at most one more than the events that have come.
-pub after-late : (c : Core) (at stored : ℕ) (s : Strings) (g : Growth) (n : ℕ) → c .tag ≤ n + 1
-    → coreAfter c at stored s g n .tag ≤ n + 2
+pub after-late : (f : Bool) (c : Core) (at stored : ℕ) (s : Strings) (g : Growth) (n : ℕ)
+    → c .tag ≤ n + 1 → coreAfter f c at stored s g n .tag ≤ n + 2
 unfolding turned counted tagNumber
-after-late c at stored s g n h =
+after-late f c at stored s g n h =
     split (eqb (g .kind) (kindNumber AT)) (λ e. rw e (omega arith)) (λ e. rw e (omega arith))
 
-pub after-bounded : {work : List ℕ} {c : Core} {s : Strings} {g : Growth} {n : ℕ} (at stored : ℕ)
+pub after-bounded : (f : Bool) {work : List ℕ} {c : Core} {s : Strings} {g : Growth} {n : ℕ}
+    (at stored : ℕ)
     → AfterPre c g n → StringsPre work c s → fitsIn c g ≡ true → g .name < nameRows
-    → stored ≤ maxStore → Bounded (coreAfter c at stored s g n)
+    → stored ≤ maxStore → Bounded (coreAfter f c at stored s g n)
 unfolding turned counted maxUris maxNames maxValues
-after-bounded {c = c} {s} {g} {n} at stored a p fits low h =
+after-bounded f {c = c} {s} {g} {n} at stored a p fits low h =
     let b = a .bounded in
     record {
       stored = h;
@@ -52,7 +53,7 @@ after-bounded {c = c} {s} {g} {n} at stored a p fits low h =
       grammars = raise (g .enters) (c .grammars) maxGrammars (b .grammars) (fits-grammars c g fits);
       top = top-low (g .kind) (g .name) (c .top) low (b .top);
       depth = depth-few (g .kind) (c .depth) (b .depth) (fits-open c g fits);
-      fits = mode-fits (g .kind) (a .stands) (b .fits);
+      fits = mode-fits f (g .kind) (a .stands) (b .fits);
       tag = tag-few (g .kind) n (c .tag) (a .early) (b .tag);
     }
 

@@ -1,5 +1,6 @@
 -- The numbers after an event.
 use Prim.Native.Nat.{ℕ, _<_}
+use mathlib.Core.Bool.{Bool}
 use Rattle.spec_exi.specs.Sizes.{maxEvents}
 use Rattle.grammar_codes.specs.Table.{Stands}
 use Rattle.mem_state.specs.declared.Core.{Core}
@@ -24,9 +25,10 @@ movedTo c at stored =
       tag = c .tag;
     }
 
--- So many events have come before it.
-abbrev pub coreAfter : Core → ℕ → ℕ → Strings → Growth → ℕ → Core
-coreAfter c at stored s g n = turned (counted (movedTo c at stored) s g) (g .kind) (g .name) n
+-- So many events have come before it, in a fragment or not.
+abbrev pub coreAfter : Bool → Core → ℕ → ℕ → Strings → Growth → ℕ → Core
+coreAfter fragment c at stored s g n =
+    turned fragment (counted (movedTo c at stored) s g) (g .kind) (g .name) n
 
 pub record AfterPre (c : Core) (g : Growth) (n : ℕ) : Type 0 where
   pub bounded : Bounded c

@@ -1,5 +1,5 @@
-// What an event leaves in the grammars and in the numbers that go from event to event (EXI 8.4.3),
-// and whether the start tag and the sizes have room for it. Memory is not written. What the
+// What an event leaves in the grammars and in the numbers that go from event to event (EXI 8.4.2,
+// 8.4.3), and whether the start tag and the sizes have room for it. Memory is not written. What the
 // functions ask and leave is in specs/.
 ghost use mathlib.Core.Path.{_≡_};
 ghost use Rattle.mem_marks.specs.Marks.{MarkCell};
@@ -59,14 +59,28 @@ pub fn fits(c: Core, g: Growth) -> bool
     true
 }
 
-// The numbers after an event before which n have come, at this position and with so many code
-// points in the store.
-pub fn after(c: Core, at: usize, stored: usize, s: Strings, g: Growth, n: usize) -> Core
+// The numbers after an event, in a fragment or not, before which n have come, at this position and
+// with so many code points in the store.
+pub fn after(
+    fragment: bool,
+    c: Core,
+    at: usize,
+    stored: usize,
+    s: Strings,
+    g: Growth,
+    n: usize,
+) -> Core
     requires { ⌜ AfterPre c g n ⌝ }
-    ensures { λ d. ⌜ d ≡ coreAfter c at stored s g n ⌝ }
+    ensures { λ d. ⌜ d ≡ coreAfter fragment c at stored s g n ⌝ }
 {
     let mut d = c;
     d.at = at;
     d.stored = stored;
-    mem_state::turn(mem_state::count(d, s, g), g.kind, g.name, n)
+    mem_state::turn(
+        fragment,
+        mem_state::count(d, s, g),
+        g.kind,
+        g.name,
+        n,
+    )
 }

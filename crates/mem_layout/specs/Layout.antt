@@ -178,6 +178,10 @@ openingUris = 3
 abbrev pub openingNames : ℕ
 openingNames = 6
 
--- sites at which productions are learned: two a name, and two more
+-- sites at which productions are learned: two a name, a fragment's content, and one more
 abbrev pub sites : ℕ
 sites = 258
+
+-- that of a fragment's content
+abbrev pub fragmentSite : ℕ
+fragmentSite = 256

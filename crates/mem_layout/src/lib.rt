@@ -131,5 +131,8 @@ pub const OPENING_URIS: usize = 3;
 
 pub const OPENING_NAMES: usize = 6;
 
-// sites at which productions are learned: two a name, and two more
+// sites at which productions are learned: two a name, a fragment's content, and one more
 pub const SITES: u32 = 258;
+
+// that of a fragment's content
+pub const FRAGMENT_SITE: u32 = 256;

@@ -2,8 +2,8 @@
 -- more.
 use Prim.Native.Nat.{ℕ, suc, _-_, _/_, _%_, _<_}
 use native.Mathlib.Omega.{arith}
-use mathlib.Core.Path.{_≡_, sym, ap, subst, _∙_}
-use mathlib.Core.Bool.{Bool, true, false, _&&_, true≢false}
+use mathlib.Core.Path.{_≡_, refl, sym, ap, subst, _∙_}
+use mathlib.Core.Bool.{Bool, true, false, cond, _&&_, true≢false}
 use mathlib.Core.Logic.{_≢_}
 use mathlib.Core.List.{List, [], _∷_, _++_}
 use mathlib.Core.Option.{some}
@@ -13,7 +13,8 @@ use borrow.Author.Tests.{eqb-true, eqb-false, eq-eqb, ne-eqb}
 use Rattle.text.specs.Text.{Text}
 use Rattle.spec_exi.specs.Event.{QName, Event, Kind, kindOf, nameOf, eqName}
 use Rattle.spec_exi.specs.Tables.{Placed, nameText}
-use Rattle.spec_exi.specs.Grammar.{kindNumber, fitsName, fits, tagOf, contentOf, eqSite}
+use Rattle.spec_exi.specs.Grammar.{kindNumber, fitsName, fits, Site, tagOf, contentOf, fragment}
+use Rattle.spec_exi.specs.Grammar.{eqSite}
 use Rattle.spec_exi.specs.Grammar.{Learned, learnedIn, firstFit, hasKind}
 use Rattle.spec_exi.proofs.Codes.{eqName-refl, eqName-eq}
 use Rattle.mem_chain.specs.Chain.{lastThat}
@@ -24,7 +25,9 @@ use Rattle.mem_index.proofs.Codes.{numbered-is, is-numbered}
 use Rattle.mem_entries.specs.Entries.{Keys}
 use Rattle.mem_entries.proofs.Alike.{key-test}
 use Rattle.mem_learned.specs.Learned.{Taught, rowAt, siteOfRow, isRow, newestFirst, siteAt}
-use Rattle.mem_learned.specs.Learned.{isNamed, productionOf, learnedOf, Learns, Meant}
+use Rattle.mem_layout.specs.Layout.{fragmentSite}
+use Rattle.mem_learned.specs.Learned.{SiteKnown, isNamed, productionOf, learnedOf, Learns}
+use Rattle.mem_learned.specs.Learned.{Meant}
 use Rattle.mem_learned.proofs.Joined.{row-old, row-new}
 use Rattle.mem_learned.proofs.Newest.{newest-same, fitAt, site-count, site-nth, site-fit}
 use Rattle.mem_learned.proofs.Newest.{site-kind}
@@ -41,13 +44,28 @@ turned a b =
 
 -- ---- sites by their numbers
 
+not-fragment : (b : Bool) (p q : QName Text) → eqSite fragment (cond b (tagOf p) (contentOf q)) ≡ false
+unfolding eqSite
+not-fragment true p q = refl
+not-fragment false p q = refl
+
+no-fragment : (b : Bool) (p q : QName Text) → eqSite (cond b (tagOf p) (contentOf q)) fragment ≡ false
+unfolding eqSite
+no-fragment true p q = refl
+no-fragment false p q = refl
+
+fragments : eqSite fragment fragment ≡ true
+unfolding eqSite
+fragments = refl
+
 module _ {name : ℕ → QName Text} {isKey : ℕ → Bool} (d : Keys name isKey) where
-  tag-is : (s : ℕ) → s % 2 ≡ 1 → siteAt name s ≡ tagOf (name (s / 2))
-  unfolding siteAt
+  abbrev named : ℕ → Site
+  named s = cond (eqb (s % 2) 1) (tagOf (name (s / 2))) (contentOf (name (s / 2)))
+
+  tag-is : (s : ℕ) → s % 2 ≡ 1 → named s ≡ tagOf (name (s / 2))
   tag-is s e = rw (eq-eqb (s % 2) 1 e)
 
-  content-is : (s : ℕ) → (s % 2 ≡ 1 → ⊥) → siteAt name s ≡ contentOf (name (s / 2))
-  unfolding siteAt
+  content-is : (s : ℕ) → (s % 2 ≡ 1 → ⊥) → named s ≡ contentOf (name (s / 2))
   content-is s ne = rw (ne-eqb (s % 2) 1 ne)
 
   half-test : (s u : ℕ) → s % 2 ≡ u % 2 → eqb (s / 2) (u / 2) ≡ eqb s u
@@ -56,10 +74,10 @@ module _ {name : ℕ → QName Text} {isKey : ℕ → Bool} (d : Keys name isKey
       (λ y. let z : s ≡ u = eqb-true s u y in eq-eqb (s / 2) (u / 2) (omega arith) ∙ sym y)
       (λ y. ne-eqb (s / 2) (u / 2) (λ z. eqb-false s u y (omega arith)) ∙ sym y)
 
-  pub site-test : (s u : ℕ) → isKey (s / 2) ≡ true → isKey (u / 2) ≡ true
-      → eqSite (siteAt name s) (siteAt name u) ≡ eqb s u
+  name-test : (s u : ℕ) → isKey (s / 2) ≡ true → isKey (u / 2) ≡ true
+      → eqSite (named s) (named u) ≡ eqb s u
   unfolding eqSite
-  site-test s u p q =
+  name-test s u p q =
       let k : eqName (name (s / 2)) (name (u / 2)) ≡ eqb (s / 2) (u / 2) =
       key-test eqName eqName-refl eqName-eq d (s / 2) (u / 2) p q in
       split (eqb (s % 2) 1)
@@ -90,12 +108,33 @@ module _ {name : ℕ → QName Text} {isKey : ℕ → Bool} (d : Keys name isKey
           let y′ : b ≢ 1 = y in
           omega arith
 
+  pub site-test : (s u : ℕ) → SiteKnown isKey s → SiteKnown isKey u
+      → eqSite (siteAt name s) (siteAt name u) ≡ eqb s u
+  unfolding siteAt
+  site-test s u p q =
+      split (eqb s fragmentSite)
+      (λ a.
+      let x : s ≡ fragmentSite = eqb-true s fragmentSite a in
+      split (eqb u fragmentSite)
+      (λ b.
+      let y : u ≡ fragmentSite = eqb-true u fragmentSite b in
+      rw (a, b) (fragments ∙ sym (eq-eqb s u (x ∙ sym y))))
+      (λ b.
+      rw (a, b) (not-fragment (eqb (u % 2) 1) (name (u / 2)) (name (u / 2))
+      ∙ sym (ne-eqb s u (λ z. eqb-false u fragmentSite b (sym z ∙ x))))))
+      (λ a. split (eqb u fragmentSite)
+      (λ b.
+      let y : u ≡ fragmentSite = eqb-true u fragmentSite b in
+      rw (a, b) (no-fragment (eqb (s % 2) 1) (name (s / 2)) (name (s / 2))
+      ∙ sym (ne-eqb s u (λ z. eqb-false s fragmentSite a (z ∙ y)))))
+      (λ b. rw (a, b) (name-test s u (p (eqb-false s fragmentSite a)) (q (eqb-false u fragmentSite b)))))
+
 -- ---- what is learned at a site
 
 module _ {name : ℕ → QName Text} {isKey : ℕ → Bool} {place : ℕ → ℕ → QName Placed}
     {ls : List Learned}
     {rs : List Taught} (d : Keys name isKey) (w : Learns name isKey place ls rs) (s : ℕ)
-    (valid : isKey (s / 2) ≡ true) where
+    (valid : SiteKnown isKey s) where
   f : ℕ → Learned
   f i = learnedOf name place (rowAt rs i)
 
@@ -246,7 +285,7 @@ module _ {name : ℕ → QName Text} {isKey : ℕ → Bool} {place : ℕ → ℕ
       omega (arith, eqb-false i (length rs) e, length-append rs (r ∷ []), l) in
       subst P (sym (row-old rs r i m)) (f m))
 
-  pub learns-more : isKey (r .site / 2) ≡ true → (isNamed (r .kind) ≡ true → isKey (r .name) ≡ true)
+  pub learns-more : SiteKnown isKey (r .site) → (isNamed (r .kind) ≡ true → isKey (r .name) ≡ true)
       → (isNamed (r .kind) ≡ true → nameText (place (r .uriRow) (r .nameRow)) ≡ name (r .name))
       → (isNamed (r .kind) ≡ false → r .name ≡ 0)
       → Learns name isKey place (learnedOf name place r ∷ ls) (rs ++ (r ∷ []))
@@ -261,7 +300,7 @@ module _ {name : ℕ → QName Text} {isKey : ℕ → Bool} {place : ℕ → ℕ
             ∙ ap (λ (y : Taught). learnedOf name place y ∷ newestFirst
             (λ i. learnedOf name place (rowAt (rs ++ (r ∷ [])) i)) (length rs)) (sym (row-new rs r))
             ∙ ap (newestFirst (λ i. learnedOf name place (rowAt (rs ++ (r ∷ [])) i))) (sym n);
-        site = λ i l. cases (λ y. isKey (y .site / 2) ≡ true) i l (λ m. w .site i m) a;
+        site = λ i l. cases (λ y. SiteKnown isKey (y .site)) i l (λ m. w .site i m) a;
         key = λ i l. cases (λ y. isNamed (y .kind) ≡ true → isKey (y .name) ≡ true) i l
             (λ m. w .key i m) b;
         named = λ i l.
@@ -272,6 +311,14 @@ module _ {name : ℕ → QName Text} {isKey : ℕ → Bool} {place : ℕ → ℕ
             λ i l. cases (λ y. isNamed (y .kind) ≡ false → y .name ≡ 0) i l (λ m. w .unnamed i m) d;
       }
 
+site-renamed : {name more : ℕ → QName Text} {isKey : ℕ → Bool}
+    → ((j : ℕ) → isKey j ≡ true → more j ≡ name j) → (s : ℕ) → SiteKnown isKey s
+    → siteAt more s ≡ siteAt name s
+unfolding siteAt
+site-renamed names s k =
+    split (eqb s fragmentSite) (λ e. rw e)
+    (λ e. rw (e, names (s / 2) (k (eqb-false s fragmentSite e))))
+
 learned-same : {name more : ℕ → QName Text} {isKey : ℕ → Bool} {place : ℕ → ℕ → QName Placed}
     (there : ℕ → ℕ → QName Placed) {ls : List Learned} {rs : List Taught}
     → ((j : ℕ) → isKey j ≡ true → more j ≡ name j)
@@ -280,11 +327,11 @@ learned-same : {name more : ℕ → QName Text} {isKey : ℕ → Bool} {place : 
     ≡ place (rowAt rs i .uriRow) (rowAt rs i .nameRow))
     → Learns name isKey place ls rs → (i : ℕ) → i < length rs
     → learnedOf more there (rowAt rs i) ≡ learnedOf name place (rowAt rs i)
-unfolding learnedOf siteAt productionOf
+unfolding learnedOf productionOf
 learned-same there {rs = rs} names places w i l =
     split (isNamed (rowAt rs i .kind))
-    (λ y. rw (y, names (siteOfRow rs i / 2) (w .site i l), places i l y))
-    (λ y. rw (y, names (siteOfRow rs i / 2) (w .site i l)))
+    (λ y. rw (y, site-renamed names (siteOfRow rs i) (w .site i l), places i l y))
+    (λ y. rw (y, site-renamed names (siteOfRow rs i) (w .site i l)))
 
 -- Rows that keep their names and places.
 pub learns-renamed : {name more : ℕ → QName Text} {isKey wider : ℕ → Bool}
@@ -299,7 +346,7 @@ learns-renamed {name} {more} {isKey} {wider} {place} {there} {ls} {rs} names key
     record {
       list = w .list
           ∙ newest-same _ _ (length rs) (λ i l. sym (learned-same there names places w i l));
-      site = λ i l. keys (siteOfRow rs i / 2) (w .site i l);
+      site = λ i l n. keys (siteOfRow rs i / 2) (w .site i l n);
       key = λ i l y. keys (rowAt rs i .name) (w .key i l y);
       named = λ i l y.
           ap nameText (places i l y) ∙ w .named i l y

@@ -9,13 +9,14 @@ use lib.Dec.{eqb, ltb}
 use Rattle.text.specs.Text.{Text}
 use Rattle.spec_exi.specs.Event.{QName, Event, Kind, CH, kindOf, nameOf}
 use Rattle.spec_exi.specs.Tables.{Placed, nameText}
-use Rattle.spec_exi.specs.Grammar.{Production, kindNumber, Site, tagOf, contentOf, Learned}
+use Rattle.spec_exi.specs.Grammar.{Production, kindNumber, Site, tagOf, contentOf, fragment}
+use Rattle.spec_exi.specs.Grammar.{Learned}
 use Rattle.event_code.specs.Numbers.{numberSE, numberAT, kinds}
 use Rattle.mem_layout.specs.Layout.{learnedNameHeads, learnedCodeHeads, learnedCounts}
 use Rattle.mem_layout.specs.Layout.{learnedBuckets}
 use Rattle.mem_layout.specs.Layout.{learnedNameCodes, learnedNameNexts, learnedCodes}
 use Rattle.mem_layout.specs.Layout.{learnedCodeNexts, learnedUriRows, learnedNameRows, learnedRows}
-use Rattle.mem_layout.specs.Layout.{uriRows, nameRows, sites, workCells}
+use Rattle.mem_layout.specs.Layout.{uriRows, nameRows, sites, fragmentSite, workCells}
 use Rattle.mem_chain.specs.Chain.{lastThat, below}
 use Rattle.mem_index.specs.declared.Index.{Index}
 use Rattle.mem_index.specs.Index.{numbers, tally, hasKey, numberAt, isNumbered, Coded, Numbered}
@@ -130,7 +131,13 @@ newestFirst f (suc n) = f n ∷ newestFirst f n
 
 -- The site of a number, where rows have these names.
 unfoldable pub siteAt : (ℕ → QName Text) → ℕ → Site
-siteAt name s = cond (eqb (s % 2) 1) (tagOf (name (s / 2))) (contentOf (name (s / 2)))
+siteAt name s =
+    cond (eqb s fragmentSite) fragment
+    (cond (eqb (s % 2) 1) (tagOf (name (s / 2))) (contentOf (name (s / 2))))
+
+-- The site is the fragment's, or that of a key.
+abbrev pub SiteKnown : (ℕ → Bool) → ℕ → Type 0
+SiteKnown isKey s = (s ≡ fragmentSite → ⊥) → isKey (s / 2) ≡ true
 
 -- The names of these kinds are carried.
 unfoldable pub isNamed : Kind → Bool
@@ -149,11 +156,11 @@ learnedOf name place r =
     record { site = siteAt name (r .site); production = productionOf place r }
 
 -- The definitions' list has these rows. A row's name has the texts of the rows that named it, and
--- it and the site's are keys.
+-- it and the site's, if any, are keys.
 pub record Learns (name : ℕ → QName Text) (isKey : ℕ → Bool) (place : ℕ → ℕ → QName Placed)
     (ls : List Learned) (rs : List Taught) : Type 0 where
   pub list : ls ≡ newestFirst (λ i. learnedOf name place (rowAt rs i)) (length rs)
-  pub site : (i : ℕ) → i < length rs → isKey (siteOfRow rs i / 2) ≡ true
+  pub site : (i : ℕ) → i < length rs → SiteKnown isKey (siteOfRow rs i)
   pub key : (i : ℕ) → i < length rs → isNamed (rowAt rs i .kind) ≡ true
       → isKey (rowAt rs i .name) ≡ true
   pub named : (i : ℕ) → i < length rs → isNamed (rowAt rs i .kind) ≡ true

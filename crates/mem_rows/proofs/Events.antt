@@ -200,18 +200,18 @@ module _ (s : Settings) {w v : Rows} (refers : Refers w) (valid : Valid v) {mode
       let k = kindNumber (kindOf e) in
       cc (name-text (leaves k n b l v) v m m (leaves-names k n b l v m), map-names ns)
 
-  state-is : stateOf (modeAfter (kindNumber (kindOf e)) mode (length opened))
+  state-is : stateOf (modeAfter (s .fragment) (kindNumber (kindOf e)) mode (length opened))
       (map (nameAt (leaves (kindNumber (kindOf e)) n b l v)) (openedAfter (kindNumber (kindOf e)) n opened))
       ≡ stateAfter s (stateOf mode (map (nameAt w) opened)) e
   state-is =
-      ap (stateOf (modeAfter (kindNumber (kindOf e)) mode (length opened)))
+      ap (stateOf (modeAfter (s .fragment) (kindNumber (kindOf e)) mode (length opened)))
       (map-names (openedAfter (kindNumber (kindOf e)) n opened))
       ∙ sym (state-after s v mode n opened (h .fits) e (h .leads))
       ∙ ap (λ (qs : List (QName Text)). stateAfter s (stateOf mode qs) e) (names-kept (h .joined .kept) opened (h .opens))
 
   -- The rows that the event leaves are the context that the definitions have after it.
   pub event-context :
-      contextOf (leaves (kindNumber (kindOf e)) n b l v) store′ (modeAfter (kindNumber (kindOf e)) mode (length opened))
+      contextOf (leaves (kindNumber (kindOf e)) n b l v) store′ (modeAfter (s .fragment) (kindNumber (kindOf e)) mode (length opened))
       (openedAfter (kindNumber (kindOf e)) n opened)
       ≡ after s (contextOf w store mode opened) x (tablesOf v store′) q e
   unfolding contextOf after

@@ -48,7 +48,8 @@ length-snoc l x = omega (arith, length-append l (x ∷ []))
 fits-up : {most more : ℕ} {l : Learnt} → most ≤ more → LearntFits most l → LearntFits more l
 fits-up h f =
     record {
-      site = omega (arith, f .site);
+      site = λ n. omega (arith, f .site n);
+      alone = f .alone;
       from = f .from;
       upTo = f .upTo;
       name = omega (arith, f .name);

@@ -6,12 +6,15 @@ use mathlib.Core.Bool.{Bool, true, false, cond}
 use mathlib.Core.List.{List, [], _∷_, _++_, map}
 use lib.ListN.{length, getD}
 use lib.Dec.{eqb}
+use borrow.Author.Tests.{eqb-false}
+use Rattle.spec_fields.proofs.Tests.{split}
 use Rattle.spec_exi.specs.Event.{QName}
 use Rattle.spec_exi.specs.Tables.{Placed, Entry}
 use Rattle.spec_exi.specs.Grammar.{Production, Learned}
 use Rattle.mem_rows.specs.Rows.{Learnt, Rows, placedAt, nameAt, siteAt, carriedAt, productionOf}
 use Rattle.mem_rows.specs.Rows.{kindAt, learntAs, backward, learnedOf, grammarsOf, tagIn}
-use Rattle.mem_rows.specs.Valid.{noLearnt, learntAt, LearntFits, Refers}
+use Rattle.mem_layout.specs.Layout.{fragmentSite}
+use Rattle.mem_rows.specs.Valid.{noLearnt, learntAt, SiteFits, LearntFits, Refers}
 
 -- The names of w are those of v too, at the same rows.
 pub record Kept (w v : Rows) : Type 0 where
@@ -45,9 +48,15 @@ module _ {w v : Rows} (k : Kept w v) where
   unfolding nameAt
   name-kept n h = ap (λ (q : QName Placed). record { uri = q .uri .text; local = q .local .text }) (k .names n h)
 
+  pub site-kept : (k : ℕ) → SiteFits (length (w .names)) k → siteAt v k ≡ siteAt w k
+  unfolding siteAt
+  site-kept k f =
+      split (eqb k fragmentSite) (λ t. rw t)
+      (λ t. rw (t, name-kept (k / 2) (f (eqb-false k fragmentSite t))))
+
   pub learnt-kept : (l : Learnt) → LearntFits (length (w .names)) l → learntAs v l ≡ learntAs w l
-  unfolding learntAs productionOf carriedAt siteAt
-  learnt-kept l f = rw (name-kept (l .site / 2) (f .site), k .names (l .name) (f .name))
+  unfolding learntAs productionOf carriedAt
+  learnt-kept l f = rw (site-kept (l .site) (f .site), k .names (l .name) (f .name))
 
   pub names-kept : (ns : List ℕ) → All (λ n. n < length (w .names)) ns → map (nameAt v) ns ≡ map (nameAt w) ns
   names-kept ns a = map-same (nameAt v) (nameAt w) (λ n h. name-kept n h) a

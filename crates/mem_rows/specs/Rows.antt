@@ -11,19 +11,20 @@ use lib.Dec.{eqb}
 use Rattle.text.specs.Text.{Text}
 use Rattle.spec_exi.specs.Event.{QName, Kind, SD, ED, SE, AT, EE, CH, CM, PI}
 use Rattle.spec_exi.specs.Tables.{Placed, Entry, Tables, partition}
-use Rattle.spec_exi.specs.Grammar.{Production, Site, tagOf, contentOf, Learned, State, document}
-use Rattle.spec_exi.specs.Grammar.{docContent, docEnd, finished, startTag, elementContent, kindNumber}
-use Rattle.spec_exi.specs.Grammar.{Tag}
+use Rattle.spec_exi.specs.Grammar.{Production, Site, tagOf, contentOf, fragment, Learned, State}
+use Rattle.spec_exi.specs.Grammar.{document, docContent, docEnd, finished, fragmentContent}
+use Rattle.spec_exi.specs.Grammar.{startTag, elementContent, kindNumber, Tag}
 use Rattle.spec_exi.specs.Context.{Context}
-use Rattle.event_code.specs.Numbers.{inDocContent, inDocEnd, isOver, inTag, inElement}
+use Rattle.event_code.specs.Numbers.{inDocContent, inDocEnd, isOver, inFragment, inTag, inElement}
+use Rattle.mem_layout.specs.Layout.{fragmentSite}
 use Rattle.mem_entries.specs.Entries.{Entries, entryAt, named}
 use Rattle.mem_names.specs.Uris.{uriAt, uriText}
 
 -- ---- the rows
 
--- A learned production (EXI 8.4.3), by numbers.
+-- A learned production (EXI 8.4.2, 8.4.3), by numbers.
 pub record Learnt : Type 0 where
-  -- twice the row of the element's name, and one more in its start tag
+  -- twice the row of the element's name, and one more in its start tag; or the fragment's
   pub site : ℕ
   -- the number of its kind
   pub kind : ℕ
@@ -85,7 +86,9 @@ siteNumber n true = 2 * n + 1
 siteNumber n false = 2 * n
 
 unfoldable pub siteAt : Rows → ℕ → Site
-siteAt w k = cond (eqb (k % 2) 1) (tagOf (nameAt w (k / 2))) (contentOf (nameAt w (k / 2)))
+siteAt w k =
+    cond (eqb k fragmentSite) fragment
+    (cond (eqb (k % 2) 1) (tagOf (nameAt w (k / 2))) (contentOf (nameAt w (k / 2))))
 
 unfoldable pub carriedAt : Rows → Kind → ℕ → Option (QName Placed)
 carriedAt w k n = cond (carries k) (some (placedAt w n)) none
@@ -119,18 +122,25 @@ isAmong n (g ∷ gs) = eqb g n || isAmong n gs
 -- ---- the grammar's state, by its number and the open elements, the innermost first
 
 unfoldable pub stateOf : ℕ → List (QName Text) → State
-stateOf mode [] = getD (document ∷ docContent ∷ docEnd ∷ []) mode finished
+stateOf mode [] =
+    getD (document ∷ docContent ∷ docEnd ∷ finished ∷ fragmentContent ∷ []) mode finished
 stateOf mode (q ∷ outer) = cond (eqb mode inTag) (startTag q outer) (elementContent q outer)
 
--- The number after an event of this kind, where so many elements were open (`stateAfter`).
-unfoldable pub modeAfter : ℕ → ℕ → ℕ → ℕ
-modeAfter kind mode depth =
-    cond (eqb kind (kindNumber SD)) inDocContent
+-- The number after characters, a comment or an instruction (`inContent`).
+abbrev pub contentAfter : ℕ → ℕ
+contentAfter mode = cond (eqb mode inTag) inElement mode
+
+-- The number after an event of this kind, in a fragment or not, where so many elements were open
+-- (`stateAfter`).
+unfoldable pub modeAfter : Bool → ℕ → ℕ → ℕ → ℕ
+modeAfter isFragment kind mode depth =
+    cond (eqb kind (kindNumber SD)) (cond isFragment inFragment inDocContent)
     (cond (eqb kind (kindNumber ED)) isOver
     (cond (eqb kind (kindNumber SE)) inTag
     (cond (eqb kind (kindNumber AT)) mode
-    (cond (eqb kind (kindNumber EE)) (cond (eqb depth 1) inDocEnd inElement)
-    (cond (eqb mode inTag) inElement mode)))))
+    (cond (eqb kind (kindNumber EE))
+    (cond (eqb depth 1) (cond isFragment inFragment inDocEnd) inElement)
+    (contentAfter mode)))))
 
 -- The open elements after it, where its name has this row.
 unfoldable pub openedAfter : ℕ → ℕ → List ℕ → List ℕ

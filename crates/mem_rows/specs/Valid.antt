@@ -9,6 +9,7 @@ use Rattle.spec_exi.specs.Tables.{Placed, Entry, local, nameAllowed}
 use Rattle.mem_entries.specs.Entries.{entryAt, textAt}
 use Rattle.mem_names.specs.Uris.{uriText}
 use Rattle.event_code.specs.Numbers.{numberSE, numberAT, numberCH}
+use Rattle.mem_layout.specs.Layout.{fragmentSite}
 use Rattle.mem_rows.specs.Rows.{Learnt, Rows, nameAt, kindAt, carries}
 
 abbrev pub noLearnt : Learnt
@@ -21,10 +22,15 @@ learntAt ls i = getD ls i noLearnt
 pub record KeysBelow (most : ℕ) (es : List (Entry ℕ)) : Type 0 where
   pub below : (i : ℕ) → i < length es → entryAt es i .key < most
 
--- A learned production is SE, AT, EE or CH, stands at a site of a name that is there, AT in a start
--- tag, and carries such a name, or 0.
+-- The site is the fragment's, or that of a name that is there.
+abbrev pub SiteFits : ℕ → ℕ → Type 0
+SiteFits names k = (k ≡ fragmentSite → ⊥) → k / 2 < names
+
+-- A learned production is SE, AT, EE or CH, stands at a site that is there, AT in a start tag and SE
+-- alone in a fragment's content, and carries the name of a row, or 0.
 pub record LearntFits (names : ℕ) (l : Learnt) : Type 0 where
-  pub site : l .site / 2 < names
+  pub site : SiteFits names (l .site)
+  pub alone : l .site ≡ fragmentSite → l .kind ≡ numberSE
   pub from : numberSE ≤ l .kind
   pub upTo : l .kind ≤ numberCH
   pub tag : l .kind ≡ numberAT → l .site % 2 ≡ 1

@@ -15,7 +15,7 @@ use Rattle.spec_exi.specs.Tables.{Placed, Entry, nameText}
 use Rattle.spec_exi.specs.Grammar.{Production, kindNumber}
 use Rattle.mem_entries.specs.Entries.{entryAt, keyAt, Keys}
 use Rattle.mem_names.specs.Uris.{uriAt}
-use Rattle.mem_learned.specs.Learned.{Taught, rowAt, newestFirst, isNamed, Learns}
+use Rattle.mem_learned.specs.Learned.{Taught, rowAt, newestFirst, SiteKnown, isNamed, Learns}
 use Rattle.mem_learned.specs.Learned as cells
 use Rattle.mem_rows.specs.Rows.{Learnt, Rows, placedAt, nameAt, kindAt, carries, siteAt, carriedAt}
 use Rattle.mem_rows.specs.Rows.{productionOf, learntAs, backward, learnedOf}
@@ -146,8 +146,8 @@ module _ {w : Rows} (v : Valid w) where
   learns-of =
       record {
         list = list-is;
-        site = λ i l. by-row i l (λ r. isRow w (r .site / 2) ≡ true)
-            (lt-ltb _ (length (w .names)) (fit i l .site));
+        site = λ i l. by-row i l (λ r. SiteKnown (isRow w) (r .site))
+            (λ n. lt-ltb _ (length (w .names)) (fit i l .site n));
         key = λ i l. by-row i l (λ r. isNamed (r .kind) ≡ true → isRow w (r .name) ≡ true)
             (λ _. lt-ltb _ (length (w .names)) (fit i l .name));
         named = λ i l. by-row i l

@@ -85,8 +85,8 @@ depthAfter kind depth =
 unfoldable pub tagNumber : ℕ → ℕ → ℕ → ℕ
 tagNumber kind n tag = cond (eqb kind (kindNumber AT)) tag (n + 2)
 
-unfoldable pub turned : Core → ℕ → ℕ → ℕ → Core
-turned c kind name n =
+unfoldable pub turned : Bool → Core → ℕ → ℕ → ℕ → Core
+turned fragment c kind name n =
     record {
       at = c .at;
       stored = c .stored;
@@ -95,7 +95,7 @@ turned c kind name n =
       values = c .values;
       learned = c .learned;
       grammars = c .grammars;
-      mode = modeAfter kind (c .mode) (c .depth);
+      mode = modeAfter fragment kind (c .mode) (c .depth);
       top = topAfter kind name (c .top);
       depth = depthAfter kind (c .depth);
       tag = tagNumber kind n (c .tag);

@@ -3,7 +3,7 @@
 // specs/Commit.antt.
 ghost use mathlib.Core.Path.{_≡_};
 ghost use Prim.Native.Nat.{_<_};
-ghost use Rattle.mem_rows.specs.Rows.{modeAfter};
+ghost use Rattle.mem_rows.specs.Rows.{contentAfter, modeAfter};
 ghost use Rattle.mem_state.specs.Joining.{joining, noStrings, valuedStrings};
 ghost use Rattle.mem_state.specs.Commit.{joinedUri, joinedName, joinedValue, joinedStrings};
 ghost use Rattle.mem_state.specs.Commit.{entered, learnt, marked, grown, counted, turned};
@@ -15,6 +15,7 @@ use event_code::EE;
 use event_code::IN_DOC_CONTENT;
 use event_code::IN_DOC_END;
 use event_code::IN_ELEMENT;
+use event_code::IN_FRAGMENT;
 use event_code::IN_TAG;
 use event_code::IS_OVER;
 use event_code::SD;
@@ -247,38 +248,51 @@ pub fn count(c: Core, s: Strings, g: Growth) -> Core
     d
 }
 
-// The grammar's state after an event of this kind.
-pub fn mode_after(kind: u32, mode: u32, depth: usize) -> u32
-    ensures { λ r. ⌜ r ≡ modeAfter kind mode depth ⌝ }
+// The grammar's state after characters, a comment or an instruction.
+pub fn content_after(mode: u32) -> u32
+    ensures { λ r. ⌜ r ≡ contentAfter mode ⌝ }
+{
+    if mode == IN_TAG {
+        return IN_ELEMENT;
+    }
+    mode
+}
+
+// The grammar's state after an event of this kind, in a fragment or not.
+pub fn mode_after(fragment: bool, kind: u32, mode: u32, depth: usize) -> u32
+    ensures { λ r. ⌜ r ≡ modeAfter fragment kind mode depth ⌝ }
 {
     match kind {
-        SD => IN_DOC_CONTENT,
+        SD => {
+            if fragment {
+                return IN_FRAGMENT;
+            }
+            IN_DOC_CONTENT
+        }
         ED => IS_OVER,
         SE => IN_TAG,
         AT => mode,
         EE => {
-            if depth == 1 {
-                return IN_DOC_END;
-            }
-            IN_ELEMENT
-        }
-        _ => {
-            if mode == IN_TAG {
+            if depth != 1 {
                 return IN_ELEMENT;
             }
-            mode
+            if fragment {
+                return IN_FRAGMENT;
+            }
+            IN_DOC_END
         }
+        _ => content_after(mode),
     }
 }
 
 // State, open elements and mark after an event of this kind, whose name has this row and before
 // which so many events have come. After an end tag the top stays the ended element's.
-pub fn turn(c: Core, kind: u32, name: u32, n: usize) -> Core
+pub fn turn(fragment: bool, c: Core, kind: u32, name: u32, n: usize) -> Core
     requires { ⌜ TurnPre c kind n ⌝ }
-    ensures { λ r. ⌜ r ≡ turned c kind name n ⌝ }
+    ensures { λ r. ⌜ r ≡ turned fragment c kind name n ⌝ }
 {
     let mut d = c;
-    d.mode = mode_after(kind, c.mode, c.depth);
+    d.mode = mode_after(fragment, kind, c.mode, c.depth);
     if kind == AT {
         return d;
     }

@@ -26,7 +26,8 @@ finished-mode zero [] f = refl
 finished-mode (suc zero) [] f = refl
 finished-mode (suc (suc zero)) [] f = refl
 finished-mode (suc (suc (suc zero))) [] f = refl
-finished-mode (suc (suc (suc (suc m)))) [] f = absurd (omega (arith, f .inner (omega arith)))
+finished-mode (suc (suc (suc (suc zero)))) [] f = refl
+finished-mode (suc (suc (suc (suc (suc m))))) [] f = absurd (omega (arith, f .inner (omega arith)))
 
 module _ {work : List ℕ} {from : Stores} {c : Core} {w : Rows} {opened : List ℕ} (b : Bounded c)
     (h : Represents work from c w opened) (store : Text) where

@@ -18,13 +18,14 @@ use Rattle.mem_rows.specs.Rows.{Rows, ModeFits, modeAfter, openedAfter}
 use Rattle.mem_state.specs.declared.Core.{Core}
 use Rattle.mem_state.specs.Holds.{Bounded, Topped}
 use Rattle.mem_state.specs.Commit.{topAfter, depthAfter, turned, counted}
-use Rattle.event_code.specs.Numbers.{inTag, numberSE, numberEE}
+use Rattle.event_code.specs.Numbers.{inDocContent, inDocEnd, inFragment, inTag, inElement, numberSE}
+use Rattle.event_code.specs.Numbers.{numberEE}
 use Rattle.open_elements.specs.Opened.{Turned}
 
 -- ---- the grammar's state
 
 mode-stays : {mode depth : ℕ} → ModeFits mode depth
-    → ModeFits (cond (eqb mode inTag) 5 mode) depth
+    → ModeFits (cond (eqb mode inTag) inElement mode) depth
 mode-stays {mode} {depth} f =
     split (eqb mode inTag)
     (λ e. rw e (record {
@@ -34,34 +35,34 @@ mode-stays {mode} {depth} f =
     }))
     (λ e. rw e f)
 
-pub mode-fits : (kind : ℕ) {mode depth : ℕ} → Stands mode kind → ModeFits mode depth
-    → ModeFits (modeAfter kind mode depth) (depthAfter kind depth)
+-- Outside of every element, one of two states by the setting.
+either-fits : (fragment : Bool) (mode : ℕ) {depth : ℕ} → mode < inTag → depth ≡ 0
+    → ModeFits (cond fragment inFragment mode) depth
+either-fits true mode l z =
+    record { known = omega arith; outer = λ _. z; inner = λ h. absurd (omega arith) }
+either-fits false mode l z =
+    record { known = omega arith; outer = λ _. z; inner = λ h. absurd (omega arith) }
+
+pub mode-fits : (fragment : Bool) (kind : ℕ) {mode depth : ℕ} → Stands mode kind
+    → ModeFits mode depth → ModeFits (modeAfter fragment kind mode depth) (depthAfter kind depth)
 unfolding modeAfter depthAfter kindNumber
-mode-fits zero s f =
+mode-fits fragment zero s f =
+    either-fits fragment inDocContent (omega arith) (f .outer (s .outside (omega arith)))
+mode-fits fragment (suc zero) s f =
     record {
       known = omega arith;
       outer = λ _. f .outer (s .outside (omega arith));
       inner = λ h. absurd (omega arith);
     }
-mode-fits (suc zero) s f =
-    record {
-      known = omega arith;
-      outer = λ _. f .outer (s .outside (omega arith));
-      inner = λ h. absurd (omega arith);
-    }
-mode-fits (suc (suc zero)) s f =
+mode-fits fragment (suc (suc zero)) s f =
     record { known = omega arith; outer = λ h. absurd (omega arith); inner = λ _. omega arith }
-mode-fits (suc (suc (suc zero))) s f = f
-mode-fits (suc (suc (suc (suc zero)))) {mode} {depth} s f =
+mode-fits fragment (suc (suc (suc zero))) s f = f
+mode-fits fragment (suc (suc (suc (suc zero)))) {mode} {depth} s f =
     let d : 0 < depth = f .inner (s .inside (omega arith) (omega arith)) in
     split (eqb depth 1)
     (λ e.
     let z : depth ≡ 1 = eqb-true depth 1 e in
-    rw e (record {
-      known = omega arith;
-      outer = λ _. omega arith;
-      inner = λ h. absurd (omega arith);
-    }))
+    rw e (either-fits fragment inDocEnd (omega arith) (omega arith)))
     (λ e.
     let z : depth ≡ 1 → ⊥ = eqb-false depth 1 e in
     rw e (record {
@@ -69,10 +70,10 @@ mode-fits (suc (suc (suc (suc zero)))) {mode} {depth} s f =
       outer = λ h. absurd (omega arith);
       inner = λ _. omega (arith, z);
     }))
-mode-fits (suc (suc (suc (suc (suc zero))))) s f = mode-stays f
-mode-fits (suc (suc (suc (suc (suc (suc zero)))))) s f = mode-stays f
-mode-fits (suc (suc (suc (suc (suc (suc (suc zero))))))) s f = mode-stays f
-mode-fits (suc (suc (suc (suc (suc (suc (suc (suc k)))))))) s f = absurd (omega (arith, s .known))
+mode-fits fragment (suc (suc (suc (suc (suc zero))))) s f = mode-stays f
+mode-fits fragment (suc (suc (suc (suc (suc (suc zero)))))) s f = mode-stays f
+mode-fits fragment (suc (suc (suc (suc (suc (suc (suc zero))))))) s f = mode-stays f
+mode-fits fragment (suc (suc (suc (suc (suc (suc (suc (suc k)))))))) s f = absurd (omega (arith, s .known))
 
 -- ---- the open elements
 

@@ -228,9 +228,9 @@ module _ {work text : List ℕ} {c : Core} {w : Rows} {opened : List ℕ}
         module _ (bs : ContentBounds c (y .strings)) where
           pub fits-is : (store : Text)
               → withinGrammars sizes
-              (contextOf left store (modeAfter (g .kind) (c .mode) (c .depth))
+              (contextOf left store (modeAfter (s .fragment) (g .kind) (c .mode) (c .depth))
               (openedAfter (g .kind) (g .name) opened)) ≡ fitsIn c g
-          fits-is = update.fits-is rep b top ahead (m .joins .valid) known by (bs .name)
+          fits-is = update.fits-is rep b top ahead (m .joins .valid) known by (bs .name) (s .fragment)
 
           pub grows : fitsIn c g ≡ true → Grows (m .rows) c g
           grows = update.grows rep b top ahead (m .joins .valid) known by (bs .name) (bs .uri)
@@ -244,7 +244,7 @@ module _ {work text : List ℕ} {c : Core} {w : Rows} {opened : List ℕ}
           -- The definitions' context after the event.
           pub left-context :
               after s (contextAt text c w opened) x (v .1) (nameOf (v .0)) e
-              ≡ contextOf left (take (y .stored) text₁) (modeAfter (g .kind) (c .mode) (c .depth))
+              ≡ contextOf left (take (y .stored) text₁) (modeAfter (s .fragment) (g .kind) (c .mode) (c .depth))
               (openedAfter (g .kind) (g .name) opened)
           left-context =
               ap (λ (t : Tables). after s (contextAt text c w opened) x t (nameOf (v .0)) e)

@@ -119,23 +119,24 @@ module _ {stream events text work : List ℕ} {c : Core} {cell n : ℕ}
 
       module _ {w : Rows} {opened : List ℕ}
           (rep : Represents work (inStore text (c .stored)) c w opened) (top : Topped c opened) {v : Event Placed × Context}
-          (m : EventMeans text′ c w opened r v) where
+          (m : EventMeans (s .fragment) text′ c w opened r v) where
         step-means : c .tag ≤ n + 1 → {events′ : List ℕ}
             → events′ ≡ take cell events ++ cellsOf (meaning (r .event))
             ++ drop (cell + cellsPerEvent) events
             → StepMeans events c cell opened events′ text′
             (grown c (r .growth) (joinedStrings c (r .strings) work))
-            (coreAfter c (r .next) (r .stored) (r .strings) (r .growth) n) v
+            (coreAfter (s .fragment) c (r .next) (r .stored) (r .strings) (r .growth) n) v
         unfolding turned counted
         step-means late e =
             record {
               w = leaves (r .growth .kind) (r .growth .name) (r .growth .teaches)
                   (learntOf (r .growth)) (m .rows);
               opened′ = openedAfter (r .growth .kind) (r .growth .name) opened;
-              after = left-represents (m .joins) (m .grows) (rep .counts) (rep .opens) join-asks
+              after = left-represents (m .joins) (m .grows) (rep .counts) (rep .opens) (s .fragment) join-asks
                   (holds-grown (text-grown (pre .room) (post .laid z)) (rep .holds)) (rep .marks)
                   (m .valid) (m .named) (r .next) (r .stored) n late;
-              turned = left-turned (r .strings) after-asks (rep .opens) top (r .next) (r .stored);
+              turned = left-turned (s .fragment) (r .strings) after-asks (rep .opens) top (r .next)
+                  (r .stored);
               context = m .context;
               cells = e
                   ∙ ap (λ x. take cell events ++ cellsOf x ++ drop (cell + cellsPerEvent) events)
@@ -147,12 +148,12 @@ module _ {stream events text work : List ℕ} {c : Core} {cell n : ℕ}
           ++ drop (cell + cellsPerEvent) events
           → StepPost s stream events text work c cell n events′ text′
           (grown c (r .growth) (joinedStrings c (r .strings) work))
-          (steppedAs 0 (coreAfter c (r .next) (r .stored) (r .strings) (r .growth) n))
+          (steppedAs 0 (coreAfter (s .fragment) c (r .next) (r .stored) (r .strings) (r .growth) n))
       unfolding turned counted
       step-post {events′} e =
           let t = post .laid z in
           record {
-            bounded = after-bounded (r .next) (r .stored) after-asks join-asks
+            bounded = after-bounded (s .fragment) (r .next) (r .stored) after-asks join-asks
                 (post .bounds z .fits)
                 (omega (arith, post .bounds z .name, post .bounds z .strings .name)) stored-few;
             inside = post .inside;
@@ -177,19 +178,19 @@ module _ {stream events text work : List ℕ} {c : Core} {cell n : ℕ}
                 outcome-weaken (λ _ v m. step-means rep top m late e)
                 (subst
                 (λ k. Outcome (step sizes s (contextAt text c w opened)) stream (c .at) k (r .next)
-                (EventMeans text′ c w opened r)) z (post .meant w opened rep top));
+                (EventMeans (s .fragment) text′ c w opened r)) z (post .meant w opened rep top));
           }
 
       pub step-read : {work₁ work₂ events′ : List ℕ} {d : Core}
           → work₁ ≡ joinedStrings c (r .strings) work → work₂ ≡ grown c (r .growth) work₁
           → events′ ≡ take cell events ++ cellsOf (meaning (r .event))
           ++ drop (cell + cellsPerEvent) events
-          → d ≡ coreAfter c (r .next) (r .stored) (r .strings) (r .growth) n
+          → d ≡ coreAfter (s .fragment) c (r .next) (r .stored) (r .strings) (r .growth) n
           → StepPost s stream events text work c cell n events′ text′ work₂
           (steppedAs 0 d)
       step-read {work₁} {work₂} {events′} {d} a b e f =
           subst (λ (k : Core). StepPost s stream events text work c cell n events′ text′ work₂
           (steppedAs 0 k)) (sym f)
           (subst (λ k. StepPost s stream events text work c cell n events′ text′ k
-          (steppedAs 0 (coreAfter c (r .next) (r .stored) (r .strings) (r .growth) n)))
+          (steppedAs 0 (coreAfter (s .fragment) c (r .next) (r .stored) (r .strings) (r .growth) n)))
           (sym (b ∙ ap (grown c (r .growth)) a)) (step-post e))

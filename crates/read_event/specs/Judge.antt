@@ -112,7 +112,8 @@ pub record EventBounds (c : Core) (r : EventRead) : Type 0 where
   pub uri : r .growth .uri ≡ r .strings .«uri_row»
 
 -- v is the event and the context after it, which is that of the rows that it leaves.
-pub record EventMeans (text′ : List ℕ) (c : Core) (w : Rows) (opened : List ℕ) (r : EventRead)
+pub record EventMeans (fragment : Bool) (text′ : List ℕ) (c : Core) (w : Rows) (opened : List ℕ)
+    (r : EventRead)
     (v : Event Placed × Context) : Type 0 where
   pub rows : Rows
   pub joins : StringsJoin (inStore text′ (r .stored)) (r .strings) w rows
@@ -124,7 +125,7 @@ pub record EventMeans (text′ : List ℕ) (c : Core) (w : Rows) (opened : List 
   pub context : v .1
       ≡ contextOf
       (leaves (r .growth .kind) (r .growth .name) (r .growth .teaches) (learntOf (r .growth)) rows)
-      (take (r .stored) text′) (modeAfter (r .growth .kind) (c .mode) (c .depth))
+      (take (r .stored) text′) (modeAfter fragment (r .growth .kind) (c .mode) (c .depth))
       (openedAfter (r .growth .kind) (r .growth .name) opened)
 
 pub record EventPost (s : Settings) (stream text work : List ℕ) (c : Core) (text′ : List ℕ)
@@ -136,4 +137,4 @@ pub record EventPost (s : Settings) (stream text work : List ℕ) (c : Core) (te
   pub meant : (w : Rows) (opened : List ℕ)
       → Represents work (inStore text (c .stored)) c w opened → Topped c opened
       → Outcome (step sizes s (contextAt text c w opened)) stream (c .at) (r .number) (r .next)
-      (EventMeans text′ c w opened r)
+      (EventMeans (s .fragment) text′ c w opened r)

@@ -1,6 +1,7 @@
 -- What reading one event asks and leaves.
 use Prim.Native.Nat.{ℕ, _+_, _*_, _≤_, _<_}
 use mathlib.Core.Path.{_≡_}
+use mathlib.Core.Bool.{Bool}
 use mathlib.Core.List.{List, _++_}
 use lib.ListN.{length, take, drop}
 use Rattle.text.specs.Text.{Text}
@@ -82,8 +83,8 @@ pub record StepRefused (events text work : List ℕ) (c : Core) (events′ text�
   pub cleared : Cleared text (c .stored) text′
 
 -- Nine cells are the event's; its literals are laid after the store; its strings and its growth are
--- all that joins work memory, and the numbers are those after it.
-pub record StepLaid (events text work : List ℕ) (c : Core) (cell n : ℕ)
+-- all that joins work memory, and the numbers are those after it, in a fragment or not.
+pub record StepLaid (fragment : Bool) (events text work : List ℕ) (c : Core) (cell n : ℕ)
     (events′ text′ work′ : List ℕ) (r : Stepped) : Type 0 where
   pub row : List ℕ
   pub row-size : length row ≡ cellsPerEvent
@@ -96,7 +97,7 @@ pub record StepLaid (events text work : List ℕ) (c : Core) (cell n : ℕ)
   pub work-is : work′ ≡ grown c growth (joinedStrings c strings work)
   pub work-size : length work′ ≡ length work
   pub core-is : coreOf r
-      ≡ turned (counted (movedTo c (r .at) (r .stored)) strings growth) (growth .kind)
+      ≡ turned fragment (counted (movedTo c (r .at) (r .stored)) strings growth) (growth .kind)
       (growth .name) n
 
 -- ---- by the definitions
@@ -117,7 +118,8 @@ pub record StepPost (s : Settings) (stream events text work : List ℕ) (c : Cor
   pub bounded : Bounded (coreOf r)
   pub inside : r .at ≤ 8 * length stream
   pub refused : 0 < r .number → StepRefused events text work c events′ text′ work′ r
-  pub laid : r .number ≡ 0 → StepLaid events text work c cell n events′ text′ work′ r
+  pub laid : r .number ≡ 0
+      → StepLaid (s .fragment) events text work c cell n events′ text′ work′ r
   pub meant : (w : Rows) (opened : List ℕ)
       → Represents work (inStore text (c .stored)) c w opened → Topped c opened → c .tag ≤ n + 1
       → Outcome (step sizes s (contextAt text c w opened)) stream (c .at) (r .number)

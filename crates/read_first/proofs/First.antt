@@ -125,18 +125,18 @@ judged-fits false false e = absurd (omega arith)
 -- ---- the numbers after it
 
 -- By the kind of what it leaves in the grammars.
-pub turned-as : (c : Core) (at stored : ℕ) (s : Strings) (g : Growth) (n : ℕ) {k : ℕ}
-    {mode top depth tag : ℕ} → g .kind ≡ k → mode ≡ modeAfter k (c .mode) (c .depth)
+pub turned-as : (f : Bool) (c : Core) (at stored : ℕ) (s : Strings) (g : Growth) (n : ℕ) {k : ℕ}
+    {mode top depth tag : ℕ} → g .kind ≡ k → mode ≡ modeAfter f k (c .mode) (c .depth)
     → top ≡ topAfter k (g .name) (c .top) → depth ≡ depthAfter k (c .depth)
     → tag ≡ tagNumber k n (c .tag)
     → turnedBy c at stored (s .«new_uri») (s .«new_name») (s .«new_value») g mode top depth tag
-    ≡ coreAfter c at stored s g n
+    ≡ coreAfter f c at stored s g n
 unfolding turned counted
-turned-as c at stored s g n e m t d o =
+turned-as f c at stored s g n e m t d o =
     (λ i. turnedBy c at stored (s .«new_uri») (s .«new_name») (s .«new_value») g (m i) (t i) (d i)
     (o i))
     ∙ ap (λ k. turnedBy c at stored (s .«new_uri») (s .«new_name») (s .«new_value») g
-    (modeAfter k (c .mode) (c .depth)) (topAfter k (g .name) (c .top)) (depthAfter k (c .depth))
+    (modeAfter f k (c .mode) (c .depth)) (topAfter k (g .name) (c .top)) (depthAfter k (c .depth))
     (tagNumber k n (c .tag))) (sym e)
 
 -- Bounds are the same whatever the event's number.
@@ -161,21 +161,21 @@ module _ {events work : List ℕ} {s : Strings} {g : Growth} {c : Core} {cell n 
     pub grow-still : GrowPre work₁ c g
     grow-still = subst (λ w. GrowPre w c g) (sym e) (pre .grow)
 
-    pub added-as : {k : ℕ} → g .kind ≡ k → {x : declared.Event}
+    pub added-as : (f : Bool) {k : ℕ} → g .kind ≡ k → {x : declared.Event}
         {at stored mode top depth tag : ℕ} {work₂ events′ : List ℕ} {r : Stepped}
         → events′ ≡ take cell events ++ cellsOf (meaning x) ++ drop (cell + cellsPerEvent) events
-        → work₂ ≡ grown c g work₁ → mode ≡ modeAfter k (c .mode) (c .depth)
+        → work₂ ≡ grown c g work₁ → mode ≡ modeAfter f k (c .mode) (c .depth)
         → top ≡ topAfter k (g .name) (c .top) → depth ≡ depthAfter k (c .depth)
         → tag ≡ tagNumber k n (c .tag)
         → r
         ≡ steppedAs 0
         (turnedBy c at stored (s .«new_uri») (s .«new_name») (s .«new_value») g mode top depth tag)
-        → Added x s g at stored events work c cell n events′ work₂ r
-    added-as k {x} {at} {stored} a b m t d o r =
+        → Added f x s g at stored events work c cell n events′ work₂ r
+    added-as f k {x} {at} {stored} a b m t d o r =
         record {
           cells = a;
           work-is = b ∙ ap (grown c g) e;
-          is = r ∙ ap (steppedAs 0) (turned-as c at stored s g n k m t d o);
+          is = r ∙ ap (steppedAs 0) (turned-as f c at stored s g n k m t d o);
         }
 
 -- ---- the step
@@ -266,7 +266,7 @@ module _ {s : Settings} {stream events text work : List ℕ} {c : Core} {cell n 
               }
 
           pub first-read : {events′ work′ : List ℕ} {r : Stepped}
-              → Added (y .event) (y .strings) g (y .next) (y .stored) events work c cell n events′
+              → Added (s .fragment) (y .event) (y .strings) g (y .next) (y .stored) events work c cell n events′
               work′ r
               → StepPost s stream events text work c cell n events′ text₁ work′ r
           first-read {events′} {work′} a =

@@ -93,10 +93,10 @@ module _ {events work : List ℕ} {c : Core} {cell n : ℕ} {p : ProductionRead}
       let z : 0 ≡ c .stored - c .stored = omega arith in
       subst (λ n. text ≡ laidAt text (c .stored) (replicate n 0)) z (laid-none text (c .stored))
 
-  pub end-refused : 0 < m → TagPost events work c cell n p events work (steppedAs m c)
-  end-refused h =
+  pub end-refused : (fragment : Bool) → 0 < m → TagPost fragment events work c cell n p events work (steppedAs m c)
+  end-refused fragment h =
       record {
-        steps = λ s stream text pre code.
+        steps = λ s same-setting stream text pre code.
             first-refused pre (first pre code) (content pre code) refl same j h
             (record { text-is = none-laid text; is = refl });
       }
@@ -119,25 +119,27 @@ module _ {events work : List ℕ} {c : Core} {cell n : ℕ} {p : ProductionRead}
         name = omega (arith, name-left work room (tag .bounded) (kindNumber EE) is);
       }
 
-  pub end-read : m ≡ 0 → {work′ events′ : List ℕ} {mode mark : ℕ} {r : Stepped}
+  pub end-read : (fragment : Bool) → m ≡ 0 → {work′ events′ : List ℕ} {mode mark : ℕ} {r : Stepped}
       → events′ ≡ take cell events ++ cellsOf (meaning EndElement)
       ++ drop (cell + cellsPerEvent) events
-      → work′ ≡ grown c g work → mode ≡ modeAfter (kindNumber EE) (c .mode) (c .depth)
+      → work′ ≡ grown c g work → mode ≡ modeAfter fragment (kindNumber EE) (c .mode) (c .depth)
       → mark ≡ n + 2
       → r ≡ steppedAs 0 (turnedBy c (p .next) (c .stored) false false false g mode (c .top)
       (c .depth - 1) mark)
-      → TagPost events work c cell n p events′ work′ r
+      → TagPost fragment events work c cell n p events′ work′ r
   unfolding joinedStrings joinedUri joinedName joinedValue kindNumber topAfter depthAfter tagNumber
-  end-read o a b d t r =
+  end-read fragment o a b d t r =
       record {
-        steps = λ s stream text pre code.
+        steps = λ s same-setting stream text pre code.
             first-read pre (first pre code) (content pre code) refl same j o
             (record {
               cells = a;
               work-is = b;
               is = r
                   ∙ ap (steppedAs 0)
-                  (turned-as c (p .next) (c .stored) noStrings g n
-                  (kind-left work room (tag .bounded) (kindNumber EE) is) d refl refl t);
+                  (turned-as (s .fragment) c (p .next) (c .stored) noStrings g n
+                  (kind-left work room (tag .bounded) (kindNumber EE) is)
+                  (d ∙ ap (λ b. modeAfter b (kindNumber EE) (c .mode) (c .depth)) (sym same-setting))
+                  refl refl t);
             });
       }

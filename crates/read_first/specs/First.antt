@@ -91,11 +91,11 @@ pub record AddPre (events work : List ℕ) (s : Strings) (g : Growth) (c : Core)
   pub grow : GrowPre (joinedStrings c s work) c g
   pub after : AfterPre c g n
 
--- It is stored, its rows are added, and these are the numbers after it.
-pub record Added (e : declared.Event) (s : Strings) (g : Growth) (at stored : ℕ)
+-- It is stored, its rows are added, and these are the numbers after it, in a fragment or not.
+pub record Added (fragment : Bool) (e : declared.Event) (s : Strings) (g : Growth) (at stored : ℕ)
     (events work : List ℕ) (c : Core) (cell n : ℕ) (events′ work′ : List ℕ) (r : Stepped) :
     Type 0 where
   pub cells : events′
       ≡ take cell events ++ cellsOf (meaning e) ++ drop (cell + cellsPerEvent) events
   pub work-is : work′ ≡ grown c g (joinedStrings c s work)
-  pub is : r ≡ steppedAs 0 (coreAfter c at stored s g n)
+  pub is : r ≡ steppedAs 0 (coreAfter fragment c at stored s g n)

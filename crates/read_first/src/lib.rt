@@ -3,7 +3,7 @@
 // functions ask and leave is in specs/First.antt.
 ghost use Prim.Native.Nat.{_-_, _≤_};
 ghost use mathlib.Core.Path.{_≡_};
-ghost use mathlib.Core.Bool.{false};
+ghost use mathlib.Core.Bool.{Bool, false};
 ghost use lib.ListN.{length};
 ghost use Rattle.settings.specs.Meant.{settingsFrom};
 ghost use Rattle.spec_exi.specs.Event.{CH, EE};
@@ -121,15 +121,16 @@ fn add_characters(
         AddPre (now events) (now work) (valuedStrings noStrings (c .top) (joiningOf x)) g c cell
         n ⌝ }
     ensures { λ r. ⌜
-        Added (Characters (partOf x)) (valuedStrings noStrings (c .top) (joiningOf x)) g (x .next)
-        (x .stored) (now (events .entry)) (now (work .entry)) c cell n (now (events .exit))
-        (now (work .exit)) r ⌝ }
+        ((fragment : Bool) → Added fragment (Characters (partOf x))
+        (valuedStrings noStrings (c .top) (joiningOf x)) g (x .next) (x .stored)
+        (now (events .entry)) (now (work .entry)) c cell n (now (events .exit))
+        (now (work .exit)) r) ⌝ }
 {
     let value = read_qname::part_of(x);
     event::store(Event::Characters(value), events, cell);
     mem_state::join_value(work, c.values, c.top, x.joins, x.place, x.size, x.hash);
     mem_state::grow(work, c, g);
-    let mode = mem_state::mode_after(CH, c.mode, c.depth);
+    let mode = mem_state::content_after(c.mode);
     let tag = read_known::next_tag(n);
     moved(
         c,
@@ -188,8 +189,9 @@ pub fn first_characters(
 
 // ---- the end tag
 
-// Reads the end tag of an element whose start tag is open.
+// Reads the end tag of an element whose start tag is open, in a fragment or not.
 pub fn first_end(
+    fragment: bool,
     p: ProductionRead,
     c: Core,
     cell: usize,
@@ -201,7 +203,7 @@ pub fn first_end(
     requires { ⌜ workCells ≤ length (now work) ⌝ }
     requires { ⌜ p .learned ≡ false ⌝ }
     ensures { λ r. ⌜
-        TagPost (now (events .entry)) (now (work .entry)) c cell n p (now (events .exit))
+        TagPost fragment (now (events .entry)) (now (work .entry)) c cell n p (now (events .exit))
         (now (work .exit)) r ⌝ }
 {
     let g = growth(c, EE, 0, 0, work);
@@ -211,7 +213,7 @@ pub fn first_end(
     }
     event::store(Event::EndElement, events, cell);
     mem_state::grow(work, c, g);
-    let mode = mem_state::mode_after(EE, c.mode, c.depth);
+    let mode = mem_state::mode_after(fragment, EE, c.mode, c.depth);
     let tag = read_known::next_tag(n);
     moved(
         c,

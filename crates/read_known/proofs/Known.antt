@@ -45,15 +45,15 @@ abbrev pub knownStrings : Joining → ℕ → ℕ → ℕ → Strings
 knownStrings x uri name owner = asStrings noJoining noJoining x uri name owner
 
 -- An event with such strings, that teaches nothing.
-pub moved-core : (c : Core) (at stored : ℕ) (x : Joining) (uri name owner : ℕ) (enters : Bool)
+pub moved-core : (f : Bool) (c : Core) (at stored : ℕ) (x : Joining) (uri name owner : ℕ) (enters : Bool)
     (site kind named of n : ℕ)
-    → movedOn c at stored (x .joins) enters (modeAfter kind (c .mode) (c .depth))
+    → movedOn c at stored (x .joins) enters (modeAfter f kind (c .mode) (c .depth))
     (topAfter kind named (c .top)) (depthAfter kind (c .depth)) (tagNumber kind n (c .tag))
-    ≡ coreAfter c at stored
+    ≡ coreAfter f c at stored
     (knownStrings x uri name owner)
     (record { enters = enters; teaches = false; site = site; kind = kind; name = named; uri = of }) n
 unfolding turned counted
-moved-core c at stored x uri name owner enters site kind named of n =
+moved-core f c at stored x uri name owner enters site kind named of n =
     λ t. record {
       at = at;
       stored = stored;
@@ -62,7 +62,7 @@ moved-core c at stored x uri name owner enters site kind named of n =
       values = c .values + cond (x .joins) 1 0;
       learned = plus-none (c .learned) t;
       grammars = c .grammars + cond enters 1 0;
-      mode = modeAfter kind (c .mode) (c .depth);
+      mode = modeAfter f kind (c .mode) (c .depth);
       top = topAfter kind named (c .top);
       depth = depthAfter kind (c .depth);
       tag = tagNumber kind n (c .tag);
@@ -169,7 +169,7 @@ module _ {s : Settings} {stream events text work : List ℕ} {c : Core} {cell n 
           → work′ ≡ grown c g (joinedStrings c (y .strings) work)
           → events′ ≡ take cell events ++ cellsOf (meaning (y .event))
           ++ drop (cell + cellsPerEvent) events
-          → d ≡ coreAfter c (y .next) (y .stored) (y .strings) g n
+          → d ≡ coreAfter (s .fragment) c (y .next) (y .stored) (y .strings) g n
           → StepPost s stream events text work c cell n events′ text₁ work′ (steppedAs 0 d)
       quick-read i a e d =
           step-read pre (event-read asks (code .post) (code .good) content z judged i) refl refl a e

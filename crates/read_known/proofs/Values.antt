@@ -18,7 +18,7 @@ use Rattle.event.specs.declared.Event.the-variants.{Attribute, Characters}
 use Rattle.event.specs.Cells.{cellsOf, meaning}
 use Rattle.mem_layout.specs.Layout.{nameRows}
 use Rattle.mem_marks.specs.Marks.{markedIn, withMark}
-use Rattle.mem_rows.specs.Rows.{placedAt, modeAfter}
+use Rattle.mem_rows.specs.Rows.{placedAt, contentAfter, modeAfter}
 use Rattle.mem_state.specs.declared.Core.{Core}
 use Rattle.mem_state.specs.Commit as commit
 use Rattle.mem_state.specs.Commit.{joinedUri, joinedName, joinedValue, joinedStrings, entered}
@@ -167,7 +167,7 @@ module _ {s : Settings} {stream events text work : List ℕ} {c : Core} {cell n 
         refl w
         (stored e
         (i ∙ ap (Attribute (uriPart work (p .uri)) (localPart work (p .local))) u))
-        (moved-core c (x .next) (x .stored) (joiningOf x) (p .uri) (p .name) (p .name) false
+        (moved-core (s .fragment) c (x .next) (x .stored) (joiningOf x) (p .uri) (p .name) (p .name) false
         (siteIn (c .mode) (c .top)) 3 (p .name) (p .uri) n)
 
   -- ---- characters
@@ -185,12 +185,12 @@ module _ {s : Settings} {stream events text work : List ℕ} {c : Core} {cell n 
     pub characters-stepped : x .number ≡ 0 → {v : Part} {work′ events′ : List ℕ}
         {mode tag : ℕ} → v ≡ partOf x → events′ ≡ withEvent events cell (Characters v)
         → work′ ≡ joinedValue (c .values) (c .top) (joiningOf x) work
-        → mode ≡ modeAfter (kindNumber CH) (c .mode) (c .depth) → tag ≡ n + 2
+        → mode ≡ contentAfter (c .mode) → tag ≡ n + 2
         → StepPost s stream events text work c cell n events′ text₁ work′
         (steppedAs 0
         (movedOn c (x .next) (x .stored) (x .joins) false mode (c .top) (c .depth) tag))
     unfolding growthOf fitsIn judgeNumber grown learnt entered marked
-        joinedStrings joinedUri joinedName topAfter depthAfter tagNumber kindNumber
+        joinedStrings joinedUri joinedName modeAfter topAfter depthAfter tagNumber kindNumber
     characters-stepped z u e w m t =
         quick-read pre code
         (characters-read (content-pre pre code) (as-set post) joins (kind-is CH kind) kind z) refl
@@ -198,5 +198,5 @@ module _ {s : Settings} {stream events text work : List ℕ} {c : Core} {cell n 
         (growth-by work c (knownStrings (joiningOf x) 0 0 (c .top)) kind learned) refl
         w (stored e (ap Characters u))
         ((λ i. movedOn c (x .next) (x .stored) (x .joins) false (m i) (c .top) (c .depth) (t i))
-        ∙ moved-core c (x .next) (x .stored) (joiningOf x) 0 0 (c .top) false
+        ∙ moved-core (s .fragment) c (x .next) (x .stored) (joiningOf x) 0 0 (c .top) false
         (siteIn (c .mode) (c .top)) 5 0 0 n)

@@ -18,7 +18,6 @@ ghost use Rattle.read_known.specs.Known.{uriPart, localPart, movedOn, Le
 ghost use Rattle.read_known.specs.Known.{AttributePost};
 use event::Event;
 use event::Part;
-use event_code::CH;
 use mem_state::Core;
 use read_event::Stepped;
 use read_production::ProductionRead;
@@ -217,7 +216,7 @@ pub fn known_characters(
     let value = read_qname::part_of(x);
     event::store(Event::Characters(value), events, cell);
     mem_state::join_value(work, c.values, c.top, x.joins, x.place, x.size, x.hash);
-    let mode = mem_state::mode_after(CH, c.mode, c.depth);
+    let mode = mem_state::content_after(c.mode);
     let tag = next_tag(n);
     moved_on(
         c,

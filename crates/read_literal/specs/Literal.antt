@@ -21,7 +21,14 @@ use Rattle.read_literal.specs.Awaits.{Waits}
 
 -- Settings do not matter to a code point as yet: these stand for any.
 abbrev pub base : Settings
-base = record { alignment = bitPacked; cookie = false; comments = false; instructions = false }
+base =
+    record {
+      alignment = bitPacked;
+      cookie = false;
+      comments = false;
+      instructions = false;
+      fragment = false;
+    }
 
 -- Bounds alone: a position in a stream, and room in the store.
 pub record LiteralFit (stream : List ℕ) (at : ℕ) (text : List ℕ) (stored : ℕ) : Type 0 where

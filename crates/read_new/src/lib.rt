@@ -3,6 +3,7 @@
 // ask and leave is in specs/New.antt.
 ghost use Prim.Native.Nat.{ℕ, _<_};
 ghost use mathlib.Core.Path.{_≡_};
+ghost use mathlib.Core.Bool.{Bool};
 ghost use Rattle.settings.specs.Meant.{settingsFrom};
 ghost use Rattle.spec_exi.specs.Sizes.{maxEvents};
 ghost use Rattle.spec_exi.specs.Event.{SE, AT};
@@ -53,9 +54,9 @@ fn add_element(
     requires { ⌜ g .name ≡ l .row ⌝ }
     requires { ⌜ AddPre (now events) (now work) (elementStrings u l) g c cell n ⌝ }
     ensures { λ r. ⌜
-        Added (StartElement (partOf u) (partOf l)) (elementStrings u l) g (l .next) (l .stored)
-        (now (events .entry)) (now (work .entry)) c cell n (now (events .exit)) (now (work .exit))
-        r ⌝ }
+        ((fragment : Bool) → Added fragment (StartElement (partOf u) (partOf l))
+        (elementStrings u l) g (l .next) (l .stored) (now (events .entry)) (now (work .entry)) c
+        cell n (now (events .exit)) (now (work .exit)) r) ⌝ }
 {
     let uri = read_qname::part_of(u);
     let local = read_qname::part_of(l);
@@ -140,9 +141,10 @@ fn add_attribute(
     requires { ⌜ g .kind ≡ kindNumber AT ⌝ }
     requires { ⌜ AddPre (now events) (now work) (attributeStrings u l x) g c cell 0 ⌝ }
     ensures { λ r. ⌜
-        ((n : ℕ) → n < maxEvents → Added (Attribute (partOf u) (partOf l) (partOf x))
-        (attributeStrings u l x) g (x .next) (x .stored) (now (events .entry)) (now (work .entry)) c
-        cell n (now (events .exit)) (now (work .exit)) r) ⌝ }
+        ((n : ℕ) → n < maxEvents → (fragment : Bool) → Added fragment
+        (Attribute (partOf u) (partOf l) (partOf x)) (attributeStrings u l x) g (x .next)
+        (x .stored) (now (events .entry)) (now (work .entry)) c cell n (now (events .exit))
+        (now (work .exit)) r) ⌝ }
 {
     let uri = read_qname::part_of(u);
     let local = read_qname::part_of(l);

@@ -26,7 +26,7 @@ use Rattle.grammar_match.specs.Codes.{Strict}
 use Rattle.grammar_match.proofs.Here.{inner-here}
 use Rattle.grammar_match.proofs.Unfit.{number-kind}
 use Rattle.grammar_match.proofs.Codes.{fixed-strict, fixed-other, learned-strict}
-use Rattle.event_code.specs.Numbers.{inTag}
+use Rattle.event_code.specs.Numbers.{inFragment}
 use Rattle.read_production.specs.declared.ProductionRead.{ProductionRead}
 use Rattle.read_production.specs.Answers.{fixedAs}
 use Rattle.read_production.specs.Learned.{IsLearned}
@@ -60,7 +60,7 @@ module _ {work : List ℕ} {learned mode top : ℕ} {w : Rows} {opened : List �
 
   -- ---- a learned production
 
-  module _ (l : inTag ≤ mode) {v : ℕ} {r : ProductionRead} (g : IsLearned w (siteIn mode top) v r)
+  module _ (l : inFragment ≤ mode) {v : ℕ} {r : ProductionRead} (g : IsLearned w (siteIn mode top) v r)
       (y : r .learned ≡ true) where
     abbrev row : Learnt
     row = g .row

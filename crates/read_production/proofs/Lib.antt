@@ -4,3 +4,4 @@ pub mod Unlearned
 pub mod Rows
 pub mod Codes
 pub mod Returns
+pub mod Between

@@ -22,14 +22,14 @@ use Rattle.grammar_codes.proofs.Fixed.{fixed-outer, fixed-inner, own-count, own
 use Rattle.read_field.specs.View.{NumberIn}
 use Rattle.mem_learned.specs.Learned.{Sited, CountedAt}
 use Rattle.mem_rows.specs.Rows.{Rows, contextOf}
-use Rattle.mem_rows.specs.Valid.{Valid}
+use Rattle.mem_rows.specs.Valid.{SiteFits, Valid}
 use Rattle.read_contract.specs.Outcome.{Outcome}
 use Rattle.read_contract.proofs.Outcome.{refused-outcome}
 use Rattle.grammar_match.specs.Here.{siteIn, CodeRows, learnedHere}
-use Rattle.grammar_match.proofs.Here.{site-half, site-low, count-asks, count-inside, levels-here}
-use Rattle.grammar_match.proofs.Here.{outer-here, inner-here, top-row, table-empty}
+use Rattle.grammar_match.proofs.Here.{site-fits, site-low, count-asks, count-inside, levels-here}
+use Rattle.grammar_match.proofs.Here.{outer-here, inner-here, table-empty}
 use Rattle.grammar_match.proofs.Codes.{count-is}
-use Rattle.event_code.specs.Numbers.{inTag, inElement}
+use Rattle.event_code.specs.Numbers.{inFragment, inTag, inElement}
 use Rattle.read_production.specs.declared.ProductionRead.{ProductionRead}
 use Rattle.read_production.specs.Answers.{refusedAs, fixedAs}
 use Rattle.read_production.specs.Levels.{PartRead, FixedPre, FixedRead, FixedAt, ownCount}
@@ -69,7 +69,7 @@ module _ {stream : List ℕ} {at top learned : ℕ} {work : List ℕ}
 
 -- ---- what is left
 
-outcome-at : {p : Parser Code} {stream : List ℕ} {at n q q′ : ℕ} {good : Code → Type 0} → n ≡ 0
+pub outcome-at : {p : Parser Code} {stream : List ℕ} {at n q q′ : ℕ} {good : Code → Type 0} → n ≡ 0
     → q′ ≡ q → Outcome p stream at 0 q good → Outcome p stream at n q′ good
 outcome-at {p} {stream} {at} {q = q} {q′} {good} e f o =
     subst (λ m. Outcome p stream at m q′ good) (sym e)
@@ -87,7 +87,7 @@ module _ (s : Settings) (mode : ℕ) {stream : List ℕ} {at top learned : ℕ} 
   t = tableOf (s .comments) (s .instructions) mode
 
   -- A refusal.
-  refused-post : {n : ℕ} → 0 < n → Meant (refusedAs n at)
+  pub refused-post : {n : ℕ} → 0 < n → Meant (refusedAs n at)
       → ProductionPost s stream at mode top learned work (refusedAs n at)
   refused-post l meant =
       record {
@@ -98,7 +98,7 @@ module _ (s : Settings) (mode : ℕ) {stream : List ℕ} {at top learned : ℕ} 
       }
 
   -- A production that is not learned.
-  fixed-post : {kind next : ℕ} → next ≤ 8 * length stream → Stands mode kind
+  pub fixed-post : {kind next : ℕ} → next ≤ 8 * length stream → Stands mode kind
       → Meant (fixedAs kind next)
       → ProductionPost s stream at mode top learned work (fixedAs kind next)
   fixed-post l stands meant =
@@ -120,7 +120,7 @@ module _ (s : Settings) (mode : ℕ) {stream : List ℕ} {at top learned : ℕ} 
   -- A production that is not learned, or a refusal, by the levels of a table.
   module _ {ls : List (List Kind)} {next : ℕ} {d : ProductionRead}
       (f : FixedRead s mode ls stream next at d) where
-    fixed-all : ((w : Rows) (store : Text) (opened : List ℕ) → Valid w
+    pub fixed-all : ((w : Rows) (store : Text) (opened : List ℕ) → Valid w
         → CodeRows work learned mode top w opened
         → Outcome (readCode (s .alignment) (levelsIn s (contextOf w store mode opened))) stream at
         (d .number) (d .next) (IsCode s w store mode opened (fixedAs (d .kind) (d .next))))
@@ -140,15 +140,16 @@ module _ (s : Settings) (mode : ℕ) {stream : List ℕ} {at top learned : ℕ} 
         (refused-post l (λ w store opened valid rows.
         refused-outcome (o w store opened valid rows .refused l))))
 
-  -- ---- outside an element
+  -- ---- where nothing is learned
 
-  pub outer-read : mode < inTag → {d : ProductionRead} → FixedAt s mode stream at at d
+  pub outer-read : mode < inFragment → {d : ProductionRead} → FixedAt s mode stream at at d
       → ProductionPost s stream at mode top learned work d
   outer-read l {d} f =
       fixed-all f (λ w store opened valid rows.
       let e : learnedHere w mode opened ≡ [] = outer-here rows l in
       let o = subst (λ ls. Outcome (readCode (s .alignment) (leveled ls)) stream at (d .number)
-      (d .next) (FixedCode ls (d .kind))) (fixed-outer (s .comments) (s .instructions) l)
+      (d .next) (FixedCode ls (d .kind)))
+      (fixed-outer (s .comments) (s .instructions) (omega arith))
       (f .outcome) in
       let same : levelsIn s (contextOf w store mode opened) ≡ leveled t =
       levels-here rows s store ∙ ap (λ ps. withLearned ps t) e ∙ unlearned t in
@@ -172,7 +173,7 @@ module _ (s : Settings) (mode : ℕ) {stream : List ℕ} {at top learned : ℕ} 
     module _ {w : Rows} {opened : List ℕ} (valid : Valid w)
         (rows : CodeRows work learned mode top w opened) where
       learned-count : count ≡ length (learnedHere w mode opened)
-      learned-count = count-is valid rows (count-inside inner e counted)
+      learned-count = count-is valid rows (count-inside (omega arith) e counted)
 
       own-is : own ≡ length (getD t 0 [])
       own-is = o ∙ own-count (s .comments) (s .instructions) inner (rows .fits .known)
@@ -256,7 +257,7 @@ module _ (s : Settings) (mode : ℕ) {stream : List ℕ} {at top learned : ℕ} 
                     outside = λ a. absurd (omega (arith, i .from));
                     inside = λ _ _. inner;
                   };
-              inner = λ _. record { element = inner; from = i .from; upTo = i .upTo };
+              inner = λ _. record { learns = omega arith; from = i .from; upTo = i .upTo };
               plain = λ y. absurd (true≢false (sym (k .read x .0) ∙ y));
               name = i .name;
               uri = i .uri;
@@ -265,16 +266,17 @@ module _ (s : Settings) (mode : ℕ) {stream : List ℕ} {at top learned : ℕ} 
 
         learned-meant : Meant d
         learned-meant w store opened valid rows =
+            let learns : inFragment ≤ mode = omega arith in
             let m = k .means w valid (rows .hold)
-            (omega (arith, e, site-half mode top, top-row rows inner)) counted b in
+            (subst (SiteFits (length (w .names))) (sym e) (site-fits rows learns)) counted b in
             let x = subst (λ n. IsLearned w n value d) e m in
             let (y, there) = k .read (x .number) in
             rw (levels-here rows s store)
             (outcome-at (x .number) there
             (table-learned (learnedHere w mode opened) z t
             (table-empty rows (s .comments) (s .instructions)) (first valid rows)
-            (ap (λ ps. getElem? ps value) (inner-here rows inner) ∙ x .there)
-            (learned-is valid rows s store inner x y)))
+            (ap (λ ps. getElem? ps value) (inner-here rows learns) ∙ x .there)
+            (learned-is valid rows s store learns x y)))
 
         pub inner-learned : ProductionPost s stream at mode top learned work d
         inner-learned =

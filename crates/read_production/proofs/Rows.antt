@@ -20,7 +20,7 @@ use Rattle.mem_learned.specs.declared.Production as cell
 use Rattle.mem_learned.proofs.Sites.{learned-nth, learned-there}
 use Rattle.mem_rows.specs.Rows.{Rows, siteAt}
 use Rattle.mem_rows.specs.Rows.{productionOf, learnedOf}
-use Rattle.mem_rows.specs.Valid.{learntAt, Valid}
+use Rattle.mem_rows.specs.Valid.{learntAt, SiteFits, Valid}
 use Rattle.mem_state.specs.Holds.{taughtOf, taughtIn}
 use Rattle.mem_state.proofs.Taught.{keys-of, site-same}
 use Rattle.mem_state.proofs.Taught.{taught-count, taught-row, learns-of}
@@ -28,7 +28,9 @@ use Rattle.grammar_match.proofs.Unfit.{kind-number}
 use Rattle.grammar_match.proofs.Rows.{site-key, production-is, first-is}
 use Rattle.event_code.specs.Numbers.{numberSE, numberCH}
 use Rattle.read_production.specs.Answers.{refusedAs}
-use Rattle.read_production.specs.Learned.{LearnedPre, IsLearned, LearnedRead}
+use Rattle.mem_layout.specs.Layout.{fragmentSite}
+use Rattle.read_production.specs.declared.ProductionRead.{ProductionRead}
+use Rattle.read_production.specs.Learned.{LearnedPre, IsLearned, LearnedRead, ChildRead}
 
 -- ---- the one of a site that has v newer ones
 
@@ -36,7 +38,7 @@ module _ {w : Rows} (valid : Valid w) where
   abbrev rs : List Taught
   rs = taughtIn w
 
-  module _ (site : ℕ) (there : site / 2 < length (w .names)) where
+  module _ (site : ℕ) (there : SiteFits (length (w .names)) site) where
     module _ {work : List ℕ} {learned : ℕ} (hold : LearnedHold work learned rs) {count v : ℕ}
         (counted : CountedAt work site count) (l : v < count) {r : ℕ}
         (nth : NthLearned work site count v learned r) where
@@ -125,6 +127,7 @@ module _ {w : Rows} (valid : Valid w) where
                 number = refl;
                 row = learntAt (w .learned) (r - 1);
                 fit = valid .refers .learned (r - 1) low;
+                site-is = site-is;
                 kind = kind-read;
                 name = is .name ∙ ap (λ (t : Taught). t .name) row-is;
                 uri = is .uriRow ∙ ap (λ (t : Taught). t .uriRow) row-is;
@@ -149,7 +152,7 @@ module _ {work : List ℕ} {site learned : ℕ} (h : LearnedPre work site learne
 module _ {work : List ℕ} {site count v learned r : ℕ}
     (nth : NthLearned work site count v learned r) (at next : ℕ) where
   refused-as : ((w : Rows) → Valid w → LearnedHold work learned (taughtIn w)
-      → site / 2 < length (w .names) → CountedAt work site count → v < count → ⊥)
+      → SiteFits (length (w .names)) site → CountedAt work site count → v < count → ⊥)
       → LearnedRead work site count v learned at next (refusedAs numberCode at)
   unfolding numberOf
   refused-as never =
@@ -211,3 +214,29 @@ module _ {work : List ℕ} {site count v learned r : ℕ}
               };
           means = λ w x hold there counted l. is-learned x site there hold counted l nth n g next;
         }
+
+-- ---- in a fragment's content
+
+-- SE alone is learned there.
+pub child-other : {work : List ℕ} {count v learned at next : ℕ} {r : ProductionRead}
+    → LearnedRead work fragmentSite count v learned at next r → numberSE < r .kind
+    → ChildRead work count v learned at next (refusedAs numberCode at)
+unfolding numberOf
+child-other k other =
+    record {
+      learned-read = record {
+        refused = λ _. refl;
+        read = λ z. absurd (omega arith);
+        bounds = λ z. absurd (omega arith);
+        means = λ w x hold there counted l.
+            let m = k .means w x hold there counted l in
+            absurd (omega (arith, m .kind, m .fit .alone (m .site-is)));
+      };
+      element = λ z. absurd (omega arith);
+    }
+
+pub child-read : {work : List ℕ} {count v learned at next : ℕ} {r : ProductionRead}
+    → LearnedRead work fragmentSite count v learned at next r → r .kind ≤ numberSE
+    → ChildRead work count v learned at next r
+child-read k low =
+    record { learned-read = k; element = λ z. omega (arith, k .bounds z .from) }

@@ -13,7 +13,7 @@ use Rattle.spec_exi.specs.Grammar.{Production, Code, kindNumber, fits, firstFit
 use Rattle.spec_exi.specs.Grammar.{sameCode}
 use Rattle.spec_exi.specs.Context.{levelsIn}
 use Rattle.spec_exi.specs.Reader.{readCode}
-use Rattle.event_code.specs.Numbers.{numberSE, numberCH, inTag}
+use Rattle.event_code.specs.Numbers.{numberSE, numberCH, inFragment}
 use Rattle.grammar_codes.specs.Table.{Stands}
 use Rattle.mem_layout.specs.Layout.{uriRows, nameRows, workCells}
 use Rattle.mem_entries.specs.Entries.{keyAt}
@@ -42,9 +42,9 @@ pub record Nameless (r : ProductionRead) : Type 0 where
   pub uri : r .uri ≡ 0
   pub local : r .local ≡ 0
 
--- A learned production stands in an element, and is SE, AT, EE or CH.
+-- A learned production stands where something is learned, and is SE, AT, EE or CH.
 pub record Inner (mode : ℕ) (r : ProductionRead) : Type 0 where
-  pub element : inTag ≤ mode
+  pub learns : inFragment ≤ mode
   pub from : numberSE ≤ r .kind
   pub upTo : r .kind ≤ numberCH
 

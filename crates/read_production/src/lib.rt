@@ -1,18 +1,23 @@
-// An event code (EXI 6.2, 8.4.3), read to the production that it names. Memory is not written, and
+// An event code (EXI 6.2, 8.4), read to the production that it names. Memory is not written, and
 // every function is safe and ends on any memory. What the functions ask and leave is in specs/.
+ghost use Prim.Native.Nat.{ℕ, _<_};
 ghost use mathlib.Core.Path.{_≡_};
 ghost use Rattle.read_field.specs.View.{alignmentOf, NumberIn};
 ghost use Rattle.settings.specs.Meant.{settingsFrom};
+ghost use Rattle.event_code.specs.Numbers.{inFragment, inTag};
+ghost use Rattle.mem_layout.specs.Layout.{nameRows, fragmentSite};
 ghost use Rattle.read_production.specs.Levels.{PartRead, FixedPre, KeptRead, FixedAt};
 ghost use Rattle.read_production.specs.Levels.{ownCount};
-ghost use Rattle.read_production.specs.Learned.{LearnedPre, LearnedRead};
+ghost use Rattle.read_production.specs.Learned.{LearnedPre, LearnedRead, ChildRead};
 ghost use Rattle.read_production.specs.Answers.{refusedAs, fixedAs};
 ghost use Rattle.read_production.specs.Production.{ProductionPre, ProductionPost};
 use event_code::CH;
 use event_code::EE;
 use event_code::IN_ELEMENT;
+use event_code::IN_FRAGMENT;
 use event_code::IN_TAG;
 use event_code::SE;
+use mem_layout::FRAGMENT_SITE;
 use read_field::Field;
 use refusal::CODE;
 use settings::Settings;
@@ -164,6 +169,76 @@ fn read_learned(
     }
 }
 
+// The same of a fragment's content, where SE alone is learned.
+fn read_child(
+    count: u32,
+    v: u32,
+    learned: u32,
+    at: usize,
+    next: usize,
+    work: &[u32],
+) -> ProductionRead
+    requires { ⌜ LearnedPre (now work) fragmentSite learned ⌝ }
+    ensures { λ r. ⌜ ChildRead (now (work .entry)) count v learned at next r ⌝ }
+{
+    let r = read_learned(FRAGMENT_SITE, count, v, learned, at, next, work);
+    if SE < r.kind {
+        return refused(CODE, at);
+    }
+    r
+}
+
+// Reads an event code in a fragment's content (EXI 8.4.2).
+fn read_between(
+    o: Settings,
+    stream: &[u8],
+    at: usize,
+    learned: u32,
+    work: &[u32],
+) -> ProductionRead
+    requires { ⌜ ProductionPre (now stream) at 0 learned (now work) ⌝ }
+    ensures { λ r. ⌜
+        ((top : ℕ) → top < nameRows → ProductionPost (settingsFrom o) (now (stream .entry)) at
+        inFragment top learned (now (work .entry)) r) ⌝ }
+{
+    let count = mem_learned::count_at(work, FRAGMENT_SITE);
+    let last = count + grammar_codes::fixed_count(IN_FRAGMENT);
+    let on = grammar_codes::leads_on(IN_FRAGMENT, o.comments, o.instructions);
+    let p = read_part(o.aligned, stream, at, last + on);
+    if p.number != 0 {
+        return refused(p.number, at);
+    }
+    if p.value < count {
+        return read_child(count, p.value, learned, at, p.next, work);
+    }
+    if p.value < last {
+        let kind = grammar_codes::fixed_kind(IN_FRAGMENT, p.value - count);
+        return fixed(kind, p.next);
+    }
+    read_kept(o, stream, p.next, at)
+}
+
+// Reads an event code outside of every element.
+fn read_outer(
+    o: Settings,
+    stream: &[u8],
+    at: usize,
+    mode: u32,
+    learned: u32,
+    work: &[u32],
+) -> ProductionRead
+    requires { ⌜ ProductionPre (now stream) at 0 learned (now work) ⌝ }
+    requires { ⌜ mode < inTag ⌝ }
+    ensures { λ r. ⌜
+        ((top : ℕ) → top < nameRows → ProductionPost (settingsFrom o) (now (stream .entry)) at
+        mode top learned (now (work .entry)) r) ⌝ }
+{
+    if mode == IN_FRAGMENT {
+        return read_between(o, stream, at, learned, work);
+    }
+    read_fixed(o, stream, at, at, mode)
+}
+
 // Productions of an element's first level that are not learned: in its content, the end tag.
 fn own_count(mode: u32) -> u32
     ensures { λ r. ⌜ r ≡ ownCount mode ⌝ }
@@ -191,7 +266,7 @@ pub fn read_production(
         (now (work .entry)) r ⌝ }
 {
     if mode < IN_TAG {
-        return read_fixed(o, stream, at, at, mode);
+        return read_outer(o, stream, at, mode, learned, work);
     }
     let site = grammar_match::site_in(mode, top);
     let count = mem_learned::count_at(work, site);

@@ -240,7 +240,7 @@ module _ {s : Settings} {stream events text work : List ℕ} {st : State} {first
       -- ---- one event more
 
       module _ (z : r .number ≡ 0) where
-        laid : StepLaid events′ text′ work′ (t .core) (cellsPerEvent * n) n events″ text″ work″ r
+        laid : StepLaid (s .fragment) events′ text′ work′ (t .core) (cellsPerEvent * n) n events″ text″ work″ r
         laid = p .laid z
 
         -- These cells of the array are the open elements after the event.
@@ -293,7 +293,7 @@ module _ {s : Settings} {stream events text work : List ℕ} {st : State} {first
                 omega (
                   arith,
                   ap (λ (k : Core). k .tag) (laid .core-is),
-                  after-late (t .core) (r .at) (r .stored) (laid .strings) g n (before .late),
+                  after-late (s .fragment) (t .core) (r .at) (r .stored) (laid .strings) g n (before .late),
                 )
 
             -- The innermost is a row of a name.

@@ -42,7 +42,7 @@ fn general(
     mem_state::grow(work, c, r.growth);
     let event = r.event;
     event::store(event, events, cell);
-    let d = grammar_update::after(c, r.next, r.stored, r.strings, r.growth, n);
+    let d = grammar_update::after(o.fragment, c, r.next, r.stored, r.strings, r.growth, n);
     read_event::answer(0, d)
 }
 
@@ -69,7 +69,7 @@ fn learned(
         SE => read_tags::known_element(p, c, cell, n, events, work),
         AT => read_known::known_attribute(o.aligned, stream, p, c, cell, events, text, work),
         CH => read_known::known_characters(o.aligned, stream, p, c, cell, n, events, text, work),
-        _ => read_tags::known_end(p, c, cell, n, events),
+        _ => read_tags::known_end(o.fragment, p, c, cell, n, events),
     }
 }
 
@@ -92,15 +92,15 @@ fn fixed(
         (now (work .entry)) c cell n (now (events .exit)) (now (text .exit)) (now (work .exit)) r ⌝ }
 {
     if (p.kind == EE) & (c.mode == IN_ELEMENT) {
-        return read_tags::end_tag(p, c, cell, n, events, work);
+        return read_tags::end_tag(o.fragment, p, c, cell, n, events, work);
     }
     let kind = p.kind;
     match kind {
-        SD => read_tags::start_document(p, c, cell, n, events),
+        SD => read_tags::start_document(o.fragment, p, c, cell, n, events),
         ED => read_tags::end_document(p, c, cell, n, events),
         SE => read_new::new_element(o, stream, p, c, cell, n, events, text, work),
         AT => read_new::new_attribute(o, stream, p, c, cell, events, text, work),
-        EE => read_first::first_end(p, c, cell, n, events, work),
+        EE => read_first::first_end(o.fragment, p, c, cell, n, events, work),
         CH => read_first::first_characters(o, stream, p, c, cell, n, events, text, work),
         _ => general(o, stream, p, c, cell, n, events, text, work),
     }

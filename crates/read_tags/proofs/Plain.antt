@@ -1,12 +1,13 @@
 -- The answers of the quick steps of events without strings.
-use Prim.Native.Nat.{ℕ, _+_, _-_, _<_}
+use Prim.Native.Nat.{ℕ, _+_, _-_, _≤_, _<_}
 use native.Mathlib.Omega.{arith}
 use mathlib.Core.Path.{_≡_, refl, sym, ap, subst, _∙_}
-use mathlib.Core.Bool.{Bool, true, false, cond, _&&_, not, true≢false}
+use mathlib.Core.Bool.{Bool, true, false, cond, _&&_, not, true≢false, and-false}
 use mathlib.Core.List.{List, _++_}
 use lib.ListN.{take, drop}
-use lib.Dec.{eqb, leb}
-use borrow.Author.Tests.{eq-eqb, ne-eqb}
+use lib.Dec.{eqb, leb, ltb}
+use borrow.Author.Tests.{eq-eqb, ne-eqb, ltb-true, ltb-false}
+use Rattle.spec_fields.proofs.Tests.{split}
 use Rattle.spec_fields.specs.Refusal.{numberOf, loose}
 use Rattle.spec_exi.specs.Sizes.{maxOpen, maxGrammars, maxLearned, cellsPerEvent}
 use Rattle.spec_exi.specs.Settings.{Settings}
@@ -17,7 +18,7 @@ use Rattle.spec_exi.specs.Reader.{readContent}
 use Rattle.event.specs.declared.Event as declared
 use Rattle.event.specs.declared.Event.the-variants.{StartDocument, EndDocument, EndElement}
 use Rattle.event.specs.Cells.{cellsOf, meaning}
-use Rattle.event_code.specs.Numbers.{teachesIn, inTag, inElement}
+use Rattle.event_code.specs.Numbers.{teachesIn, inFragment, inTag, inElement, numberED, numberSE}
 use Rattle.mem_marks.specs.Marks.{withMark}
 use Rattle.mem_learned.specs.Grammars.{flagIn}
 use Rattle.mem_rows.specs.Rows.{carries, modeAfter}
@@ -28,7 +29,7 @@ use Rattle.mem_state.specs.Commit.{joinedUri, joinedName, joinedValue, joinedSt
 use Rattle.mem_state.specs.Commit.{learnt, marked, grown, topAfter, depthAfter, tagNumber}
 use Rattle.grammar_match.specs.Here.{siteIn}
 use Rattle.grammar_match.specs.Found.{FoundHere}
-use Rattle.grammar_match.proofs.Found.{found-outside}
+use Rattle.grammar_match.proofs.Found.{found-outside, found-low}
 use Rattle.grammar_update.specs.Growth.{growthOf, fitsIn}
 use Rattle.read_production.specs.declared.ProductionRead.{ProductionRead}
 use Rattle.read_content.specs.Contents.{plainAs, ContentPost}
@@ -100,7 +101,7 @@ module _ {s : Settings} {stream events text work : List ℕ} {c : Core} {cell n 
   unfolding marked
   unmarked = sym (ap (λ b. cond b (withMark work (c .tag) 0) work) free)
 
-  bare-stepped : {mode depth : ℕ} → mode ≡ modeAfter (kindNumber k) (c .mode) (c .depth)
+  bare-stepped : {mode depth : ℕ} → mode ≡ modeAfter (s .fragment) (kindNumber k) (c .mode) (c .depth)
       → depth ≡ depthAfter (kindNumber k) (c .depth) → {events′ : List ℕ} {r : Stepped}
       → Stored e (p .next) mode depth events c cell n events′ r
       → StepPost s stream events text work c cell n events′ text work r
@@ -111,7 +112,7 @@ module _ {s : Settings} {stream events text work : List ℕ} {c : Core} {cell n 
       (quick-read pre code content refl (other-allowed work (c .tag) 0 kind free) (plain .strict)
       growth-is passes unmarked (h .cells)
       ((λ t. movedOn c (p .next) (c .stored) false false (m t) (top-same t) (d t) (tag-next t))
-      ∙ moved-core c (p .next) (c .stored) noJoining 0 0 0 false (siteIn (c .mode) (c .top))
+      ∙ moved-core (s .fragment) c (p .next) (c .stored) noJoining 0 0 0 false (siteIn (c .mode) (c .top))
       (kindNumber k) 0 0 n))
 
 -- What is stored, by the mark after it.
@@ -140,38 +141,41 @@ some-open pre =
 
 module _ {events : List ℕ} {c : Core} {cell n : ℕ} {p : ProductionRead} {events′ : List ℕ}
     {r : Stepped} where
-  pub end-stepped : TagPre EE events c cell n p → {mode : ℕ}
-      → mode ≡ modeAfter (kindNumber EE) (c .mode) (c .depth)
+  pub end-stepped : (fragment : Bool) → TagPre EE events c cell n p → {mode : ℕ}
+      → mode ≡ modeAfter fragment (kindNumber EE) (c .mode) (c .depth)
       → Stored EndElement (p .next) mode (c .depth - 1) events c cell n events′ r
-      → PlainPost events c cell n p events′ r
+      → PlainPost fragment events c cell n p events′ r
   unfolding kindNumber readContent meaning mapEvent kindOf carries depthAfter
-  end-stepped pre m h =
+  end-stepped fragment pre m h =
       record {
-        steps = λ s stream text work q code plain.
+        steps = λ s same stream text work q code plain.
             bare-stepped q code EE (pre .kind) refl refl plain
             (bare-read (content-pre q code) EndElement endElement EE (kind-is EE (pre .kind)) refl
-            refl refl (λ s t st n. refl)) m refl h;
+            refl refl (λ s t st n. refl))
+            (m ∙ ap (λ b. modeAfter b (kindNumber EE) (c .mode) (c .depth)) (sym same)) refl h;
       }
 
-  pub start-stepped : TagPre SD events c cell n p
-      → Stored StartDocument (p .next) 1 (c .depth) events c cell n events′ r
-      → PlainPost events c cell n p events′ r
-  unfolding kindNumber readContent meaning mapEvent kindOf carries depthAfter modeAfter
-  start-stepped pre h =
+  pub start-stepped : (fragment : Bool) → TagPre SD events c cell n p → {mode : ℕ}
+      → mode ≡ modeAfter fragment (kindNumber SD) (c .mode) (c .depth)
+      → Stored StartDocument (p .next) mode (c .depth) events c cell n events′ r
+      → PlainPost fragment events c cell n p events′ r
+  unfolding kindNumber readContent meaning mapEvent kindOf carries depthAfter
+  start-stepped fragment pre m h =
       record {
-        steps = λ s stream text work q code plain.
+        steps = λ s same stream text work q code plain.
             bare-stepped q code SD (pre .kind) refl refl plain
             (bare-read (content-pre q code) StartDocument startDocument SD (kind-is SD (pre .kind))
-            refl refl refl (λ s t st n. refl)) refl refl h;
+            refl refl refl (λ s t st n. refl))
+            (m ∙ ap (λ b. modeAfter b (kindNumber SD) (c .mode) (c .depth)) (sym same)) refl h;
       }
 
-  pub over-stepped : TagPre ED events c cell n p
+  pub over-stepped : (fragment : Bool) → TagPre ED events c cell n p
       → Stored EndDocument (p .next) 3 (c .depth) events c cell n events′ r
-      → PlainPost events c cell n p events′ r
+      → PlainPost fragment events c cell n p events′ r
   unfolding kindNumber readContent meaning mapEvent kindOf carries depthAfter modeAfter
-  over-stepped pre h =
+  over-stepped fragment pre h =
       record {
-        steps = λ s stream text work q code plain.
+        steps = λ s same stream text work q code plain.
             bare-stepped q code ED (pre .kind) refl refl plain
             (bare-read (content-pre q code) EndDocument endDocument ED (kind-is ED (pre .kind)) refl
             refl refl (λ s t st n. refl)) refl refl h;
@@ -188,24 +192,29 @@ plain-learned {c = c} {p} l =
       untaught = ap (λ b. not b && teachesIn (c .mode) (p .kind)) l;
     }
 
--- Those outside of elements.
+-- Start and end of a document or a fragment.
 pub plain-outside : {work : List ℕ} {c : Core} {p : ProductionRead} → p .learned ≡ false
-    → c .mode < inTag → Plain work c p
+    → c .mode < inTag → p .kind ≤ numberED → Plain work c p
 unfolding teachesIn
-plain-outside {work} {c} {p} f low =
+plain-outside {work} {c} {p} f low kind =
     let tag : eqb (c .mode) inTag ≡ false = ne-eqb (c .mode) inTag (λ e. omega (arith, low, e)) in
     let content : eqb (c .mode) inElement ≡ false =
     ne-eqb (c .mode) inElement (λ e. omega (arith, low, e)) in
+    let other : eqb (p .kind) numberSE ≡ false =
+    ne-eqb (p .kind) numberSE (λ e. omega (arith, kind, e)) in
     record {
       strict = record {
         learned = λ l. absurd (true≢false (sym l ∙ f));
         fixed = λ _. record {
           row = 0;
-          found = found-outside (c .top) (p .kind) 0 (c .learned) low;
+          found = split (ltb (c .mode) inFragment)
+              (λ t. found-outside (c .top) (p .kind) 0 (c .learned) (ltb-true (c .mode) inFragment t))
+              (λ t. found-low (c .top) (p .kind) 0 (c .learned) (ltb-false (c .mode) inFragment t)
+              (omega (arith, kind)));
           is = refl;
         };
       };
-      untaught = rw (f, tag, content);
+      untaught = rw (f, tag, content, other) (and-false (eqb (c .mode) inFragment));
     }
 
 -- ---- the end tag in an element's content
@@ -226,11 +235,12 @@ module _ {events work : List ℕ} {c : Core} {cell n : ℕ} {p : ProductionRead}
       }
 
   pub end-loose : (row ≡ 0 → ⊥)
-      → TagPost events work c cell n p events work (steppedAs (numberOf loose) c)
+      → (fragment : Bool)
+      → TagPost fragment events work c cell n p events work (steppedAs (numberOf loose) c)
   unfolding kindNumber readContent meaning mapEvent kindOf carries judgeNumber numberOf
-  end-loose some =
+  end-loose some fragment =
       record {
-        steps = λ s stream text q code.
+        steps = λ s same stream text q code.
             quick-stopped q code
             (bare-read (content-pre q code) EndElement endElement EE (kind-is EE (pre .kind)) refl
             refl refl (λ s t st n. refl)) refl (other-allowed work (c .tag) 0 (pre .kind) refl)
@@ -238,13 +248,14 @@ module _ {events work : List ℕ} {c : Core} {cell n : ℕ} {p : ProductionRead}
             refl;
       }
 
-  pub end-strict : row ≡ 0 → c .mode ≡ inElement → {events′ : List ℕ} {r : Stepped}
-      → PlainPost events c cell n p events′ r → TagPost events work c cell n p events′ work r
+  pub end-strict : row ≡ 0 → c .mode ≡ inElement → {fragment : Bool} {events′ : List ℕ}
+      {r : Stepped}
+      → PlainPost fragment events c cell n p events′ r → TagPost fragment events work c cell n p events′ work r
   unfolding kindNumber teachesIn
   end-strict none inside h =
       record {
-        steps = λ s stream text q code.
-            h .steps s stream text work q code
+        steps = λ s same stream text q code.
+            h .steps s same stream text work q code
             (record {
               strict = looks false (sym (ap not (eq-eqb row 0 none)));
               untaught =

@@ -17,6 +17,7 @@ use Rattle.event.specs.declared.Event as declared
 use Rattle.event.specs.declared.Event.the-variants.{StartElement}
 use Rattle.event.specs.Cells.{cellsOf, meaning}
 use Rattle.mem_learned.specs.Grammars.{flagIn}
+use Rattle.event_code.specs.Numbers.{inTag}
 use Rattle.mem_rows.specs.Rows.{placedAt, modeAfter}
 use Rattle.mem_state.specs.declared.Core.{Core}
 use Rattle.mem_state.specs.declared.Strings.{Strings}
@@ -97,30 +98,30 @@ module _ {events : List ℕ} (work : List ℕ) {c : Core} {cell n : ℕ} {p : Pr
       (not (not (flagIn work (p .name)) && leb maxGrammars (c .grammars)))
       ∙ ap (hasRoom (c .depth) (c .grammars)) (sym enters-is) ∙ sym room-is
 
-  pub element-limit : not room ≡ true
-      → TagPost events work c cell n p events work (steppedAs (numberOf limit) c)
+  pub element-limit : (fragment : Bool) → not room ≡ true
+      → TagPost fragment events work c cell n p events work (steppedAs (numberOf limit) c)
   unfolding judgeNumber numberOf kindNumber
-  element-limit full =
+  element-limit fragment full =
       record {
-        steps = λ s stream text pre code.
+        steps = λ s same stream text pre code.
             quick-stopped pre code (content pre code) refl
             (other-allowed work (c .tag) (p .name) (tag .kind) refl) (known-strict learned)
             (growth-by work c strings (tag .kind) learned) (numberOf limit)
             (ap (judgeNumber false) (fits-is ∙ not-true room full)) (omega arith) refl;
       }
 
-  pub element-stepped : not room ≡ false → {f : declared.Event} {work′ events′ : List ℕ}
+  pub element-stepped : (fragment : Bool) → not room ≡ false → {f : declared.Event} {work′ events′ : List ℕ}
       → f ≡ StartElement (uriPart work (p .uri)) (localPart work (p .local))
       → events′ ≡ take cell events ++ cellsOf (meaning f) ++ drop (cell + cellsPerEvent) events
       → work′ ≡ entered enters (p .name) work → {m : ℕ} → m ≡ n + 2
-      → TagPost events work c cell n p events′ work′
+      → TagPost fragment events work c cell n p events′ work′
       (steppedAs 0
-      (movedOn c (p .next) (c .stored) false enters 4 (p .name) (c .depth + 1) m))
+      (movedOn c (p .next) (c .stored) false enters inTag (p .name) (c .depth + 1) m))
   unfolding judgeNumber growthOf grown learnt marked joinedStrings joinedUri joinedName joinedValue
       modeAfter topAfter depthAfter tagNumber kindNumber
-  element-stepped left {f} {work′} {events′} e i w h =
+  element-stepped fragment left {f} {work′} {events′} e i w h =
       record {
-        steps = λ s stream text pre code.
+        steps = λ s same stream text pre code.
             quick-read pre code (content pre code) refl
             (other-allowed work (c .tag) (p .name) (tag .kind) refl) (known-strict learned)
             (growth-by work c strings (tag .kind) learned)
@@ -129,8 +130,8 @@ module _ {events : List ℕ} (work : List ℕ) {c : Core} {cell n : ℕ} {p : Pr
             (i
             ∙ ap (λ (x : declared.Event). take cell events ++ cellsOf (meaning x)
             ++ drop (cell + cellsPerEvent) events) e)
-            ((λ t. movedOn c (p .next) (c .stored) false (enters-is t) 4 (p .name) (c .depth + 1)
+            ((λ t. movedOn c (p .next) (c .stored) false (enters-is t) inTag (p .name) (c .depth + 1)
             (h t))
-            ∙ moved-core c (p .next) (c .stored) noJoining (p .uri) (p .name) (p .name)
+            ∙ moved-core (s .fragment) c (p .next) (c .stored) noJoining (p .uri) (p .name) (p .name)
             (not (flagIn work (p .name))) (siteIn (c .mode) (c .top)) 2 (p .name) (p .uri) n);
       }

@@ -3,7 +3,7 @@
 // functions ask and leave is in specs/Tags.antt.
 ghost use Prim.Native.Nat.{_+_, _≤_, _<_};
 ghost use mathlib.Core.Path.{_≡_};
-ghost use mathlib.Core.Bool.{true, false};
+ghost use mathlib.Core.Bool.{Bool, true, false};
 ghost use lib.ListN.{length};
 ghost use Rattle.spec_exi.specs.Sizes.{cellsPerEvent, maxEvents};
 ghost use Rattle.spec_exi.specs.Event.{SD, ED, SE, EE};
@@ -17,9 +17,9 @@ ghost use Rattle.read_known.specs.Known.{uriPart, localPart};
 ghost use Rattle.read_tags.specs.Tags.{hasRoom, TagPre, Stored, PlainPost, TagPost};
 use event::Event;
 use event_code::EE;
-use event_code::IN_DOC_CONTENT;
 use event_code::IN_TAG;
 use event_code::IS_OVER;
+use event_code::SD;
 use mem_state::Core;
 use read_event::Stepped;
 use read_production::ProductionRead;
@@ -65,8 +65,8 @@ pub fn known_element(
     requires { ⌜ workCells ≤ length (now work) ⌝ }
     requires { ⌜ p .learned ≡ true ⌝ }
     ensures { λ r. ⌜
-        TagPost (now (events .entry)) (now (work .entry)) c cell n p (now (events .exit))
-        (now (work .exit)) r ⌝ }
+        ((fragment : Bool) → TagPost fragment (now (events .entry)) (now (work .entry)) c cell n p
+        (now (events .exit)) (now (work .exit)) r) ⌝ }
 {
     let enters = !mem_learned::has_grammar(work, p.name);
     if !has_room(c.depth, c.grammars, enters) {
@@ -113,12 +113,19 @@ fn bare(
     read_known::moved_on(c, at, c.stored, false, false, mode, c.top, depth, tag)
 }
 
-// An end tag.
-pub fn known_end(p: ProductionRead, c: Core, cell: usize, n: usize, events: &mut [u32]) -> Stepped
+// An end tag, in a fragment or not.
+pub fn known_end(
+    fragment: bool,
+    p: ProductionRead,
+    c: Core,
+    cell: usize,
+    n: usize,
+    events: &mut [u32],
+) -> Stepped
     requires { ⌜ TagPre EE (now events) c cell n p ⌝ }
-    ensures { λ r. ⌜ PlainPost (now (events .entry)) c cell n p (now (events .exit)) r ⌝ }
+    ensures { λ r. ⌜ PlainPost fragment (now (events .entry)) c cell n p (now (events .exit)) r ⌝ }
 {
-    let mode = mem_state::mode_after(EE, c.mode, c.depth);
+    let mode = mem_state::mode_after(fragment, EE, c.mode, c.depth);
     bare(
         Event::EndElement,
         p.next,
@@ -133,6 +140,7 @@ pub fn known_end(p: ProductionRead, c: Core, cell: usize, n: usize, events: &mut
 
 // The end tag in an element's content, by a production that is not learned.
 pub fn end_tag(
+    fragment: bool,
     p: ProductionRead,
     c: Core,
     cell: usize,
@@ -145,17 +153,18 @@ pub fn end_tag(
     requires { ⌜ p .learned ≡ false ⌝ }
     requires { ⌜ c .mode ≡ inElement ⌝ }
     ensures { λ r. ⌜
-        TagPost (now (events .entry)) (now (work .entry)) c cell n p (now (events .exit))
+        TagPost fragment (now (events .entry)) (now (work .entry)) c cell n p (now (events .exit))
         (now (work .entry)) r ⌝ }
 {
     if grammar_match::find_learned(c.mode, c.top, EE, 0, c.learned, work) != 0 {
         return read_event::answer(LOOSE, c);
     }
-    known_end(p, c, cell, n, events)
+    known_end(fragment, p, c, cell, n, events)
 }
 
-// The document's start.
+// The start of a document or a fragment.
 pub fn start_document(
+    fragment: bool,
     p: ProductionRead,
     c: Core,
     cell: usize,
@@ -163,12 +172,13 @@ pub fn start_document(
     events: &mut [u32],
 ) -> Stepped
     requires { ⌜ TagPre SD (now events) c cell n p ⌝ }
-    ensures { λ r. ⌜ PlainPost (now (events .entry)) c cell n p (now (events .exit)) r ⌝ }
+    ensures { λ r. ⌜ PlainPost fragment (now (events .entry)) c cell n p (now (events .exit)) r ⌝ }
 {
+    let mode = mem_state::mode_after(fragment, SD, c.mode, c.depth);
     bare(
         Event::StartDocument,
         p.next,
-        IN_DOC_CONTENT,
+        mode,
         c.depth,
         c,
         cell,
@@ -177,7 +187,7 @@ pub fn start_document(
     )
 }
 
-// The document's end.
+// The end of a document or a fragment.
 pub fn end_document(
     p: ProductionRead,
     c: Core,
@@ -186,7 +196,9 @@ pub fn end_document(
     events: &mut [u32],
 ) -> Stepped
     requires { ⌜ TagPre ED (now events) c cell n p ⌝ }
-    ensures { λ r. ⌜ PlainPost (now (events .entry)) c cell n p (now (events .exit)) r ⌝ }
+    ensures { λ r. ⌜
+        ((fragment : Bool) → PlainPost fragment (now (events .entry)) c cell n p
+        (now (events .exit)) r) ⌝ }
 {
     bare(
         Event::EndDocument,

@@ -29,9 +29,16 @@ settingsMeant s =
       cookie = eqb (s .cookie) 1;
       comments = eqb (s .comments) 1;
       instructions = eqb (s .instructions) 1;
+      fragment = eqb (s .fragment) 1;
     }
 
 -- The definitions' settings.
 unfoldable pub settingsFrom : Settings → format.Settings
 settingsFrom o =
-    record { alignment = alignmentOf (o .aligned); cookie = o .cookie; comments = o .comments; instructions = o .instructions }
+    record {
+      alignment = alignmentOf (o .aligned);
+      cookie = o .cookie;
+      comments = o .comments;
+      instructions = o .instructions;
+      fragment = o .fragment;
+    }

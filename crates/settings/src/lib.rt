@@ -3,8 +3,8 @@ ghost use mathlib.Core.Path.{_≡_};
 ghost use Rattle.spec_exi.specs.Settings.{meaningful};
 ghost use Rattle.settings.specs.Meant.{numbersOf, settingsMeant};
 
-// All 0 is the base. Alignment 1 is byte-aligned; cookie, comments and instructions are 1 for yes.
-// The others are reserved: no number but 0 has a meaning yet.
+// All 0 is the base. Alignment 1 is byte-aligned; cookie, comments, instructions and fragment are 1
+// for yes. The others are reserved: no number but 0 has a meaning yet.
 #[repr(C)]
 pub struct SettingNumbers {
     pub alignment: u32,
@@ -24,6 +24,7 @@ pub struct Settings {
     pub cookie: bool,
     pub comments: bool,
     pub instructions: bool,
+    pub fragment: bool,
 }
 
 // Whether each number has a meaning.
@@ -34,7 +35,7 @@ pub fn are_meaningful(s: SettingNumbers) -> bool
         & (s.cookie <= 1)
         & (s.comments <= 1)
         & (s.instructions <= 1)
-        & (s.fragment == 0)
+        & (s.fragment <= 1)
         & (s.value_length == 0)
         & (s.value_capacity == 0)
         & (s.loose == 0)
@@ -50,5 +51,6 @@ pub fn settings_of(s: SettingNumbers) -> Settings
         cookie: s.cookie == 1,
         comments: s.comments == 1,
         instructions: s.instructions == 1,
+        fragment: s.fragment == 1,
     }
 }

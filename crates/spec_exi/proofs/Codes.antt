@@ -23,6 +23,7 @@ use Rattle.spec_exi.specs.Settings.{Settings}
 use Rattle.spec_exi.specs.Tables.{Placed}
 use Rattle.spec_exi.specs.Grammar.{Production, unnamed, kindNumber, fitsName, fits, State}
 use Rattle.spec_exi.specs.Grammar.{document, docContent, docEnd, finished, startTag}
+use Rattle.spec_exi.specs.Grammar.{fragmentContent, fragment}
 use Rattle.spec_exi.specs.Grammar.{elementContent, Learned, Site, tagOf, contentOf, eqSite}
 use Rattle.spec_exi.specs.Grammar.{siteOf, learnedIn, learnedAt, kept, levelsWith, levels}
 use Rattle.spec_exi.specs.Grammar.{allEmpty, choices, Code, atLevel, below, codeBits, raised}
@@ -358,6 +359,7 @@ unfolding oneFits levels levelsWith kept learnedAt siteOf allowed fits unnamed k
 coded-allowed s ls document = agree (simp coding)
 coded-allowed s ls docContent = agree (simp coding)
 coded-allowed s ls docEnd = agree (simp coding)
+coded-allowed s ls fragmentContent = agree (simp coding)
 coded-allowed s ls finished = agree (simp coding)
 coded-allowed s ls (startTag q outer) = agree (simp coding)
 coded-allowed s ls (elementContent q outer) = agree (simp coding)
@@ -423,6 +425,17 @@ permits s (contentOf q) k =
       | CM ↦ s .comments
       | PI ↦ s .instructions
     ]
+permits s fragment k =
+    elim k [
+      | SD ↦ false
+      | ED ↦ true
+      | SE ↦ true
+      | AT ↦ false
+      | EE ↦ false
+      | CH ↦ false
+      | CM ↦ s .comments
+      | PI ↦ s .instructions
+    ]
 
 abbrev Decides : Settings → State → Site → Type 0
 Decides s st k = (e : Event Text) → allowed s st e ≡ permits s k (kindOf e)
@@ -432,6 +445,7 @@ unfolding siteOf allowed permits
 site-decides s document = tt
 site-decides s docContent = tt
 site-decides s docEnd = tt
+site-decides s fragmentContent = λ e. refl
 site-decides s finished = tt
 site-decides s (startTag q outer) = λ e. refl
 site-decides s (elementContent q outer) = λ e. refl
@@ -442,6 +456,11 @@ permits-same s (tagOf p) (tagOf q) x t = refl
 permits-same s (tagOf p) (contentOf q) x t = absurd t
 permits-same s (contentOf p) (tagOf q) x t = absurd t
 permits-same s (contentOf p) (contentOf q) x t = refl
+permits-same s (tagOf p) fragment x t = absurd t
+permits-same s (contentOf p) fragment x t = absurd t
+permits-same s fragment (tagOf q) x t = absurd t
+permits-same s fragment (contentOf q) x t = absurd t
+permits-same s fragment fragment x t = refl
 
 -- What an event teaches fits only events that the shape allows.
 pub learned-ok-after : (s : Settings) (ls : List Learned) (st : State) (x : Code) (e : Event Text)

@@ -25,6 +25,7 @@ use Rattle.spec_exi.specs.Grammar.{openElements, eqSite, siteOf, learned
 use Rattle.spec_exi.specs.Grammar.{levelsWith, levels, allEmpty, choices, atLevel, below}
 use Rattle.spec_exi.specs.Grammar.{codeBits, raised, firstFit, codeOr, codeOf, sameCode}
 use Rattle.spec_exi.specs.Grammar.{hasKind, teaches, taught, learn, hasName, withGrammar}
+use Rattle.spec_exi.specs.Grammar.{outermost}
 use Rattle.spec_exi.specs.Grammar.{grammarsAfter, inContent, closed, stateAfter, emptyTag}
 use Rattle.spec_exi.specs.Grammar.{isAttribute, attributeName, withAttribute, tagAfter, isNew}
 use Rattle.spec_exi.specs.Grammar.{tagAllows, isFinished}
@@ -65,7 +66,7 @@ unfolding bitsOf valueOf each unpack octetsFrom octetsFor pack allZero isPadding
     unnamed kindNumber
     isWildcard fitsName fits openElements eqSite siteOf learnedIn learnedAt kept levelsWith levels
     allEmpty choices atLevel below codeBits raised firstFit codeOr codeOf sameCode hasKind teaches
-    taught learn hasName withGrammar grammarsAfter inContent closed stateAfter
+    taught learn hasName withGrammar grammarsAfter inContent outermost closed stateAfter
     emptyTag isAttribute attributeName withAttribute tagAfter isNew tagAllows isFinished start
     levelsIn item characterRole nameItems items afterItem afterItems after entryOf entriesOf
     afterCode next contextAfter itemBits itemsBits codedBits eventBits listBits strict every

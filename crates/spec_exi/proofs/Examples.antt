@@ -28,6 +28,8 @@ use Rattle.spec_exi.specs.Examples.Attributes.{equalWritten}
 use Rattle.spec_exi.specs.Examples.Names.{InitialNames, afterComment, afterInstruction}
 use Rattle.spec_exi.specs.Examples.Names.{before, namesRead, textsRead, element, keeping}
 use Rattle.spec_exi.specs.Examples.Names.{namesWritten, namesInOrder}
+use Rattle.spec_exi.specs.Examples.Fragments.{inPieces, fragmentsRead, pieced}
+use Rattle.spec_exi.specs.Examples.Fragments.{fragmentsWritten}
 use Rattle.spec_exi.specs.Examples.Pieces.{Tell, pieces}
 use Rattle.spec_exi.specs.Examples.All.{WorkedExamples}
 use Rattle.spec_exi.proofs.Definitions.{definitions}
@@ -148,6 +150,14 @@ names-in-order : WrittenUnder namesInOrder
 unfolding definitions sizesAs only at keeping namesInOrder
 names-in-order = record { answers = refl }
 
+fragments-read : Hold fragmentsRead
+unfolding definitions inPieces fragmentsRead
+fragments-read = record { answers = refl; strictForms = same-streams fragmentsRead tt }
+
+fragments-written : Written fragmentsWritten
+unfolding definitions at inUri named writtenFor inPieces pieced fragmentsWritten
+fragments-written = record { answers = refl }
+
 pieces-told : Tell pieces
 unfolding definitions pieces
 pieces-told = record { replies = refl }
@@ -178,5 +188,7 @@ worked-examples =
       texts-read = texts-read;
       names-written = names-written;
       names-in-order = names-in-order;
+      fragments-read = fragments-read;
+      fragments-written = fragments-written;
       pieces-told = pieces-told;
     }

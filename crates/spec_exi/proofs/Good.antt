@@ -18,6 +18,7 @@ use Rattle.spec_exi.specs.Settings.{Settings}
 use Rattle.spec_exi.specs.Tables.{Tables, Form, hit, literal, partitionsOf, formOf, added}
 use Rattle.spec_exi.specs.Tables.{tablesAfter, nameAllowed, textAllowed}
 use Rattle.spec_exi.specs.Grammar.{Production, State, document, docContent, docEnd, finished}
+use Rattle.spec_exi.specs.Grammar.{fragmentContent}
 use Rattle.spec_exi.specs.Grammar.{startTag, elementContent, Code, codeOf, stateAfter}
 use Rattle.spec_exi.specs.Grammar.{tagAfter, tagAllows}
 use Rattle.spec_exi.specs.Context.{Context, start, levelsIn, Item, item, characterRole}
@@ -91,7 +92,7 @@ strings-are f st p =
 value-lawful : (st : State) (v : Text) → nameAllowed (characterRole st) v ≡ true
 unfolding nameAllowed characterRole
 value-lawful st v =
-    elim st [ document ↦ refl | docContent ↦ refl | docEnd ↦ refl | finished ↦ refl | startTag q outer ↦ refl | elementContent q outer ↦ refl ]
+    elim st [ document ↦ refl | docContent ↦ refl | docEnd ↦ refl | fragmentContent ↦ refl | finished ↦ refl | startTag q outer ↦ refl | elementContent q outer ↦ refl ]
 
 -- Of its items only names and targets can be unlawful.
 names-are : (st : State) (p : Production) (e : Event Text) → every (λ i. nameAllowed (i .role) (i .text)) (items st p e) ≡ namesAllowed e
@@ -113,6 +114,7 @@ unfolding textAllowed characterRole
 text-lawful document v = refl
 text-lawful docContent v = refl
 text-lawful docEnd v = refl
+text-lawful fragmentContent v = refl
 text-lawful finished v = refl
 text-lawful (startTag q outer) v = refl
 text-lawful (elementContent q outer) v = refl

@@ -1,6 +1,9 @@
 -- The lists with the shape of a document (Lists.antt) are those that the states of Grammar.antt run
 -- through, from the first to the last.
-use mathlib.Core.Bool.{Bool, true, false}
+use Prim.Native.Nat.{ℕ}
+use native.Mathlib.Omega.{arith}
+use mathlib.Core.Path.{_≡_, refl, sym, _∙_, ap, subst}
+use mathlib.Core.Bool.{Bool, true, false, cond}
 use mathlib.Core.List.{List, [], _∷_, _++_, append-assoc}
 use lib.Dec.{T}
 use Rattle.text.specs.Text.{Text}
@@ -9,10 +12,10 @@ use Rattle.spec_exi.specs.Event.{startElement, attribute, characters, co
 use Rattle.spec_exi.specs.Event.{SD, ED, SE, AT, EE, CH, CM, PI, kindOf}
 use Rattle.spec_exi.specs.Settings.{Settings}
 use Rattle.spec_exi.specs.Grammar.{State, document, docContent, docEnd, finished, startTag}
-use Rattle.spec_exi.specs.Grammar.{elementContent, openElements, closed, inContent}
-use Rattle.spec_exi.specs.Grammar.{stateAfter}
+use Rattle.spec_exi.specs.Grammar.{fragmentContent, elementContent, openElements, outermost}
+use Rattle.spec_exi.specs.Grammar.{closed, inContent, stateAfter}
 use Rattle.spec_exi.specs.Lists.{Misc, Inner, anAttribute, noMore, Content, someCharacters}
-use Rattle.spec_exi.specs.Lists.{anElement, Document, aDocument}
+use Rattle.spec_exi.specs.Lists.{anElement, Elements, Document, aDocument, aFragment}
 
 -- The events that a state has a production for, by kind alone.
 unfoldable pub allowed : Settings → State → Event Text → Bool
@@ -23,6 +26,8 @@ allowed s docContent e =
     elim (kindOf e) [ SD ↦ false | ED ↦ false | SE ↦ true | AT ↦ false | EE ↦ false | CH ↦ false | CM ↦ s .comments | PI ↦ s .instructions ]
 allowed s docEnd e =
     elim (kindOf e) [ SD ↦ false | ED ↦ true | SE ↦ false | AT ↦ false | EE ↦ false | CH ↦ false | CM ↦ s .comments | PI ↦ s .instructions ]
+allowed s fragmentContent e =
+    elim (kindOf e) [ SD ↦ false | ED ↦ true | SE ↦ true | AT ↦ false | EE ↦ false | CH ↦ false | CM ↦ s .comments | PI ↦ s .instructions ]
 allowed s finished e = false
 allowed s (startTag q outer) e =
     elim (kindOf e) [ SD ↦ false | ED ↦ false | SE ↦ true | AT ↦ true | EE ↦ true | CH ↦ true | CM ↦ s .comments | PI ↦ s .instructions ]
@@ -79,36 +84,81 @@ module _ {s : Settings} where
         | anElement p (i → h) (c → k) ↦ λ q outer r x. rw append-assoc (go (startElement p) tt (h p (q ∷ outer) _ (k q outer r x)))
       ]
 
+-- By the setting, the first of two states or the second.
+as-fragment : (s : Settings) (a b : State) (l : List (Event Text)) → s .fragment ≡ true → Run s a l
+    → Run s (cond (s .fragment) a b) l
+as-fragment s a b l f r = subst (λ c. Run s (cond c a b) l) (sym f) r
+
+as-document : (s : Settings) (a b : State) (l : List (Event Text)) → s .fragment ≡ false → Run s b l
+    → Run s (cond (s .fragment) a b) l
+as-document s a b l f r = subst (λ c. Run s (cond c a b) l) (sym f) r
+
 -- A well-formed list is such a run.
 pub run-of-document : (s : Settings) (l : List (Event Text)) → Document s l → Run s document l
-unfolding allowed stateAfter inContent openElements closed
-run-of-document s l (aDocument q m i n) =
-    go startDocument tt (before m (go (startElement q) tt (run-inner i q [] _ (behind n (go endDocument tt stop)))))
+unfolding allowed stateAfter inContent openElements outermost closed
+run-of-document s l (aDocument q f m i n) =
+    go startDocument tt (as-document s fragmentContent docContent _ f (before m (go (startElement q) tt
+    (run-inner i q [] _ (as-document s fragmentContent docEnd _ f (behind n (go endDocument tt stop)))))))
   where
     before : {m l : List (Event Text)} → Misc s m → Run s docContent l → Run s docContent (m ++ l)
     before = run-misc (λ x l. go (comment x)) (λ x y l. go (instruction x y))
 
     behind : {m l : List (Event Text)} → Misc s m → Run s docEnd l → Run s docEnd (m ++ l)
     behind = run-misc (λ x l. go (comment x)) (λ x y l. go (instruction x y))
+run-of-document s l (aFragment f es) =
+    go startDocument tt (as-fragment s fragmentContent docContent _ f (through es))
+  where
+    through : {l : List (Event Text)} → Elements s l → Run s fragmentContent (l ++ endDocument ∷ [])
+    through Elements.nothing = go endDocument tt stop
+    through (Elements.aComment x t es) = go (comment x) t (through es)
+    through (Elements.anInstruction x y t es) = go (instruction x y) t (through es)
+    through (Elements.anElement q i es) =
+        rw append-assoc (go (startElement q) tt
+        (run-inner i q [] _ (as-fragment s fragmentContent docEnd _ f (through es))))
 
 -- ---- a run is through a document
+
+both-ways : {X : Type 0} (b : Bool) → b ≡ true → b ≡ false → X
+both-ways b e f =
+    let z : _≡_ {A = ℕ} 1 0 = ap (λ b. cond b 1 0) (sym e ∙ f) in absurd (omega arith)
 
 -- What is still to come in a state, put together from the shapes of Lists.antt.
 data Rest (s : Settings) : State → List (Event Text) → Type 0 where
   whole : {l : List (Event Text)} → Document s l → Rest s document l
-  before : {m i n : List (Event Text)} (q : QName Text) → Misc s m → Inner s i → Misc s n
+  before : {m i n : List (Event Text)} (q : QName Text) → s .fragment ≡ false → Misc s m → Inner s i
+      → Misc s n
       → Rest s docContent (m ++ startElement q ∷ (i ++ endElement ∷ (n ++ endDocument ∷ [])))
   inTag : {q : QName Text} {outer : List (QName Text)} {i l : List (Event Text)} → Inner s i → Rest s (closed s (q ∷ outer)) l
       → Rest s (startTag q outer) (i ++ endElement ∷ l)
   inElement : {q : QName Text} {outer : List (QName Text)} {c l : List (Event Text)} → Content s c → Rest s (closed s (q ∷ outer)) l
       → Rest s (elementContent q outer) (c ++ endElement ∷ l)
   behind : {n : List (Event Text)} → Misc s n → Rest s docEnd (n ++ endDocument ∷ [])
+  between : {l : List (Event Text)} → Elements s l → Rest s fragmentContent (l ++ endDocument ∷ [])
+  -- A fragment has no document's content, and a document no fragment's.
+  noDocument : {l : List (Event Text)} → s .fragment ≡ true → Rest s docContent l
+  noFragment : {l : List (Event Text)} → s .fragment ≡ false → Rest s fragmentContent l
   none : Rest s finished []
 
 module _ {s : Settings} where
-  rest-root : {i l : List (Event Text)} (q : QName Text) → Inner s i → Rest s docEnd l
+  rest-start : {l : List (Event Text)} (b : Bool) → s .fragment ≡ b
+      → Rest s (cond b fragmentContent docContent) l → Document s (startDocument ∷ l)
+  rest-start true e (between es) = aFragment e es
+  rest-start true e (noFragment f) = both-ways (s .fragment) e f
+  rest-start false e (before q f m i n) = aDocument q f m i n
+  rest-start false e (noDocument f) = both-ways (s .fragment) f e
+
+  rest-root : {i l : List (Event Text)} (q : QName Text) (b : Bool) → s .fragment ≡ b → Inner s i
+      → Rest s (cond b fragmentContent docEnd) l
       → Rest s docContent (startElement q ∷ (i ++ endElement ∷ l))
-  rest-root q i (behind n) = before q Misc.nothing i n
+  rest-root q true e i r = noDocument e
+  rest-root q false e i (behind n) = before q e Misc.nothing i n
+
+  rest-one : {i l : List (Event Text)} (q : QName Text) (b : Bool) → s .fragment ≡ b → Inner s i
+      → Rest s (cond b fragmentContent docEnd) l
+      → Rest s fragmentContent (startElement q ∷ (i ++ endElement ∷ l))
+  rest-one q true e i (between es) = rw append-assoc at (between (Elements.anElement q i es))
+  rest-one q true e i (noFragment f) = both-ways (s .fragment) e f
+  rest-one q false e i r = noFragment e
 
   rest-child : {q : QName Text} {outer : List (QName Text)} {i l : List (Event Text)} (p : QName Text) → Inner s i
       → Rest s (elementContent q outer) l → Rest s (elementContent q outer) (startElement p ∷ (i ++ endElement ∷ l))
@@ -120,8 +170,8 @@ module _ {s : Settings} where
 
   -- One event more in front.
   extend : {l : List (Event Text)} (st : State) (e : Event Text) → T (allowed s st e) → Rest s (stateAfter s st e) l → Rest s st (e ∷ l)
-  unfolding allowed stateAfter openElements closed inContent
-  extend document startDocument t (before q m i n) = whole (aDocument q m i n)
+  unfolding allowed stateAfter openElements outermost closed inContent
+  extend document startDocument t r = whole (rest-start (s .fragment) refl r)
   extend document endDocument t r = absurd t
   extend document endElement t r = absurd t
   extend document (startElement q) t r = absurd t
@@ -132,11 +182,23 @@ module _ {s : Settings} where
   extend docContent startDocument t r = absurd t
   extend docContent endDocument t r = absurd t
   extend docContent endElement t r = absurd t
-  extend docContent (startElement q) t (inTag i r) = rest-root q i r
+  extend docContent (startElement q) t (inTag i r) = rest-root q (s .fragment) refl i r
   extend docContent (attribute q v) t r = absurd t
   extend docContent (characters v) t r = absurd t
-  extend docContent (comment x) t (before q m i n) = before q (Misc.aComment x t m) i n
-  extend docContent (instruction x y) t (before q m i n) = before q (Misc.anInstruction x y t m) i n
+  extend docContent (comment x) t (before q f m i n) = before q f (Misc.aComment x t m) i n
+  extend docContent (comment x) t (noDocument f) = noDocument f
+  extend docContent (instruction x y) t (before q f m i n) = before q f (Misc.anInstruction x y t m) i n
+  extend docContent (instruction x y) t (noDocument f) = noDocument f
+  extend fragmentContent startDocument t r = absurd t
+  extend fragmentContent endDocument t none = between Elements.nothing
+  extend fragmentContent endElement t r = absurd t
+  extend fragmentContent (startElement q) t (inTag i r) = rest-one q (s .fragment) refl i r
+  extend fragmentContent (attribute q v) t r = absurd t
+  extend fragmentContent (characters v) t r = absurd t
+  extend fragmentContent (comment x) t (between es) = between (Elements.aComment x t es)
+  extend fragmentContent (comment x) t (noFragment f) = noFragment f
+  extend fragmentContent (instruction x y) t (between es) = between (Elements.anInstruction x y t es)
+  extend fragmentContent (instruction x y) t (noFragment f) = noFragment f
   extend (startTag q outer) startDocument t r = absurd t
   extend (startTag q outer) endDocument t r = absurd t
   extend (startTag q outer) endElement t r = inTag (noMore Content.nothing) r

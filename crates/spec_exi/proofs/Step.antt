@@ -19,6 +19,7 @@ use Rattle.spec_exi.specs.Tables.{Placed, nameText, eventText, Tables, v
 use Rattle.spec_exi.specs.Tables.{newEntry, newValue, laid, added, xmlUri, xsiUri}
 use Rattle.spec_exi.specs.Tables.{initialEntries, addedAll, startTables}
 use Rattle.spec_exi.specs.Grammar.{Production, unnamed, State, document, docContent, docEnd}
+use Rattle.spec_exi.specs.Grammar.{fragmentContent}
 use Rattle.spec_exi.specs.Grammar.{finished, startTag, elementContent, Site, eqSite, siteOf}
 use Rattle.spec_exi.specs.Grammar.{Learned, learnedIn, learnedAt, kept, levelsWith, levels}
 use Rattle.spec_exi.specs.Grammar.{Code, isWildcard, codeOf, sameCode, codeBits, teaches}
@@ -150,6 +151,8 @@ module _ (P : Production → Type 0) where
       go document = ((p SD, tt), tt)
       go docContent = ((p SE, tt), (others, tt))
       go docEnd = ((p ED, tt), (others, tt))
+      go fragmentContent =
+          (every-append P ls (unnamed SE ∷ unnamed ED ∷ []) h (p SE, (p ED, tt)), (others, tt))
       go finished = tt
       go (startTag q outer) = (h, ((p EE, (p AT, (p SE, (p CH, tt)))), (others, tt)))
       go (elementContent q outer) =

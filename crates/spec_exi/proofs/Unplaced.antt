@@ -23,6 +23,7 @@ use Rattle.spec_exi.specs.Tables.{partitionsOf, Form, hit, literal, firs
 use Rattle.spec_exi.specs.Tables.{formBits, newUri, newName, newEntry, newValue, laid, added}
 use Rattle.spec_exi.specs.Grammar.{Production, unnamed, isWildcard, fitsName, fits, State}
 use Rattle.spec_exi.specs.Grammar.{document, docContent, docEnd, finished, startTag}
+use Rattle.spec_exi.specs.Grammar.{fragmentContent}
 use Rattle.spec_exi.specs.Grammar.{elementContent, Site, eqSite, siteOf, Learned, learnedIn}
 use Rattle.spec_exi.specs.Grammar.{learnedAt, kept, levelsWith, levels, allEmpty, choices}
 use Rattle.spec_exi.specs.Grammar.{Code, atLevel, below, codeBits, raised, firstFit, codeOr}
@@ -212,6 +213,8 @@ unfolding levelsWith unplacedLevels unnamed unplacedProduction unplacedName
 with-unplaced s ls document = refl
 with-unplaced s ls docContent = cc (kept-unplaced s)
 with-unplaced s ls docEnd = cc (kept-unplaced s)
+with-unplaced s ls fragmentContent =
+    cc (kept-unplaced s, map-append unplacedProduction ls (unnamed SE ∷ unnamed ED ∷ []))
 with-unplaced s ls finished = refl
 with-unplaced s ls (startTag q outer) = cc (kept-unplaced s)
 with-unplaced s ls (elementContent q outer) =

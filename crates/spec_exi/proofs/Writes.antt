@@ -18,6 +18,7 @@ use Rattle.spec_exi.specs.Settings.{Settings}
 use Rattle.spec_exi.specs.Sizes.{sizes, maxUris, maxNames, maxValues, maxStore}
 use Rattle.spec_exi.specs.Tables.{Tables}
 use Rattle.spec_exi.specs.Grammar.{State, document, docContent, docEnd, finished, startTag}
+use Rattle.spec_exi.specs.Grammar.{fragmentContent}
 use Rattle.spec_exi.specs.Grammar.{elementContent, Learned, Code, levelsWith, levels, codeOf}
 use Rattle.spec_exi.specs.Grammar.{isFinished}
 use Rattle.spec_exi.specs.Context.{Context, levelsIn, Item, afterItem, next}
@@ -130,6 +131,7 @@ unfolding isFinished
 is-finished document t = absurd t
 is-finished docContent t = absurd t
 is-finished docEnd t = absurd t
+is-finished fragmentContent t = absurd t
 is-finished finished t = refl
 is-finished (startTag q outer) t = absurd t
 is-finished (elementContent q outer) t = absurd t

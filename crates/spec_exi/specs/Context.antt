@@ -12,6 +12,7 @@ use Rattle.spec_exi.specs.Tables.{Placed, Tables, namesOf, Role, uri, lo
 use Rattle.spec_exi.specs.Tables.{commentText, instructionText, plain, partitionsOf, formOf}
 use Rattle.spec_exi.specs.Tables.{tablesAfter, startTables}
 use Rattle.spec_exi.specs.Grammar.{Production, State, document, docContent, docEnd, finished}
+use Rattle.spec_exi.specs.Grammar.{fragmentContent}
 use Rattle.spec_exi.specs.Grammar.{startTag, elementContent, Learned, Code, isWildcard}
 use Rattle.spec_exi.specs.Grammar.{levels, codeOf, siteOf, learnedAt, taught, learn}
 use Rattle.spec_exi.specs.Grammar.{grammarsAfter, stateAfter, Tag, emptyTag, tagAfter}
@@ -59,6 +60,7 @@ unfoldable pub characterRole : State → Role
 characterRole document = plain
 characterRole docContent = plain
 characterRole docEnd = plain
+characterRole fragmentContent = plain
 characterRole finished = plain
 characterRole (startTag q outer) = value q
 characterRole (elementContent q outer) = value q

@@ -20,6 +20,7 @@ pub mod Numbers
 pub mod Written
 pub mod Attributes
 pub mod Names
+pub mod Fragments
 pub mod Pieces
 pub mod All
 

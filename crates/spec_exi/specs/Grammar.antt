@@ -1,5 +1,5 @@
--- The grammars (EXI 8.3, 8.4.1, 8.4.3; scope, "Grammars"): productions, the event codes that they
--- have, and what is learned.
+-- The grammars (EXI 8.3, 8.4; scope, "Grammars"; P1): productions, the event codes that they have,
+-- and what is learned.
 use Rattle.spec_fields.specs.Prelude.{ℕ, suc, Bool, true, false, cond, _&&_, _||_, not, List, []}
 use Rattle.spec_fields.specs.Prelude.{_∷_, _++_, map, Option, none, some, Option·map, length, eqb}
 use Rattle.spec_fields.specs.Bits.{Bits}
@@ -48,11 +48,11 @@ fitsName (some q) (some p) = eqName (nameText q) p
 unfoldable pub fits : Production → Event Text → Bool
 fits p e = eqb (kindNumber (p .kind)) (kindNumber (kindOf e)) && fitsName (p .qname) (nameOf e)
 
--- ---- states: the grammars' left-hand sides (EXI 8.4.1, 8.4.3: Document, DocContent, DocEnd,
--- StartTagContent, ElementContent), and the end. The two of an element's grammar hold its name and
--- those of the elements around it, the innermost first
+-- ---- states: the grammars' left-hand sides (EXI 8.4: Document or Fragment, DocContent, DocEnd,
+-- FragmentContent, StartTagContent, ElementContent), and the end. The two of an element's grammar
+-- hold its name and those of the elements around it, the innermost first
 pub data State : Type 0 where
-  document docContent docEnd finished : State
+  document docContent docEnd fragmentContent finished : State
   startTag elementContent : QName Text → List (QName Text) → State
 
 -- The open elements, the innermost first (scope, "Sizes").
@@ -60,29 +60,38 @@ unfoldable pub openElements : State → List (QName Text)
 openElements document = []
 openElements docContent = []
 openElements docEnd = []
+openElements fragmentContent = []
 openElements finished = []
 openElements (startTag q outer) = q ∷ outer
 openElements (elementContent q outer) = q ∷ outer
 
 -- ---- learned productions
 
--- Where productions are learned (EXI 8.4.3): in an element's start tag, and in its content.
+-- Where productions are learned: in an element's start tag, in its content (EXI 8.4.3), and in the
+-- content of a fragment (EXI 8.4.2).
 pub data Site : Type 0 where
   tagOf contentOf : QName Text → Site
+  fragment : Site
 
 -- An element of one name has one grammar, wherever it stands (EXI 8.4.3).
 unfoldable pub eqSite : Site → Site → Bool
 eqSite (tagOf p) (tagOf q) = eqName p q
 eqSite (tagOf p) (contentOf q) = false
+eqSite (tagOf p) fragment = false
 eqSite (contentOf p) (tagOf q) = false
 eqSite (contentOf p) (contentOf q) = eqName p q
+eqSite (contentOf p) fragment = false
+eqSite fragment (tagOf q) = false
+eqSite fragment (contentOf q) = false
+eqSite fragment fragment = true
 
--- Only the two states of an element's grammar learn (EXI 8.4.3; scope, "Grammars": document content
--- learns nothing).
+-- The two states of an element's grammar learn (EXI 8.4.3), and the content of a fragment (EXI 8.4.2);
+-- document content learns nothing (scope, "Grammars").
 unfoldable pub siteOf : State → Option Site
 siteOf document = none
 siteOf docContent = none
 siteOf docEnd = none
+siteOf fragmentContent = some fragment
 siteOf finished = none
 siteOf (startTag q outer) = some (tagOf q)
 siteOf (elementContent q outer) = some (contentOf q)
@@ -110,12 +119,13 @@ learnedAt (some k) ls = learnedIn k ls
 unfoldable pub kept : Settings → List Production
 kept s = cond (s .comments) (unnamed CM ∷ []) [] ++ cond (s .instructions) (unnamed PI ∷ []) []
 
--- The productions of a state where these are learned, level by level of their codes (EXI 8.4.1,
--- 8.4.3; scope, "Grammars": the table of codes). The newest learned one is first.
+-- The productions of a state where these are learned, level by level of their codes (EXI 8.4; scope,
+-- "Grammars": the table of codes; P1). The newest learned one is first.
 unfoldable pub levelsWith : Settings → List Production → State → List (List Production)
 levelsWith s ls document = (unnamed SD ∷ []) ∷ []
 levelsWith s ls docContent = (unnamed SE ∷ []) ∷ kept s ∷ []
 levelsWith s ls docEnd = (unnamed ED ∷ []) ∷ kept s ∷ []
+levelsWith s ls fragmentContent = (ls ++ (unnamed SE ∷ unnamed ED ∷ [])) ∷ kept s ∷ []
 levelsWith s ls finished = []
 levelsWith s ls (startTag q outer) =
     ls ∷ (unnamed EE ∷ unnamed AT ∷ unnamed SE ∷ unnamed CH ∷ []) ∷ kept s ∷ []
@@ -191,7 +201,7 @@ hasKind k [] = false
 hasKind k (p ∷ ps) = eqb (kindNumber k) (kindNumber (p .kind)) || hasKind k ps
 
 -- Which kinds of event with this code put a production at 0 and raise the first part of the others,
--- where these are learned (EXI 8.4.3): SE(*) and AT(*) do; CH and EE with a code of two parts, if
+-- where these are learned (EXI 8.4.2, 8.4.3): SE(*) and AT(*) do; CH and EE with a code of two parts, if
 -- theirs of one part does not exist yet. (That condition holds wherever it is asked, as yet: where
 -- a production of one part exists, a code of two parts is LOOSE.)
 unfoldable pub teaches : List Production → Code → Kind → Bool
@@ -209,7 +219,7 @@ unfoldable pub taught :
     List Production → Code → Kind → Option (QName Placed) → Option Production
 taught ls x k q = cond (teaches ls x k) (some (record { kind = k; qname = q })) none
 
--- A production is learned at a site: the newest is first (EXI 8.4.3).
+-- A production is learned at a site: the newest is first (EXI 8.4.2, 8.4.3).
 unfoldable pub learn : Option Site → Option Production → List Learned → List Learned
 learn none p ls = ls
 learn (some k) none ls = ls
@@ -230,26 +240,32 @@ unfoldable pub grammarsAfter : List (QName Text) → Event Text → List (QName 
 grammarsAfter gs e =
     cond (eqb (kindNumber (kindOf e)) (kindNumber SE)) (withGrammar gs (nameOf e)) gs
 
--- A start tag's content begins; in other states nothing changes (EXI 8.4.1, 8.4.3).
+-- A start tag's content begins; in other states nothing changes (EXI 8.4).
 unfoldable pub inContent : State → State
 inContent document = document
 inContent docContent = docContent
 inContent docEnd = docEnd
+inContent fragmentContent = fragmentContent
 inContent finished = finished
 inContent (startTag q outer) = elementContent q outer
 inContent (elementContent q outer) = elementContent q outer
 
--- The innermost of the open elements ends; after the root comes the end of the document (EXI
--- 8.4.1). The first clause is not reached: an end element closes an open one.
+-- Where no element is open any more: at the end of the document (EXI 8.4.1), or in the content of the
+-- fragment (EXI 8.4.2).
+unfoldable pub outermost : Settings → State
+outermost s = cond (s .fragment) fragmentContent docEnd
+
+-- The innermost of the open elements ends. The first clause is not reached: an end element closes an
+-- open one.
 unfoldable pub closed : Settings → List (QName Text) → State
-closed s [] = docEnd
-closed s (q ∷ []) = docEnd
+closed s [] = outermost s
+closed s (q ∷ []) = outermost s
 closed s (q ∷ p ∷ outer) = elementContent p outer
 
 -- Where each event leads (EXI 8.4; scope, "Grammars": "AT leads to the start tag state, SE, CH, CM
 -- and PI to element content"; SE first to the child's).
 unfoldable pub stateAfter : Settings → State → Event Text → State
-stateAfter s st startDocument = docContent
+stateAfter s st startDocument = cond (s .fragment) fragmentContent docContent
 stateAfter s st endDocument = finished
 stateAfter s st endElement = closed s (openElements st)
 stateAfter s st (startElement q) = startTag q (openElements st)
@@ -300,6 +316,7 @@ unfoldable pub isFinished : State → Bool
 isFinished document = false
 isFinished docContent = false
 isFinished docEnd = false
+isFinished fragmentContent = false
 isFinished finished = true
 isFinished (startTag q outer) = false
 isFinished (elementContent q outer) = false

@@ -20,7 +20,8 @@ every f [] = true
 every f (x ∷ xs) = f x && every f xs
 
 -- ---- well-formed: start document; comments and instructions; one element, balanced; comments and
--- instructions; end document; nothing after
+-- instructions; end document; nothing after. In a fragment comments, instructions and balanced
+-- elements stand between the two, in any order and number (P1)
 
 -- Comments and instructions, as the settings keep them (scope, "What is bought").
 pub data Misc (s : Settings) : List (Event Text) → Type 0 where
@@ -49,13 +50,25 @@ mutual
     anElement : {inner l : List (Event Text)} (q : QName Text) → Inner s inner → Content s l
         → Content s (startElement q ∷ (inner ++ endElement ∷ l))
 
--- A whole list (scope, "What is bought").
+-- Comments, instructions and balanced elements, in any order and number (P1).
+pub data Elements (s : Settings) : List (Event Text) → Type 0 where
+  nothing : Elements s []
+  aComment : {l : List (Event Text)} (x : Text) → T (s .comments) → Elements s l
+      → Elements s (comment x ∷ l)
+  anInstruction : {l : List (Event Text)} (x y : Text) → T (s .instructions) → Elements s l
+      → Elements s (instruction x y ∷ l)
+  anElement : {inner l : List (Event Text)} (q : QName Text) → Inner s inner → Elements s l
+      → Elements s (startElement q ∷ (inner ++ endElement ∷ l))
+
+-- A whole list (scope, "What is bought"), or that of a fragment (P1).
 pub data Document (s : Settings) : List (Event Text) → Type 0 where
-  aDocument : {before inner behind : List (Event Text)} (q : QName Text) → Misc s before
-      → Inner s inner → Misc s behind
+  aDocument : {before inner behind : List (Event Text)} (q : QName Text) → s .fragment ≡ false
+      → Misc s before → Inner s inner → Misc s behind
       → Document s
       (startDocument ∷ (before ++ startElement q ∷ (inner ++ endElement
       ∷ (behind ++ endDocument ∷ []))))
+  aFragment : {l : List (Event Text)} → s .fragment ≡ true → Elements s l
+      → Document s (startDocument ∷ (l ++ endDocument ∷ []))
 
 -- The event has no name that row 11 refuses (scope, "Refusal numbers"; P6).
 unfoldable pub namesAllowed : Event Text → Bool

@@ -4,13 +4,15 @@ use Rattle.spec_fields.specs.Prelude.{ℕ, Bool, cond, _&&_, List, [], _∷_, _
 use Rattle.spec_fields.specs.Field.{Alignment, bitPacked, byteAligned}
 
 -- There is no schema. All else is as EXI's default options have it: no prefixes, DTD, lexical
--- values or self-contained elements are kept, nothing is compressed or a fragment, and value
--- capacity and length are unbounded.
+-- values or self-contained elements are kept, nothing is compressed, and value capacity and length
+-- are unbounded.
 pub record Settings : Type 0 where
   pub alignment : Alignment
   pub cookie : Bool
   pub comments : Bool
   pub instructions : Bool
+  -- the stream is a fragment, no document (EXI 8.4.2; P1)
+  pub fragment : Bool
 
 -- The settings' numbers, as a caller hands them over (ours): all 0 is the base.
 pub record SettingNumbers : Type 0 where
@@ -18,9 +20,9 @@ pub record SettingNumbers : Type 0 where
   pub cookie : ℕ
   pub comments : ℕ
   pub instructions : ℕ
-  -- reserved: no number but 0 has a meaning yet. 0 is EXI's default for a fragment, the two for
-  -- values and prefixes (EXI 5.4); strict reading; and no cap. A bound or a cap n is to be n + 1
   pub fragment : ℕ
+  -- reserved: no number but 0 has a meaning yet. 0 is EXI's default for the two for values and for
+  -- prefixes (EXI 5.4); strict reading; and no cap. A bound or a cap n is to be n + 1
   pub valueLength : ℕ
   pub valueCapacity : ℕ
   pub loose : ℕ
@@ -28,15 +30,15 @@ pub record SettingNumbers : Type 0 where
   pub grammarCap : ℕ
 
 -- Each number has a meaning (which numbers is our choice): alignment 0 is bit-packed and 1
--- byte-aligned, cookie, comments and instructions 0 is no and 1 yes. Else SETTINGS (scope, "Refusal
--- numbers", 2).
+-- byte-aligned, cookie, comments, instructions and fragment 0 is no and 1 yes. Else SETTINGS (scope,
+-- "Refusal numbers", 2).
 unfoldable pub meaningful : SettingNumbers → Bool
 meaningful o =
     leb (o .alignment) 1
     && leb (o .cookie) 1
     && leb (o .comments) 1
     && leb (o .instructions) 1
-    && eqb (o .fragment) 0
+    && leb (o .fragment) 1
     && eqb (o .valueLength) 0
     && eqb (o .valueCapacity) 0
     && eqb (o .loose) 0
@@ -51,6 +53,7 @@ settingsOf o =
       cookie = eqb (o .cookie) 1;
       comments = eqb (o .comments) 1;
       instructions = eqb (o .instructions) 1;
+      fragment = eqb (o .fragment) 1;
     }
 
 -- The octets of the header (EXI 5; scope, "Fields"): the cookie "$EXI" if set, then bits 10, no

@@ -26,15 +26,15 @@ plus-none n = omega arith
 abbrev pub knownStrings : Joining → ℕ → ℕ → ℕ → Strings
 knownStrings x uri name owner = asStrings noJoining noJoining x uri name owner
 
-pub moved-core : (c : Core) (at stored : ℕ) (x : Joining) (uri name owner : ℕ) (enters : Bool)
+pub moved-core : (f : Bool) (c : Core) (at stored : ℕ) (x : Joining) (uri name owner : ℕ) (enters : Bool)
     (site kind named of n : ℕ)
-    → movedOn c at stored (x .joins) enters (modeAfter kind (c .mode) (c .depth))
+    → movedOn c at stored (x .joins) enters (modeAfter f kind (c .mode) (c .depth))
     (topAfter kind named (c .top)) (depthAfter kind (c .depth)) (tagNumber kind n (c .tag))
-    ≡ coreAfter c at stored
+    ≡ coreAfter f c at stored
     (knownStrings x uri name owner)
     (record { enters = enters; teaches = false; site = site; kind = kind; name = named; uri = of }) n
 unfolding turned counted
-moved-core c at stored x uri name owner enters site kind named of n =
+moved-core f c at stored x uri name owner enters site kind named of n =
     λ t. record {
       at = at;
       stored = stored;
@@ -43,7 +43,7 @@ moved-core c at stored x uri name owner enters site kind named of n =
       values = c .values + cond (x .joins) 1 0;
       learned = plus-none (c .learned) t;
       grammars = c .grammars + cond enters 1 0;
-      mode = modeAfter kind (c .mode) (c .depth);
+      mode = modeAfter f kind (c .mode) (c .depth);
       top = topAfter kind named (c .top);
       depth = depthAfter kind (c .depth);
       tag = tagNumber kind n (c .tag);

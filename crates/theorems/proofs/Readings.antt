@@ -64,7 +64,7 @@ readings-theorems =
         no-room = streams.from-no-room r q o stream;
         refused-as = streams.from-refused r q o stream;
         of-list = streams.from-list r q o stream;
-        no-limit = λ x i e. no-limit q o stream x e r i;
+        no-limit = λ scope x i e. no-limit q o stream x e scope r i;
         zero = streams.from-zero r q o stream;
       };
       to-streams = λ p w o rs. record {

@@ -28,7 +28,7 @@ use Rattle.write_content.specs.declared.Content.{Content}
 use Rattle.write_content.specs.Writing.{contentBits}
 use Rattle.write_production.specs.declared.Code.{Code}
 use Rattle.write_production.specs.Codes.{placedBits, codeBitsAs}
-use Rattle.event_code.specs.Numbers.{inTag}
+use Rattle.event_code.specs.Numbers.{inFragment}
 
 -- ---- the code
 
@@ -50,7 +50,7 @@ module _ {work : List ℕ} {learned mode top : ℕ} {w : Rows} {opened : List �
       (has-place at low .level)))
 
   -- Of a learned one.
-  pub learned-code-bits : (p : Place) → code .learned ≡ true → inTag ≤ mode → code .part < code .count
+  pub learned-code-bits : (p : Place) → code .learned ≡ true → inFragment ≤ mode → code .part < code .count
       → codeBitsAs s mode p code
       ≡ codeBits (s .alignment) (levelsIn s (contextOf w (replicate stored 0) mode opened))
       (code .part ∷ [])

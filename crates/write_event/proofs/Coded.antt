@@ -21,7 +21,7 @@ use Rattle.grammar_codes.specs.Table.{FixedCode, afterLearned, PlaceAt, maxLeve
 use Rattle.grammar_codes.proofs.Places.{has-place}
 use Rattle.grammar_codes.proofs.Teaches.{reached-unnamed}
 use Rattle.grammar_match.specs.Here.{siteIn, CodeRows, learnedHere, codeHere}
-use Rattle.grammar_match.proofs.Here.{site-half, inner-here, top-row}
+use Rattle.grammar_match.proofs.Here.{site-fits, inner-here}
 use Rattle.grammar_match.proofs.Unfit.{outer-none}
 use Rattle.grammar_match.proofs.Codes.{fixed-strict, learned-strict}
 use Rattle.mem_rows.specs.Rows.{Rows, nameAt, carries}
@@ -31,7 +31,7 @@ use Rattle.mem_rows.proofs.Learned.{learned-at}
 use Rattle.write_partition.specs.Writable.{tablesIn}
 use Rattle.write_qname.specs.Qnames.{nameAs, NameHits}
 use Rattle.write_content.specs.Contents.{itemsAs, NamedHits}
-use Rattle.event_code.specs.Numbers.{inTag}
+use Rattle.event_code.specs.Numbers.{inFragment}
 use Rattle.write_event.proofs.Names.{row-hits, RowFits, fit-row, row-kind, row-plain, row-name}
 
 -- ---- strings, by whether the name is written
@@ -77,15 +77,14 @@ module _ {work : List ℕ} {learned mode top : ℕ} {w : Rows} {opened : List �
   fitting-row : (e : Event Text) {y : ℕ × Production}
       → firstFit (learnedHere w mode opened) e ≡ some y → RowFits w e (y .1)
   fitting-row e {y} f =
-      split (ltb mode inTag)
-      (λ t. absurd (Option·none-ne-some _ (sym (outer-none valid rows e (ltb-true mode inTag t)) ∙ f)))
+      split (ltb mode inFragment)
+      (λ t. absurd (Option·none-ne-some _ (sym (outer-none valid rows e (ltb-true mode inFragment t)) ∙ f)))
       (λ t.
-      let l = ltb-false mode inTag t in
+      let l = ltb-false mode inFragment t in
       fit-row w e (siteIn mode top)
       (all-backward (all-at noLearnt (w .learned) (valid .refers .learned)))
       (sym (ap (λ ps. firstFit ps e) (inner-here rows l
-      ∙ learned-at valid (siteIn mode top)
-      (omega (arith, site-half mode top, top-row rows l)))) ∙ f))
+      ∙ learned-at valid (siteIn mode top) (site-fits rows l))) ∙ f))
 
   -- Where the event's code carries a name, both its strings are in their tables.
   module _ (s : Settings) (stored : ℕ) {kind : ℕ} {p : Place}

@@ -181,7 +181,7 @@ module _ (opening text : List ℕ) {work : List ℕ} {c : Core} (s : Settings) (
 
                   context-alike : Alike (next s (contextIn c w opened) event)
                       (contextOf (leftBy g (left .rows)) (replicate (x .stored) 0)
-                      (modeAfter (g .kind) (c .mode) (c .depth))
+                      (modeAfter (s .fragment) (g .kind) (c .mode) (c .depth))
                       (openedAfter (g .kind) (g .name) opened))
                   context-alike =
                       left-alike (stands .represents) (pre .bounded) top ahead (left .joins .valid)
@@ -202,7 +202,7 @@ module _ (opening text : List ℕ) {work : List ℕ} {c : Core} (s : Settings) (
                       (post .bounds zero .name) (replicate (c .stored) 0) ∙ m)
                       (within-grammars-alike context-alike sizes
                       ∙ fits-is (stands .represents) (pre .bounded) top ahead (left .joins .valid)
-                      known (coded .by) (post .bounds zero .name) (replicate (x .stored) 0) ∙ f)
+                      known (coded .by) (post .bounds zero .name) (s .fragment) (replicate (x .stored) 0) ∙ f)
 
                   judged-bits : judgedBits s text e work c (judgedAs p code x g)
                       ≡ eventBits s (contextIn c w opened) event

@@ -125,17 +125,17 @@ module _ {work : List ℕ} {c : Core} {r : EventJudged} {n : ℕ} (pre : CommitP
   after-asks =
       record { bounded = pre .bounded; early = pre .early; stands = pre .bounds .stands }
 
-  pub committed : {work₁ work₂ : List ℕ} (at : ℕ) {d : Core}
+  pub committed : (f : Bool) {work₁ work₂ : List ℕ} (at : ℕ) {d : Core}
       → work₁ ≡ joinedStrings c (r .content .strings) work → work₂ ≡ grown c (r .growth) work₁
-      → d ≡ coreAfter c at (r .content .stored) (r .content .strings) (r .growth) n
-      → CommitPost work c at r n work₂ d
-  committed at a b e =
+      → d ≡ coreAfter f c at (r .content .stored) (r .content .strings) (r .growth) n
+      → CommitPost f work c at r n work₂ d
+  committed f at a b e =
       record { work-is = b ∙ ap (grown c (r .growth)) a; core-is = e }
 
-  after-low : (at : ℕ)
-      → Bounded (coreAfter c at (r .content .stored) (r .content .strings) (r .growth) n)
-  after-low at =
-      after-bounded at (r .content .stored) after-asks join-asks (pre .bounds .fits) name-low
+  after-low : (f : Bool) (at : ℕ)
+      → Bounded (coreAfter f c at (r .content .stored) (r .content .strings) (r .growth) n)
+  after-low f at =
+      after-bounded f at (r .content .stored) after-asks join-asks (pre .bounds .fits) name-low
       (pre .bounds .store)
 
 -- ---- the rows after an event
@@ -215,7 +215,7 @@ module _ {stream work : List ℕ} {c : Core} {n : ℕ} (pre : StepPre stream wor
         step-leaves : StepLeaves s opening text (mapEvent (part text) (meaning e)) c w opened
             (judgedBits s text e work c r)
             (grown c (r .growth) (joinedStrings c (r .content .strings) work))
-            (coreAfter c at (r .content .stored) (r .content .strings) (r .growth) n)
+            (coreAfter (s .fragment) c at (r .content .stored) (r .content .strings) (r .growth) n)
         unfolding turned counted
         step-leaves =
             let g = r .growth in
@@ -226,7 +226,7 @@ module _ {stream work : List ℕ} {c : Core} {n : ℕ} (pre : StepPre stream wor
               bits-are = m .bits;
               after = record {
                 represents = left-represents (m .joins) (m .grows) (stands .represents .counts)
-                    (stands .represents .opens) (join-asks commit-asks)
+                    (stands .represents .opens) (s .fragment) (join-asks commit-asks)
                     (stands .represents .holds) (stands .represents .marks) (m .valid) (m .named)
                     at stored n late;
                 writable = left-writable (g .kind) (g .name) (g .teaches) (learntOf g)
@@ -234,7 +234,7 @@ module _ {stream work : List ℕ} {c : Core} {n : ℕ} (pre : StepPre stream wor
                 begun = left-begun (g .kind) (g .name) (g .teaches) (learntOf g)
                     (stands .begun) (strings-ahead (m .joins));
               };
-              turned = left-turned (r .content .strings) (after-asks commit-asks)
+              turned = left-turned (s .fragment) (r .content .strings) (after-asks commit-asks)
                   (stands .represents .opens) top at stored;
               context = m .context;
             }
@@ -243,11 +243,11 @@ module _ {stream work : List ℕ} {c : Core} {n : ℕ} (pre : StepPre stream wor
           → Put stream (c .at) (judgedBits s text e work c r) stream′ at
           → StepPost s opening text (meaning e) stream work c n stream′
           (grown c (r .growth) (joinedStrings c (r .content .strings) work))
-          (steppedAs 0 (coreAfter c at (r .content .stored) (r .content .strings) (r .growth) n))
+          (steppedAs 0 (coreAfter (s .fragment) c at (r .content .stored) (r .content .strings) (r .growth) n))
       unfolding turned counted
       done {at = at} p =
           record {
-            bounded = after-low commit-asks at;
+            bounded = after-low commit-asks (s .fragment) at;
             refused = λ h. absurd (omega arith);
             put = λ _. record {
               bits = judgedBits s text e work c r;
@@ -271,11 +271,11 @@ module _ {stream work : List ℕ} {c : Core} {n : ℕ} (pre : StepPre stream wor
 
       pub step-done : {stream′ work′ : List ℕ} {at : ℕ} {d : Core}
           → Put stream (c .at) (judgedBits s text e work c r) stream′ at
-          → CommitPost work c at r n work′ d
+          → CommitPost (s .fragment) work c at r n work′ d
           → StepPost s opening text (meaning e) stream work c n stream′ work′
           (steppedAs 0 d)
       step-done {stream′} {work′} {at} {d} p q =
           subst (λ (k : Core). StepPost s opening text (meaning e) stream work c n stream′ work′
           (steppedAs 0 k)) (sym (q .core-is))
           (subst (λ l. StepPost s opening text (meaning e) stream work c n stream′ l
-          (steppedAs 0 (coreAfter c at (r .content .stored) (r .content .strings) (r .growth) n))) (sym (q .work-is)) (done p))
+          (steppedAs 0 (coreAfter (s .fragment) c at (r .content .stored) (r .content .strings) (r .growth) n))) (sym (q .work-is)) (done p))

@@ -89,7 +89,7 @@ module _ {work : List ℕ} {c : Core} {w v : Rows} {opened : List ℕ} (valid : 
       record {
         x = atLevel (code .part) (productionOf w (learntAt (w .learned) g));
         is = u .is;
-        bits = learned-code-bits valid rows s (c .stored) code (h .counted) p l (f .element) less;
+        bits = learned-code-bits valid rows s (c .stored) code (h .counted) p l (f .learns) less;
         by = subst
             (λ b. EventTaught w (c .mode) (c .top) kind name opened b
             (atLevel (code .part) (productionOf w (learntAt (w .learned) g))) e) (sym l)

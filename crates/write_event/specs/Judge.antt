@@ -2,7 +2,7 @@
 -- its rows.
 use Prim.Native.Nat.{ℕ, _+_, _≤_, _<_}
 use mathlib.Core.Path.{_≡_}
-use mathlib.Core.Bool.{true, false, cond}
+use mathlib.Core.Bool.{Bool, true, false, cond}
 use mathlib.Core.List.{List, _++_}
 use lib.ListN.{length, replicate}
 use lib.Dec.{T}
@@ -143,7 +143,7 @@ pub record EventLeaves (s : Settings) (opening text : List ℕ) (e : declared.Ev
       ≡ eventBits s (contextIn c w opened) (mapEvent (part text) (meaning e))
   pub context : Alike (next s (contextIn c w opened) (mapEvent (part text) (meaning e)))
       (contextOf (leftBy (r .growth) rows) (replicate (r .content .stored) 0)
-      (modeAfter (r .growth .kind) (c .mode) (c .depth))
+      (modeAfter (s .fragment) (r .growth .kind) (c .mode) (c .depth))
       (openedAfter (r .growth .kind) (r .growth .name) opened))
 
 pub record EventMeans (s : Settings) (opening text : List ℕ) (e : declared.Event) (work : List ℕ)
@@ -175,7 +175,7 @@ pub record CommitPre (work : List ℕ) (c : Core) (r : EventJudged) (n : ℕ) : 
   pub early : n < maxEvents
   pub bounds : JudgedRows c r
 
-pub record CommitPost (work : List ℕ) (c : Core) (at : ℕ) (r : EventJudged) (n : ℕ)
+pub record CommitPost (fragment : Bool) (work : List ℕ) (c : Core) (at : ℕ) (r : EventJudged) (n : ℕ)
     (work′ : List ℕ) (d : Core) : Type 0 where
   pub work-is : work′ ≡ grown c (r .growth) (joinedStrings c (r .content .strings) work)
-  pub core-is : d ≡ coreAfter c at (r .content .stored) (r .content .strings) (r .growth) n
+  pub core-is : d ≡ coreAfter fragment c at (r .content .stored) (r .content .strings) (r .growth) n

@@ -1,7 +1,7 @@
 -- What writing one event, before which n have come, asks and leaves.
 use Prim.Native.Nat.{ℕ, _+_, _*_, _≤_, _<_}
 use mathlib.Core.Path.{_≡_}
-use mathlib.Core.Bool.{true}
+use mathlib.Core.Bool.{Bool, true}
 use mathlib.Core.List.{List}
 use lib.ListN.{length}
 use lib.Dec.{T}
@@ -73,9 +73,9 @@ pub record RowBounds (c : Core) (s : Strings) (g : Growth) (stored : ℕ) : Type
   pub store : stored ≤ maxStore
 
 -- The event's bits are written; its strings and its growth are all that joins work memory, and the
--- numbers are those after it.
-pub record StepPut (stream work : List ℕ) (c : Core) (n : ℕ) (stream′ work′ : List ℕ) (r : Stepped)
-    : Type 0 where
+-- numbers are those after it, in a fragment or not.
+pub record StepPut (fragment : Bool) (stream work : List ℕ) (c : Core) (n : ℕ)
+    (stream′ work′ : List ℕ) (r : Stepped) : Type 0 where
   pub bits : Bits
   pub put : Put stream (c .at) bits stream′ (r .at)
   pub near : r .at ≤ c .at + maxEventBits
@@ -84,7 +84,7 @@ pub record StepPut (stream work : List ℕ) (c : Core) (n : ℕ) (stream′ work
   pub rows : RowBounds c strings growth (r .stored)
   pub work-is : work′ ≡ grown c growth (joinedStrings c strings work)
   pub work-size : length work′ ≡ length work
-  pub core-is : coreOf r ≡ coreAfter c (r .at) (r .stored) strings growth n
+  pub core-is : coreOf r ≡ coreAfter fragment c (r .at) (r .stored) strings growth n
 
 -- ---- by the definitions
 
@@ -107,7 +107,7 @@ pub record StepLeaves (s : Settings) (opening text : List ℕ) (e : Event Text) 
 
 pub record StepMeans (s : Settings) (opening text : List ℕ) (e : Event Span) (stream work : List ℕ)
     (c : Core) (n : ℕ) (w : Rows) (opened stream′ work′ : List ℕ) (r : Stepped)
-    (put : r .number ≡ 0 → StepPut stream work c n stream′ work′ r) : Type 0 where
+    (put : r .number ≡ 0 → StepPut (s .fragment) stream work c n stream′ work′ r) : Type 0 where
   pub fault : r .number ≡ faultNumber (faultOf sizes s (contextIn c w opened) text e)
   pub leaves : (z : r .number ≡ 0)
       → StepLeaves s opening text (mapEvent (part text) e) c w opened (put z .bits) work′ (coreOf r)
@@ -116,6 +116,6 @@ pub record StepPost (s : Settings) (opening text : List ℕ) (e : Event Span) (s
     (c : Core) (n : ℕ) (stream′ work′ : List ℕ) (r : Stepped) : Type 0 where
   pub bounded : Bounded (coreOf r)
   pub refused : 0 < r .number → StepRefused stream work c stream′ work′ r
-  pub put : r .number ≡ 0 → StepPut stream work c n stream′ work′ r
+  pub put : r .number ≡ 0 → StepPut (s .fragment) stream work c n stream′ work′ r
   pub meant : (w : Rows) (opened : List ℕ) → Stands opening text work c w opened → Topped c opened
       → c .tag ≤ n + 1 → StepMeans s opening text e stream work c n w opened stream′ work′ r put

@@ -231,16 +231,23 @@ fn put_event(
 // ---- the rows
 
 // Adds what an event leaves to memory, and says the numbers after it; n events have come before it.
-fn commit(work: &mut [u32], c: Core, at: usize, j: EventJudged, n: usize) -> Core
+fn commit(
+    fragment: bool,
+    work: &mut [u32],
+    c: Core,
+    at: usize,
+    j: EventJudged,
+    n: usize,
+) -> Core
     requires { ⌜ CommitPre (now work) c j n ⌝ }
-    ensures { λ d. ⌜ CommitPost (now (work .entry)) c at j n (now (work .exit)) d ⌝ }
+    ensures { λ d. ⌜ CommitPost fragment (now (work .entry)) c at j n (now (work .exit)) d ⌝ }
 {
     let x = j.content;
     let s = x.strings;
     let g = j.growth;
     mem_state::join_strings(work, c, s);
     mem_state::grow(work, c, g);
-    grammar_update::after(c, at, x.stored, s, g, n)
+    grammar_update::after(fragment, c, at, x.stored, s, g, n)
 }
 
 // Writes one event, before which n have come, after the core's position.
@@ -264,6 +271,6 @@ pub fn write_event(
         return stepped::answer(j.number, c);
     }
     let at = put_event(o, stream, text, e, c, j, work);
-    let core = commit(work, c, at, j, n);
+    let core = commit(o.fragment, work, c, at, j, n);
     stepped::answer(0, core)
 }

@@ -17,6 +17,7 @@ use Rattle.event.specs.declared.Part.{Part}
 use Rattle.event.specs.declared.Event.the-variants.{Attribute}
 use Rattle.event.specs.Cells.{asSpan, asName, meaning}
 use Rattle.mem_marks.specs.Marks.{markedIn, withMark}
+use Rattle.event_code.specs.Numbers.{inTag}
 use Rattle.mem_rows.specs.Rows.{modeAfter}
 use Rattle.mem_state.specs.declared.Core.{Core}
 use Rattle.mem_state.specs.Commit.{joinedUri, joinedName, joinedStrings, entered}
@@ -36,7 +37,7 @@ use Rattle.write_event.proofs.Events.{every-three}
 use Rattle.write_known.specs.Known.{LearnedPut, ValueKept, LearnedPre, AttributePost}
 use Rattle.write_known.proofs.Known.{Placed, inner-placed, learned-here, learned-put}
 use Rattle.write_known.proofs.Known.{quick-outside, quick-refused, quick-written}
-use Rattle.write_known.proofs.Values.{content-pre, known-inner, kept-put}
+use Rattle.write_known.proofs.Values.{content-pre, kept-put}
 
 numbered : {stream work : List ℕ} {c : Core} {m n : ℕ} → StepPre stream work c m → n < maxEvents
     → StepPre stream work c n
@@ -57,10 +58,10 @@ lies text uri local value u l is =
     sym (every-three (inside text) (asSpan uri) (asSpan local) (asSpan value)) ∙ rw (u, l) (sym is)
 
 module _ {stream work : List ℕ} {c : Core} (pre : StepPre stream work c 0) {name row : ℕ}
-    (known : LearnedPre AT work c name row) (in-tag : c .mode ≡ 4) where
+    (known : LearnedPre AT work c name row) (in-tag : c .mode ≡ inTag) where
   stands : (s : Settings) → Placed s (c .mode) 3
   stands s =
-      inner-placed s 3 (known-inner pre known) (pre .bounded .fits .known) (omega arith) (omega arith)
+      inner-placed s 3 (known .inner) (pre .bounded .fits .known) (omega arith) (omega arith)
       (λ _. in-tag)
 
   module _ (text : List ℕ) (value : Part) {b : Bool} (is : b ≡ inside text (asSpan value)) where
@@ -109,10 +110,10 @@ module _ {stream work : List ℕ} {c : Core} (pre : StepPre stream work c 0) {na
                 (attribute-judged (content-pre pre) (named .post) value refl look post z) refl
                 (learned-here c q (known .found) (known .some))
                 (attribute-allowed work (c .tag) name refl (sym f)) refl refl
-                (learned-put c q s same (known-inner pre known) (pre .bounded .fits .known)
+                (learned-put c q s same (known .inner) (pre .bounded .fits .known)
                 (stands s .p))
                 (kept-put text look same kept)
                 (w ∙ ap (λ k. withMark k (c .tag) name) (kept .work-is))
-                (moved-core c at (v .stored) x (named .u) name name false (siteIn (c .mode) (c .top)) 3
+                (moved-core (s .fragment) c at (v .stored) x (named .u) name name false (siteIn (c .mode) (c .top)) 3
                 name (named .u) n);
           }

@@ -5,11 +5,8 @@ use native.Mathlib.Omega.{arith}
 use mathlib.Core.Path.{_≡_, refl, sym, ap, subst, _∙_}
 use mathlib.Core.Bool.{true, false}
 use mathlib.Core.List.{List, [], _++_, append-nil}
-use lib.Dec.{ltb}
-use borrow.Author.Tests.{ltb-false}
 use Rattle.spec_fields.specs.Field.{Alignment}
 use Rattle.spec_fields.specs.Refusal.{numberOf, place}
-use Rattle.spec_fields.proofs.Tests.{split}
 use Rattle.text.specs.Text.{inside}
 use Rattle.spec_exi.specs.Event.{kindOf, stringsOf}
 use Rattle.spec_exi.specs.Settings.{Settings}
@@ -23,7 +20,8 @@ use Rattle.mem_state.specs.Commit.{joinedStrings, grown}
 use Rattle.grammar_codes.specs.declared.Place.{Place}
 use Rattle.grammar_codes.specs.Table.{tableOf, placeIn, placeAs, PlaceAt}
 use Rattle.grammar_codes.proofs.Places.{place-is, no-place, element-has}
-use Rattle.grammar_match.specs.Found.{foundHere, FoundHere}
+use Rattle.event_code.specs.Numbers.{inTag, inElement}
+use Rattle.grammar_match.specs.Found.{FoundHere}
 use Rattle.grammar_update.specs.Growth.{growthOf, allowedIn, fitsIn}
 use Rattle.grammar_update.specs.After.{coreAfter}
 use Rattle.stepped.specs.Stepped.{steppedAs}
@@ -51,8 +49,8 @@ pub record Placed (s : Settings) (mode kind : ℕ) : Type 0 where
   pub low : p .level < 3
 
 -- In an element SE, EE and CH stand, and AT in its start tag.
-pub inner-placed : (s : Settings) {mode : ℕ} (kind : ℕ) → 4 ≤ mode → mode ≤ 5 → 2 ≤ kind → kind ≤ 5
-    → (kind ≡ 3 → mode ≡ 4) → Placed s mode kind
+pub inner-placed : (s : Settings) {mode : ℕ} (kind : ℕ) → inTag ≤ mode → mode ≤ inElement → 2 ≤ kind
+    → kind ≤ 5 → (kind ≡ 3 → mode ≡ inTag) → Placed s mode kind
 inner-placed s {mode} kind l h from to tag =
     let c = s .comments in
     let i = s .instructions in
@@ -65,15 +63,6 @@ inner-placed s {mode} kind l h from to tag =
       at = at;
       low = omega (arith, at .few, ne);
     }
-
--- Outside an element none is learned.
-pub found-inner : (work : List ℕ) (mode top kind name learned : ℕ) {row : ℕ}
-    → FoundHere work mode top kind name learned row → 0 < row → 4 ≤ mode
-unfolding foundHere
-found-inner work mode top kind name learned f some =
-    split (ltb mode 4)
-    (λ t. let z : _ ≡ 0 = rw t at (f .is) in absurd (omega (arith, z, some)))
-    (λ t. ltb-false mode 4 t)
 
 -- ---- the code
 
@@ -94,7 +83,7 @@ module _ {a : Alignment} {stream work : List ℕ} (c : Core) {row : ℕ} {mid : 
         taken = λ _. (refl, q .part-is);
       }
 
-  pub learned-put : (s : Settings) → s .alignment ≡ a → 4 ≤ c .mode → c .mode ≤ 5 → (p : Place)
+  pub learned-put : (s : Settings) → s .alignment ≡ a → inTag ≤ c .mode → c .mode ≤ inElement → (p : Place)
       → Put stream (c .at) (codeBitsAs s (c .mode) p (learnedCode (q .count) (q .part))) mid next
   learned-put s same l h p =
       subst (λ w. Put stream (c .at) w mid next)
@@ -148,7 +137,7 @@ module _ {stream work : List ℕ} {c : Core} {n : ℕ} (pre : StepPre stream wor
             → Put stream (c .at) (codeBitsAs s (c .mode) (placed .p) code) mid next
             → Put mid next (contentBits text work e (code .learned) c x (s .alignment)) stream′ at
             → {work′ : List ℕ} {d : Core} → work′ ≡ grown c g (joinedStrings c (x .strings) work)
-            → d ≡ coreAfter c at (x .stored) (x .strings) g n
+            → d ≡ coreAfter (s .fragment) c at (x .stored) (x .strings) g n
             → StepPost s opening text (meaning e) stream work c n stream′ work′ (steppedAs 0 d)
         unfolding judgedBits
         quick-written f p q w i =
@@ -159,7 +148,7 @@ module _ {stream work : List ℕ} {c : Core} {n : ℕ} (pre : StepPre stream wor
             → Put stream (c .at) (codeBitsAs s (c .mode) (placed .p) code) stream′ at
             → contentBits text work e (code .learned) c x (s .alignment) ≡ []
             → {work′ : List ℕ} {d : Core} → work′ ≡ grown c g (joinedStrings c (x .strings) work)
-            → d ≡ coreAfter c at (x .stored) (x .strings) g n
+            → d ≡ coreAfter (s .fragment) c at (x .stored) (x .strings) g n
             → StepPost s opening text (meaning e) stream work c n stream′ work′ (steppedAs 0 d)
         unfolding judgedBits
         quick-coded f {stream′} {at} p none w i =

@@ -17,7 +17,7 @@ use Rattle.event.specs.declared.Part.{Part}
 use Rattle.event.specs.declared.Event.the-variants.{Characters}
 use Rattle.event.specs.Cells.{asSpan, meaning}
 use Rattle.mem_layout.specs.Layout.{nameRows}
-use Rattle.mem_rows.specs.Rows.{modeAfter}
+use Rattle.mem_rows.specs.Rows.{contentAfter, modeAfter}
 use Rattle.mem_state.specs.declared.Core.{Core}
 use Rattle.mem_state.specs.Commit.{joinedUri, joinedName, joinedStrings, entered}
 use Rattle.mem_state.specs.Commit.{learnt, marked, grown, topAfter, depthAfter, tagNumber}
@@ -39,7 +39,7 @@ use Rattle.write_event.specs.Step.{StepPre}
 use Rattle.write_event.proofs.Events.{every-one}
 use Rattle.write_known.specs.Known.{PutLearnedPre, LearnedPut, KeepPre, ValueKept}
 use Rattle.write_known.specs.Known.{LearnedPre, KnownPost}
-use Rattle.write_known.proofs.Known.{Placed, inner-placed, found-inner}
+use Rattle.write_known.proofs.Known.{Placed, inner-placed}
 use Rattle.write_known.proofs.Known.{learned-here, learned-put, quick-outside, quick-refused}
 use Rattle.write_known.proofs.Known.{quick-written}
 
@@ -59,11 +59,6 @@ module _ {stream work : List ℕ} {c : Core} {n : ℕ} (pre : StepPre stream wor
           some = known .some;
           few = omega (arith, known .found .within, pre .bounded .learned);
         }
-
-    pub known-inner : 4 ≤ c .mode
-    known-inner =
-        found-inner work (c .mode) (c .top) (kindNumber k) name (c .learned) (known .found)
-        (known .some)
 
   -- What writing and adding the value asks, after the code.
   pub keep-asks : {a : Alignment} {mode top row : ℕ} {mid : List ℕ} {next : ℕ}
@@ -115,7 +110,7 @@ module _ {stream work : List ℕ} {c : Core} {n : ℕ} (pre : StepPre stream wor
     (known : LearnedPre CH work c 0 row) where
   stands : (s : Settings) → Placed s (c .mode) 5
   stands s =
-      inner-placed s 5 (known-inner pre known) (pre .bounded .fits .known) (omega arith) (omega arith)
+      inner-placed s 5 (known .inner) (pre .bounded .fits .known) (omega arith) (omega arith)
       (λ z. absurd (omega (arith, z)))
 
   lies : (text : List ℕ) (value : Part) {b : Bool} → b ≡ inside text (asSpan value)
@@ -154,12 +149,12 @@ module _ {stream work : List ℕ} {c : Core} {n : ℕ} (pre : StepPre stream wor
           → LearnedPut a stream work (c .at) (c .mode) (c .top) row mid next
           → {stream′ work′ : List ℕ} {at : ℕ}
           → ValueKept a mid next y value v (c .top) (c .values) work stream′ work′ at
-          → {mode tag : ℕ} → mode ≡ modeAfter (kindNumber CH) (c .mode) (c .depth) → tag ≡ n + 2
+          → {mode tag : ℕ} → mode ≡ contentAfter (c .mode) → tag ≡ n + 2
           → KnownPost a text (Characters value) stream work c n stream′ work′
           (steppedAs 0
           (movedOn c at (v .stored) (v .joins) false mode (c .top) (c .depth) tag))
       unfolding kindOf meaning kindNumber growthOf fitsIn grown learnt entered marked joinedStrings
-          joinedUri joinedName topAfter depthAfter tagNumber contentBits valuedBits
+          joinedUri joinedName modeAfter topAfter depthAfter tagNumber contentBits valuedBits
       characters-stepped z q {at = at} kept m t =
           let x = joiningOf value (v .joins) (v .hash) in
           record {
@@ -169,10 +164,10 @@ module _ {stream work : List ℕ} {c : Core} {n : ℕ} (pre : StepPre stream wor
                 (characters-judged (content-pre pre) value look post z) refl
                 (learned-here c q (known .found) (known .some))
                 (other-allowed work (c .tag) 0 refl refl) refl refl
-                (learned-put c q s same (known-inner pre known) (pre .bounded .fits .known)
+                (learned-put c q s same (known .inner) (pre .bounded .fits .known)
                 (stands s .p))
                 (kept-put text look same kept)
                 (kept .work-is)
                 ((λ i. movedOn c at (v .stored) (v .joins) false (m i) (c .top) (c .depth) (t i))
-                ∙ moved-core c at (v .stored) x 0 0 (c .top) false (siteIn (c .mode) (c .top)) 5 0 0 n);
+                ∙ moved-core (s .fragment) c at (v .stored) x 0 0 (c .top) false (siteIn (c .mode) (c .top)) 5 0 0 n);
           }

@@ -16,6 +16,7 @@ use Rattle.event.specs.declared.Part.{Part}
 use Rattle.event.specs.declared.Event as declared
 use Rattle.event.specs.declared.Event.the-variants.{Attribute}
 use Rattle.event.specs.Cells.{asSpan, meaning}
+use Rattle.event_code.specs.Numbers.{inTag}
 use Rattle.mem_layout.specs.Layout.{nameRows, workCells}
 use Rattle.mem_state.specs.declared.Core.{Core}
 use Rattle.mem_state.specs.Commit as commit
@@ -33,11 +34,12 @@ use Rattle.write_known.specs.Names.{Named}
 
 -- ---- the code
 
--- A learned production fits an event of this kind whose name has this row; it is in a row counted
--- from 1.
+-- A learned production of an element's grammar fits an event of this kind whose name has this row;
+-- it is in a row counted from 1.
 pub record LearnedPre (k : Kind) (work : List ℕ) (c : Core) (name row : ℕ) : Type 0 where
   pub found : FoundHere work (c .mode) (c .top) (kindNumber k) name (c .learned) row
   pub some : 0 < row
+  pub inner : inTag ≤ c .mode
 
 pub record PutLearnedPre (stream work : List ℕ) (at top row : ℕ) : Type 0 where
   pub blank : T (blankFrom stream at)

@@ -175,7 +175,7 @@ pub fn known_characters(
     }
     let next = put_learned(aligned, stream, c.at, c.mode, c.top, row, work);
     let at = keep_value(aligned, stream, next, x, value, v, c.top, c.values, work);
-    let mode = mem_state::mode_after(CH, c.mode, c.depth);
+    let mode = mem_state::content_after(c.mode);
     let tag = stepped::next_tag(n);
     stepped::moved_on(c, at, v.stored, v.joins, false, mode, c.top, c.depth, tag)
 }

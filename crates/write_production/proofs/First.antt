@@ -10,6 +10,7 @@ use borrow.Author.Tests.{eqb-true, eqb-false}
 use Rattle.spec_fields.specs.Field.{Alignment, choiceBits}
 use Rattle.spec_fields.proofs.Tests.{split}
 use Rattle.spec_exi.specs.Settings.{Settings}
+use Rattle.event_code.specs.Numbers.{inTag, inElement}
 use Rattle.mem_chain.specs.Chain.{below}
 use Rattle.mem_chain.proofs.Last.{below-in}
 use Rattle.grammar_codes.specs.declared.Place.{Place}
@@ -22,7 +23,7 @@ use Rattle.write_production.specs.Codes.{placedBits, codeBitsAs, ownValu
 own-few : (mode : ℕ) → (1 ≤ ownValues mode) × (ownValues mode ≤ 2)
 unfolding ownValues
 own-few mode =
-    split (eqb mode 5) (λ t. rw t (omega arith, omega arith)) (λ t. rw t (omega arith, omega arith))
+    split (eqb mode inElement) (λ t. rw t (omega arith, omega arith)) (λ t. rw t (omega arith, omega arith))
 
 pub among-few : (mode : ℕ) {n : ℕ} → n ≡ ownValues mode → n ≤ 2
 among-few mode e = omega (arith, e, own-few mode .1)
@@ -44,16 +45,16 @@ unfolding firstBits
 first-length a mode count v few =
     choice-length a (count + ownValues mode) v (omega (arith, few, own-few mode .1))
 
-own-values : {mode : ℕ} → 4 ≤ mode → mode ≤ 5 → (c i : Bool)
+own-values : {mode : ℕ} → inTag ≤ mode → mode ≤ inElement → (c i : Bool)
     → ownValues mode ≡ valuesAt c i mode 0
 unfolding ownValues tables tableOf levelAt noKinds
 own-values {mode} l h c i =
-    split (eqb mode 5)
-    (λ t. let z : mode ≡ 5 = eqb-true mode 5 t in rw z refl)
-    (λ t. let z : mode ≡ 4 = omega (arith, eqb-false mode 5 t) in rw z refl)
+    split (eqb mode inElement)
+    (λ t. let z : mode ≡ inElement = eqb-true mode inElement t in rw z refl)
+    (λ t. let z : mode ≡ inTag = omega (arith, eqb-false mode inElement t) in rw z refl)
 
 module _ (s : Settings) (count : ℕ) where
-  pub learned-first : {mode : ℕ} → 4 ≤ mode → mode ≤ 5 → (p : Place) {part : ℕ} → part ≤ count
+  pub learned-first : {mode : ℕ} → inTag ≤ mode → mode ≤ inElement → (p : Place) {part : ℕ} → part ≤ count
       → firstBits (s .alignment) mode count part
       ≡ codeBitsAs s mode p (record { learned = true; count = count; part = part })
   unfolding firstBits codeBitsAs
@@ -64,8 +65,8 @@ module _ (s : Settings) (count : ℕ) where
       ∙ ap (choiceBits (s .alignment) among)
       (sym (below-in among part (omega (arith, low, e, own-few mode .0))))
 
-  pub end-first : firstBits (s .alignment) 5 count count
-      ≡ codeBitsAs s 5 (record { level = 0; value = 0 })
+  pub end-first : firstBits (s .alignment) inElement count count
+      ≡ codeBitsAs s inElement (record { level = 0; value = 0 })
       (record { learned = false; count = count; part = 0 })
   unfolding firstBits ownValues codeBitsAs placedBits fixedBits tables tableOf noKinds
   end-first =

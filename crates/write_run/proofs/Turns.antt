@@ -329,7 +329,7 @@ module _ {s : Settings} {opening cells : List ℕ} {text : Text} {stream₀ work
 
       module _ (z : r .number ≡ 0) {rows : List ℕ} (kept : KeptAfter rows) {top : ℕ}
           (inner : top ≡ innermostIn rows (r .depth)) where
-        abbrev written : StepPut stream work (t .core) n stream′ work′ r
+        abbrev written : StepPut (s .fragment) stream work (t .core) n stream′ work′ r
         written = p .put z
 
         abbrev later : State
@@ -434,11 +434,11 @@ module _ {s : Settings} {opening cells : List ℕ} {text : Text} {stream₀ work
               }
 
         -- The event's rows are all that joined.
-        joins-after : Joins (st .core) work₀ (n + 1) (withTop (coreOf r) top) work′
+        joins-after : Joins (s .fragment) (st .core) work₀ (n + 1) (withTop (coreOf r) top) work′
         joins-after =
-            subst (λ (d : Core). Joins (st .core) work₀ (n + 1) (withTop d top) work′)
+            subst (λ (d : Core). Joins (s .fragment) (st .core) work₀ (n + 1) (withTop d top) work′)
             (sym (written .core-is))
-            (subst (Joins (st .core) work₀ (n + 1) _) (sym (written .work-is))
+            (subst (Joins (s .fragment) (st .core) work₀ (n + 1) _) (sym (written .work-is))
             (one-joined (written .strings) (written .growth) (r .at) (r .stored) top
             (i .so-far .joins) (i .so-far .bounded) (written .rows)))
 
@@ -447,7 +447,7 @@ module _ {s : Settings} {opening cells : List ℕ} {text : Text} {stream₀ work
             omega (
               arith,
               ap (λ (d : Core). d .tag) (written .core-is),
-              after-late (t .core) (r .at) (r .stored) (written .strings)
+              after-late (s .fragment) (t .core) (r .at) (r .stored) (written .strings)
                   (written .growth) n (i .so-far .late),
             )
 

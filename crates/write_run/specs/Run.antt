@@ -1,6 +1,7 @@
 -- What writing the events of a list asks and leaves.
 use Prim.Native.Nat.{ℕ, _+_, _*_, _≤_, _<_}
 use mathlib.Core.Path.{_≡_}
+use mathlib.Core.Bool.{Bool}
 use mathlib.Core.List.{List}
 use lib.ListN.{length, take}
 use lib.Dec.{T}
@@ -44,11 +45,11 @@ pub record RunPre (stream work : List ℕ) (st : State) : Type 0 where
 
 -- So many events join memory one after the other, each with its strings and its growth in rows
 -- after the others, and no other cell is written; after each the top is set.
-pub data Joins : Core → List ℕ → ℕ → Core → List ℕ → Type 0 where
-  none-joined : {c : Core} {work : List ℕ} → Joins c work 0 c work
+pub data Joins (fragment : Bool) : Core → List ℕ → ℕ → Core → List ℕ → Type 0 where
+  none-joined : {c : Core} {work : List ℕ} → Joins fragment c work 0 c work
   one-joined : {c d : Core} {work mid : List ℕ} {n : ℕ} (s : Strings) (g : Growth)
-      (at stored top : ℕ) → Joins c work n d mid → Bounded d → RowBounds d s g stored
-      → Joins c work (n + 1) (withTop (coreAfter d at stored s g n) top)
+      (at stored top : ℕ) → Joins fragment c work n d mid → Bounded d → RowBounds d s g stored
+      → Joins fragment c work (n + 1) (withTop (coreAfter fragment d at stored s g n) top)
       (grown d g (joinedStrings d s mid))
 
 -- ---- by the definitions
@@ -76,7 +77,7 @@ pub record Progress (s : Settings) (opening : List ℕ) (xs : List Stored) (text
   pub listed : n ≤ length xs
   pub work-size : length work′ ≡ length work
   pub late : t .core .tag ≤ n + 1
-  pub joins : Joins (st .core) work n (t .core) work′
+  pub joins : Joins (s .fragment) (st .core) work n (t .core) work′
   pub meant : (w : Rows) → Stands opening text work (st .core) w (openedIn st)
       → Topped (st .core) (openedIn st) → Running s opening xs text st w bits work′ t n
 

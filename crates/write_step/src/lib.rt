@@ -90,7 +90,7 @@ fn start_element(
 {
     let f = write_known::learned_name(opening, text, SE, uri, local, c, work);
     let has = mem_learned::has_grammar(work, f.name);
-    if (f.row == 0) | !has | (MAX_OPEN <= c.depth) {
+    if (f.row == 0) | !has | (MAX_OPEN <= c.depth) | (c.mode < IN_TAG) {
         let e = Event::StartElement(uri, local);
         return write_event::write_event(o, stream, opening, text, e, n, c, work);
     }
@@ -141,7 +141,7 @@ fn characters(
         (now (stream .exit)) (now (work .exit)) r ⌝ }
 {
     let row = grammar_match::find_learned(c.mode, c.top, CH, 0, c.learned, work);
-    if row == 0 {
+    if (row == 0) | (c.mode < IN_TAG) {
         let e = Event::Characters(value);
         return write_event::write_event(o, stream, opening, text, e, n, c, work);
     }
@@ -163,11 +163,11 @@ fn end_element(
         (now (stream .entry)) (now (work .entry)) c n (now (stream .exit)) (now (work .exit)) r ⌝ }
 {
     let row = grammar_match::find_learned(c.mode, c.top, EE, 0, c.learned, work);
-    if row != 0 {
-        return write_tags::known_end(o.aligned, stream, row, n, c, work);
+    if (row != 0) & (IN_TAG <= c.mode) {
+        return write_tags::known_end(o.aligned, o.fragment, stream, row, n, c, work);
     }
     if c.mode == IN_ELEMENT {
-        return write_tags::end_tag(o.aligned, stream, n, c, work);
+        return write_tags::end_tag(o.aligned, o.fragment, stream, n, c, work);
     }
     write_event::write_event(o, stream, opening, text, Event::EndElement, n, c, work)
 }

@@ -16,6 +16,7 @@ use Rattle.event.specs.declared.Part.{Part}
 use Rattle.event.specs.declared.Event.the-variants.{StartElement}
 use Rattle.event.specs.Cells.{asSpan, asName, meaning}
 use Rattle.mem_learned.specs.Grammars.{flagIn}
+use Rattle.event_code.specs.Numbers.{inTag}
 use Rattle.mem_rows.specs.Rows.{modeAfter}
 use Rattle.mem_state.specs.declared.Core.{Core}
 use Rattle.mem_state.specs.declared.Growth.{Growth}
@@ -34,7 +35,7 @@ use Rattle.write_event.proofs.Events.{every-two}
 use Rattle.write_known.specs.Known.{LearnedPre, LearnedPut}
 use Rattle.write_known.proofs.Known.{Placed, inner-placed, learned-here, learned-put}
 use Rattle.write_known.proofs.Known.{quick-coded}
-use Rattle.write_known.proofs.Values.{content-pre, known-inner}
+use Rattle.write_known.proofs.Values.{content-pre}
 use Rattle.write_tags.specs.Tags.{ElementPost}
 
 lies : (text : List ℕ) (uri local : Part) → inside text (asSpan uri) ≡ true
@@ -60,13 +61,13 @@ module _ {stream work : List ℕ} {c : Core} {n : ℕ} (pre : StepPre stream wor
     (known : LearnedPre SE work c name row) (flag : flagIn work name ≡ true) where
   stands : (s : Settings) → Placed s (c .mode) 2
   stands s =
-      inner-placed s 2 (known-inner pre known) (pre .bounded .fits .known) (omega arith) (omega arith)
+      inner-placed s 2 (known .inner) (pre .bounded .fits .known) (omega arith) (omega arith)
       (λ z. absurd (omega (arith, z)))
 
   pub element-stepped : c .depth < maxOpen → {a : Alignment} {mid : List ℕ} {at : ℕ}
       → LearnedPut a stream work (c .at) (c .mode) (c .top) row mid at → {tag : ℕ} → tag ≡ n + 2
       → ElementPost a name stream work c n mid
-      (steppedAs 0 (movedOn c at (c .stored) false false 4 name (c .depth + 1) tag))
+      (steppedAs 0 (movedOn c at (c .stored) false false inTag name (c .depth + 1) tag))
   unfolding kindOf meaning kindNumber growthOf fitsIn grown learnt entered marked joinedStrings
       joinedUri joinedName joinedValue modeAfter topAfter depthAfter tagNumber contentBits namedBits
       counted turned
@@ -86,10 +87,10 @@ module _ {stream work : List ℕ} {c : Core} {n : ℕ} (pre : StepPre stream wor
               uri = named .u;
             }) flag)
             (ap (λ b. not b && true && true) (lt-leb maxOpen (c .depth) h))
-            (learned-put c q s same (known-inner pre known) (pre .bounded .fits .known)
+            (learned-put c q s same (known .inner) (pre .bounded .fits .known)
             (stands s .p))
             refl refl
-            ((λ i. movedOn c at (c .stored) false false 4 name (c .depth + 1) (t i))
-            ∙ moved-core c at (c .stored) noJoining (named .u) name name false
+            ((λ i. movedOn c at (c .stored) false false inTag name (c .depth + 1) (t i))
+            ∙ moved-core (s .fragment) c at (c .stored) noJoining (named .u) name name false
             (siteIn (c .mode) (c .top)) 2 name (named .u) n);
       }

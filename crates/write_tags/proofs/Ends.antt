@@ -2,7 +2,7 @@
 use Prim.Native.Nat.{ℕ, _-_}
 use native.Mathlib.Omega.{arith}
 use mathlib.Core.Path.{_≡_, refl, sym, ap, subst, _∙_}
-use mathlib.Core.Bool.{false, _&&_, not}
+use mathlib.Core.Bool.{Bool, false, _&&_, not}
 use mathlib.Core.List.{List}
 use Rattle.spec_fields.specs.Field.{Alignment}
 use Rattle.spec_exi.specs.Settings.{Settings}
@@ -12,7 +12,7 @@ use Rattle.spec_exi.specs.Grammar.{kindNumber}
 use Rattle.spec_exi.specs.Lists.{every}
 use Rattle.event.specs.declared.Event.the-variants.{EndElement}
 use Rattle.event.specs.Cells.{meaning}
-use Rattle.event_code.specs.Numbers.{teachesIn}
+use Rattle.event_code.specs.Numbers.{teachesIn, inElement}
 use Rattle.mem_rows.specs.Rows.{carries}
 use Rattle.mem_state.specs.declared.Core.{Core}
 use Rattle.mem_state.specs.Joining.{noJoining, noStrings}
@@ -36,7 +36,7 @@ use Rattle.write_event.specs.Step.{StepPre, StepPost}
 use Rattle.write_event.specs.Judge.{CodeHere}
 use Rattle.write_known.specs.Known.{LearnedPre, LearnedPut}
 use Rattle.write_known.proofs.Known.{Placed, inner-placed, learned-here, learned-put, quick-coded}
-use Rattle.write_known.proofs.Values.{content-pre, known-inner}
+use Rattle.write_known.proofs.Values.{content-pre}
 use Rattle.write_tags.specs.Tags.{endedAt, TagPost}
 
 module _ {stream work : List ℕ} {c : Core} {n : ℕ} (pre : StepPre stream work c n) where
@@ -51,7 +51,7 @@ module _ {stream work : List ℕ} {c : Core} {n : ℕ} (pre : StepPre stream wor
       → {stream′ : List ℕ} {at : ℕ}
       → Put stream (c .at) (codeBitsAs s (c .mode) (placed .p) code) stream′ at
       → StepPost s opening text (meaning EndElement) stream work c n stream′ work
-      (steppedAs 0 (endedAt c at n))
+      (steppedAs 0 (endedAt (s .fragment) c at n))
   unfolding kindOf meaning stringsOf every kindNumber growthOf fitsIn grown learnt entered marked
       joinedStrings joinedUri joinedName joinedValue topAfter depthAfter tagNumber contentBits
   end-coded opening text s placed here untaught {at = at} put =
@@ -66,27 +66,29 @@ module _ {stream work : List ℕ} {c : Core} {n : ℕ} (pre : StepPre stream wor
         uri = 0;
       }) untaught)
       refl put refl refl
-      (moved-core c at (c .stored) noJoining 0 0 0 false (siteIn (c .mode) (c .top)) 4 0 0 n)
+      (moved-core (s .fragment) c at (c .stored) noJoining 0 0 0 false (siteIn (c .mode) (c .top)) 4 0 0 n)
 
   -- Of a learned production.
-  pub known-ended : {row : ℕ} → LearnedPre EE work c 0 row → {a : Alignment} {stream′ : List ℕ}
+  pub known-ended : (fragment : Bool) {row : ℕ} → LearnedPre EE work c 0 row → {a : Alignment} {stream′ : List ℕ}
       {at : ℕ} → LearnedPut a stream work (c .at) (c .mode) (c .top) row stream′ at
-      → TagPost a EndElement stream work c n stream′ (steppedAs 0 (endedAt c at n))
+      → TagPost a fragment EndElement stream work c n stream′ (steppedAs 0 (endedAt fragment c at n))
   unfolding kindNumber
-  known-ended known q =
-      let l = known-inner pre known in
+  known-ended fragment known {stream′ = stream′} {at = at} q =
+      let l = known .inner in
       let h = pre .bounded .fits .known in
       record {
-        steps = λ s same opening text.
-            let placed = inner-placed s 4 l h (omega arith) (omega arith) (λ z. absurd (omega (arith, z)))
+        steps = λ s same which opening text.
+            subst (λ b. StepPost s opening text (meaning EndElement) stream work c n stream′ work
+            (steppedAs 0 (endedAt b c at n))) which
+            (let placed = inner-placed s 4 l h (omega arith) (omega arith) (λ z. absurd (omega (arith, z)))
             in
             end-coded opening text s placed (learned-here c q (known .found) (known .some)) refl
-            (learned-put c q s same l h (placed .p));
+            (learned-put c q s same l h (placed .p)));
       }
 
   -- ---- in an element's content
 
-  module _ (in-content : c .mode ≡ 5) where
+  module _ (in-content : c .mode ≡ inElement) where
     pub end-asks : {count : ℕ} → CountedHere work (c .mode) (c .top) count
         → FirstPre stream (c .at) count count
     unfolding maxEvents maxString
@@ -103,12 +105,12 @@ module _ {stream work : List ℕ} {c : Core} {n : ℕ} (pre : StepPre stream wor
     unfolding tables tableOf placeIn numberIn inLevel placeAs kindNumber
     first-there s = place-is (s .comments) (s .instructions) (c .mode) 4 (rw in-content refl)
 
-    pub content-ended : {count : ℕ} → CountedHere work (c .mode) (c .top) count
+    pub content-ended : (fragment : Bool) {count : ℕ} → CountedHere work (c .mode) (c .top) count
         → FoundHere work (c .mode) (c .top) 4 0 (c .learned) 0 → {a : Alignment} {stream′ : List ℕ}
         {at : ℕ} → Put stream (c .at) (firstBits a (c .mode) count count) stream′ at
-        → TagPost a EndElement stream work c n stream′ (steppedAs 0 (endedAt c at n))
+        → TagPost a fragment EndElement stream work c n stream′ (steppedAs 0 (endedAt fragment c at n))
     unfolding teachesIn
-    content-ended {count} counted none {a} {stream′} {at} q =
+    content-ended fragment {count} counted none {a} {stream′} {at} q =
         let code : Code = record { learned = false; count = count; part = 0 } in
         let here : CodeHere work c 4 0 code = record {
           counted = counted;
@@ -118,8 +120,10 @@ module _ {stream work : List ℕ} {c : Core} {n : ℕ} (pre : StepPre stream wor
           taken = λ h. absurd (omega (arith, h));
         } in
         record {
-          steps = λ s same opening text.
-              end-coded opening text s
+          steps = λ s same which opening text.
+              subst (λ b. StepPost s opening text (meaning EndElement) stream work c n stream′ work
+              (steppedAs 0 (endedAt b c at n))) which
+              (end-coded opening text s
               (record {
                 p = record { level = 0; value = 0 };
                 at = first-there s;
@@ -130,5 +134,5 @@ module _ {stream work : List ℕ} {c : Core} {n : ℕ} (pre : StepPre stream wor
               (ap (λ b. firstBits b (c .mode) count count) (sym same)
               ∙ ap (λ m. firstBits (s .alignment) m count count) in-content
               ∙ end-first s count
-              ∙ ap (λ m. codeBitsAs s m (record { level = 0; value = 0 }) code) (sym in-content)) q);
+              ∙ ap (λ m. codeBitsAs s m (record { level = 0; value = 0 }) code) (sym in-content)) q));
         }

@@ -2,7 +2,7 @@
 -- (crates/write_event/specs/Step.antt), and work memory as it was.
 use Prim.Native.Nat.{ℕ, _+_, _-_, _≤_}
 use mathlib.Core.Path.{_≡_}
-use mathlib.Core.Bool.{true, false}
+use mathlib.Core.Bool.{Bool, true, false}
 use mathlib.Core.List.{List}
 use Rattle.spec_fields.specs.Field.{Alignment}
 use Rattle.text.specs.Text.{inside}
@@ -24,15 +24,15 @@ use Rattle.write_production.specs.Codes.{codeBitsAs}
 use Rattle.write_event.specs.Step.{StepPost}
 use Rattle.write_known.specs.Names.{Named}
 
--- The numbers after an end tag.
-abbrev pub endedAt : Core → ℕ → ℕ → Core
-endedAt c at n =
-    movedOn c at (c .stored) false false (modeAfter (kindNumber EE) (c .mode) (c .depth)) (c .top)
-    (c .depth - 1) (n + 2)
+-- The numbers after an end tag, in a fragment or not.
+abbrev pub endedAt : Bool → Core → ℕ → ℕ → Core
+endedAt fragment c at n =
+    movedOn c at (c .stored) false false (modeAfter fragment (kindNumber EE) (c .mode) (c .depth))
+    (c .top) (c .depth - 1) (n + 2)
 
-pub record TagPost (a : Alignment) (e : declared.Event) (stream work : List ℕ) (c : Core) (n : ℕ)
-    (stream′ : List ℕ) (r : Stepped) : Type 0 where
-  pub steps : (s : Settings) → s .alignment ≡ a → (opening text : List ℕ)
+pub record TagPost (a : Alignment) (fragment : Bool) (e : declared.Event) (stream work : List ℕ)
+    (c : Core) (n : ℕ) (stream′ : List ℕ) (r : Stepped) : Type 0 where
+  pub steps : (s : Settings) → s .alignment ≡ a → s .fragment ≡ fragment → (opening text : List ℕ)
       → StepPost s opening text (meaning e) stream work c n stream′ work r
 
 -- Of a start element with this name.
@@ -61,8 +61,8 @@ pub record OuterPost (s : Settings) (kind : ℕ) (stream work : List ℕ) (c : C
       (record { learned = false; count = count; part = 0 })) stream′ at
   pub is : r
       ≡ steppedAs 0
-      (movedOn c at (c .stored) false false (modeAfter kind (c .mode) (c .depth)) (c .top)
-      (c .depth) (n + 2))
+      (movedOn c at (c .stored) false false (modeAfter (s .fragment) kind (c .mode) (c .depth))
+      (c .top) (c .depth) (n + 2))
 
 pub record DocumentPost (s : Settings) (e : declared.Event) (stream work : List ℕ) (c : Core)
     (n : ℕ) (stream′ : List ℕ) (r : Stepped) : Type 0 where

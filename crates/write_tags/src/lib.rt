@@ -67,13 +67,13 @@ pub fn known_element(
 // ---- an end tag
 
 // The answer after it.
-fn ended(at: usize, n: usize, c: Core) -> Stepped
+fn ended(fragment: bool, at: usize, n: usize, c: Core) -> Stepped
     requires { ⌜ Bounded c ⌝ }
     requires { ⌜ 0 < c .depth ⌝ }
     requires { ⌜ n < maxEvents ⌝ }
-    ensures { λ r. ⌜ r ≡ steppedAs 0 (endedAt c at n) ⌝ }
+    ensures { λ r. ⌜ r ≡ steppedAs 0 (endedAt fragment c at n) ⌝ }
 {
-    let mode = mem_state::mode_after(EE, c.mode, c.depth);
+    let mode = mem_state::mode_after(fragment, EE, c.mode, c.depth);
     let tag = stepped::next_tag(n);
     stepped::moved_on(c, at, c.stored, false, false, mode, c.top, c.depth - 1, tag)
 }
@@ -81,6 +81,7 @@ fn ended(at: usize, n: usize, c: Core) -> Stepped
 // Writes an end tag whose production is learned, in this row counted from 1.
 pub fn known_end(
     aligned: bool,
+    fragment: bool,
     stream: &mut [u8],
     row: u32,
     n: usize,
@@ -90,25 +91,32 @@ pub fn known_end(
     requires { ⌜ StepPre (now stream) (now work) c n ⌝ }
     requires { ⌜ LearnedPre EE (now work) c 0 row ⌝ }
     ensures { λ r. ⌜
-        TagPost (alignmentOf aligned) EndElement (now (stream .entry)) (now (work .entry)) c n
-        (now (stream .exit)) r ⌝ }
+        TagPost (alignmentOf aligned) fragment EndElement (now (stream .entry))
+        (now (work .entry)) c n (now (stream .exit)) r ⌝ }
 {
     let at = write_known::put_learned(aligned, stream, c.at, c.mode, c.top, row, work);
-    ended(at, n, c)
+    ended(fragment, at, n, c)
 }
 
 // Writes the end tag in an element's content, which is not learned there.
-pub fn end_tag(aligned: bool, stream: &mut [u8], n: usize, c: Core, work: &[u32]) -> Stepped
+pub fn end_tag(
+    aligned: bool,
+    fragment: bool,
+    stream: &mut [u8],
+    n: usize,
+    c: Core,
+    work: &[u32],
+) -> Stepped
     requires { ⌜ StepPre (now stream) (now work) c n ⌝ }
     requires { ⌜ c .mode ≡ inElement ⌝ }
     requires { ⌜ FoundHere (now work) (c .mode) (c .top) 4 0 (c .learned) 0 ⌝ }
     ensures { λ r. ⌜
-        TagPost (alignmentOf aligned) EndElement (now (stream .entry)) (now (work .entry)) c n
-        (now (stream .exit)) r ⌝ }
+        TagPost (alignmentOf aligned) fragment EndElement (now (stream .entry))
+        (now (work .entry)) c n (now (stream .exit)) r ⌝ }
 {
     let count = grammar_match::count_here(c.mode, c.top, work);
     let at = write_production::put_first(aligned, stream, c.at, c.mode, count, count);
-    ended(at, n, c)
+    ended(fragment, at, n, c)
 }
 
 // ---- outside the root element
@@ -129,12 +137,12 @@ fn outer(o: Settings, stream: &mut [u8], kind: u32, n: usize, c: Core, work: &[u
         part: 0,
     };
     let at = write_production::put_code(o, stream, c.at, c.mode, place, code);
-    let mode = mem_state::mode_after(kind, c.mode, c.depth);
+    let mode = mem_state::mode_after(o.fragment, kind, c.mode, c.depth);
     let tag = stepped::next_tag(n);
     stepped::moved_on(c, at, c.stored, false, false, mode, c.top, c.depth, tag)
 }
 
-// Writes the document's start.
+// Writes the start of a document or a fragment.
 pub fn start_document(o: Settings, stream: &mut [u8], n: usize, c: Core, work: &[u32]) -> Stepped
     requires { ⌜ StepPre (now stream) (now work) c n ⌝ }
     requires { ⌜ c .mode ≡ 0 ⌝ }

@@ -53,6 +53,7 @@ fn samples_that_are_accepted() {
         "check --byte-aligned day-byte-aligned.exi",
         "check day-of-500.exi",
         "check kinds.exi --cookie --comments --instructions",
+        "check --fragment restarted.exi",
     ] {
         let (status, stdout, stderr) = exi(words, b"");
         assert!(stdout.starts_with("accepted: "), "{words}: {stderr}");
@@ -104,12 +105,11 @@ fn samples_that_are_refused() {
     refused(words, hyphen_at_the_end, "8 CHARACTER, event 1: ");
 }
 
-/// No number without a meaning can be asked for: there are no flags but those of the first four
+/// No number without a meaning can be asked for: there are no flags but those of the first five
 /// settings, and each stands for one number.
 #[test]
 fn settings_without_a_meaning_have_no_words() {
     for word in [
-        "--fragment",
         "--max-length",
         "--capacity",
         "--loose",

@@ -86,7 +86,7 @@ pub struct SettingNumbers {
     pub comments: u32,
     /// 1 where processing instructions are kept, 0 where they are dropped.
     pub instructions: u32,
-    /// 0, a document with one root.
+    /// 1 for a fragment, with elements in any number; 0 for a document, with one root.
     pub fragment: u32,
     /// 0, values of any length join the tables.
     pub value_length: u32,

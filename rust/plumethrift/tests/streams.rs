@@ -146,6 +146,24 @@ fn comments_and_instructions_that_are_kept() {
     });
 }
 
+/// No element; `<a/><b/><a/>`, where SE(b) and SE(a) are learned and the second a is 1.
+#[test]
+fn fragments() {
+    let settings = Settings {
+        fragment: true,
+        ..BYTE_ALIGNED
+    };
+    both_ways(settings, &[0x80, 0x01], |_| {});
+    let stream = [
+        0x80, 0x00, 0x01, 0x02, 0x61, 0x00, 0x01, 0x01, 0x02, 0x62, 0x00, 0x01, 0x00, 0x03,
+    ];
+    both_ways(settings, &stream, |list| {
+        for name in ["a", "b", "a"] {
+            list.start_element("", name).end_element();
+        }
+    });
+}
+
 #[test]
 fn every_kind_of_event_comes_out_as_it_went_in() {
     let settings = Settings {

@@ -1,5 +1,6 @@
 use mathlib.Core.Path.{_∙_}
-use Rattle.grammar_codes.proofs.Table.{tag-count, element-count, no-count}
+use Rattle.grammar_codes.proofs.Table.{tag-count, element-count, fragment-count}
+use Rattle.grammar_codes.proofs.Table.{no-count}
 use Rattle.grammar_codes.proofs.Table.{count-is, document-count, content-count, end-count}
 use borrow.Author.Needs.{needs}
 use Rattle.grammar_codes.proofs.count_at.Statement.{statement}
@@ -22,6 +23,9 @@ nth-requires-4 c κs = search needs
 
 nth-requires-5 : tie.Need-nth-requires-5
 nth-requires-5 c κs = search needs
+
+nth-requires-6 : tie.Need-nth-requires-6
+nth-requires-6 c κs = search needs
 
 returns : tie.Need-returns
 returns c = rw (c .before .match .keys1) (count-is _ _ (c .nth .ensures ∙ document-count _ _ _))
@@ -52,8 +56,15 @@ returns-5 c =
 
 returns-6 : tie.Need-returns-6
 returns-6 c =
+    let kept-count = c .before .before .kept-count in
+    let match = c .before .match in
+    rw (match .keys6) (count-is _ _ (c .nth6 .ensures ∙ fragment-count _ _ _ (kept-count .ensures)))
+
+returns-7 : tie.Need-returns-7
+returns-7 c =
     let n = c .match .rest in
-    count-is _ _ (no-count _ _ _ (n .0 .0 .0 .0 .1) (n .0 .0 .0 .1) (n .0 .0 .1) (n .0 .1) (n .1))
+    count-is _ _ (no-count _ _ _ (n .0 .0 .0 .0 .0 .1) (n .0 .0 .0 .0 .1) (n .0 .0 .0 .1) (n .0 .0 .1)
+    (n .0 .1) (n .1))
 
 pub count-at-spec : {M : Type 1} → statement M
 count-at-spec =
@@ -65,9 +76,11 @@ count-at-spec =
     nth-requires-3
     nth-requires-4
     nth-requires-5
+    nth-requires-6
     returns
     returns-2
     returns-3
     returns-4
     returns-5
-    returns-6)
+    returns-6
+    returns-7)

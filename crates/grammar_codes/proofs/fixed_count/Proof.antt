@@ -24,9 +24,14 @@ unfolding fixedKinds fixedLevels tableOf tables
 returns-5 c = rw (c .match .keys5)
 
 returns-6 : tie.Need-returns-6
-returns-6 c =
+unfolding fixedKinds fixedLevels tableOf tables
+returns-6 c = rw (c .match .keys6)
+
+returns-7 : tie.Need-returns-7
+returns-7 c =
     let n = c .match .rest in
-    no-fixed _ (n .0 .0 .0 .0 .1) (n .0 .0 .0 .1) (n .0 .0 .1) (n .0 .1) (n .1)
+    no-fixed _ (n .0 .0 .0 .0 .0 .1) (n .0 .0 .0 .0 .1) (n .0 .0 .0 .1) (n .0 .0 .1) (n .0 .1) (n .1)
 
 pub fixed-count-spec : {M : Type 1} → statement M
-fixed-count-spec = tie.close (tie.spec returns returns-2 returns-3 returns-4 returns-5 returns-6)
+fixed-count-spec =
+    tie.close (tie.spec returns returns-2 returns-3 returns-4 returns-5 returns-6 returns-7)

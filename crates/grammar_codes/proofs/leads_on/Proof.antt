@@ -24,9 +24,14 @@ unfolding fixedLevels tableOf tables
 returns-5 c = rw (c .match .keys4) (leads-kept _ _ (not-false _ (c .before .if1 .left)))
 
 returns-6 : tie.Need-returns-6
-returns-6 c =
+unfolding fixedLevels tableOf tables
+returns-6 c = rw (c .match .keys5) (leads-kept _ _ (not-false _ (c .before .if1 .left)))
+
+returns-7 : tie.Need-returns-7
+returns-7 c =
     let n = c .match .rest in
-    leads-over _ _ _ (n .0 .0 .0 .1) (n .0 .0 .1) (n .0 .1) (n .1)
+    leads-over _ _ _ (n .0 .0 .0 .0 .1) (n .0 .0 .0 .1) (n .0 .0 .1) (n .0 .1) (n .1)
 
 pub leads-on-spec : {M : Type 1} → statement M
-leads-on-spec = tie.close (tie.spec returns returns-2 returns-3 returns-4 returns-5 returns-6)
+leads-on-spec =
+    tie.close (tie.spec returns returns-2 returns-3 returns-4 returns-5 returns-6 returns-7)

@@ -2,6 +2,7 @@ use Rattle.grammar_codes.proofs.Places.{place-is, document-other, over-
 use Rattle.grammar_codes.specs.Table.{tables, tableOf, numberIn, inLevel, placeIn, placeAs}
 use Rattle.spec_exi.specs.Grammar.{kindNumber}
 use Rattle.spec_exi.specs.Event.{ED, SE}
+use Rattle.event_code.specs.Numbers.{inFragment, inTag, inElement}
 use mathlib.Core.Path.{refl, _∙_}
 use borrow.Author.Needs.{needs}
 use Rattle.grammar_codes.proofs.place_of.Statement.{statement}
@@ -26,6 +27,9 @@ tag-place-requires c κs = search needs
 element-place-requires : tie.Need-element-place-requires
 element-place-requires c κs = search needs
 
+fragment-place-requires : tie.Need-fragment-place-requires
+fragment-place-requires c κs = search needs
+
 nowhere-requires-2 : tie.Need-nowhere-requires-2
 nowhere-requires-2 c κs = search needs
 
@@ -42,15 +46,21 @@ unfolding tableOf tables kindNumber
 returns-4 c = rw (c .before .match .keys3) (place-is _ _ 2 _ (c .outer-place2 .ensures ED refl))
 
 returns-5 : tie.Need-returns-5
-returns-5 c = rw (c .before .match .keys4) (place-is _ _ 4 _ (c .tag-place .ensures))
+returns-5 c = rw (c .before .match .keys4) (place-is _ _ inTag _ (c .tag-place .ensures))
 
 returns-6 : tie.Need-returns-6
-returns-6 c = rw (c .before .match .keys5) (place-is _ _ 5 _ (c .element-place .ensures))
+returns-6 c = rw (c .before .match .keys5) (place-is _ _ inElement _ (c .element-place .ensures))
 
 returns-7 : tie.Need-returns-7
-returns-7 c = let n = c .before .match .rest in
+returns-7 c =
+    rw (c .before .match .keys6) (place-is _ _ inFragment _ (c .fragment-place .ensures))
+
+returns-8 : tie.Need-returns-8
+returns-8 c =
+    let n = c .before .match .rest in
     place-is _ _ _ _ (c .nowhere2 .ensures
-    ∙ over-place _ _ _ (n .0 .0 .0 .0 .1) (n .0 .0 .0 .1) (n .0 .0 .1) (n .0 .1) (n .1))
+    ∙ over-place _ _ _ (n .0 .0 .0 .0 .0 .1) (n .0 .0 .0 .0 .1) (n .0 .0 .0 .1) (n .0 .0 .1) (n .0 .1)
+    (n .1))
 
 pub place-of-spec : {M : Type 1} → statement M
 place-of-spec =
@@ -62,10 +72,12 @@ place-of-spec =
     outer-place-requires-2
     tag-place-requires
     element-place-requires
+    fragment-place-requires
     nowhere-requires-2
     returns-2
     returns-3
     returns-4
     returns-5
     returns-6
-    returns-7)
+    returns-7
+    returns-8)

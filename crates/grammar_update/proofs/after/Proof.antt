@@ -15,7 +15,9 @@ returns : tie.Need-returns
 returns c =
     let g = c .before .before .args .g in
     let n = c .before .before .args .n in
-    c .turn .ensures ∙ ap (λ (d : Core). turned d (g .kind) (g .name) n) (c .before .count .ensures)
+    let fragment = c .before .before .args .fragment in
+    c .turn .ensures
+    ∙ ap (λ (d : Core). turned fragment d (g .kind) (g .name) n) (c .before .count .ensures)
 
 pub after-spec : {M : Type 1} → statement M
 after-spec = tie.close (tie.spec count-requires turn-requires returns)

@@ -1,6 +1,7 @@
 use mathlib.Core.Path.{refl}
 use Rattle.spec_exi.specs.Sizes.{cellsPerEvent}
 use Rattle.spec_exi.specs.Grammar.{kindNumber}
+use Rattle.mem_rows.specs.Rows.{modeAfter}
 use Rattle.mem_state.specs.Commit.{joinedUri, joinedName, joinedStrings, topAfter, depthAfter, tagNumber}
 use Rattle.read_first.proofs.First.{grow-still, added-as}
 use native.Mathlib.Omega.{arith}
@@ -29,8 +30,8 @@ grow-requires c κs =
     let joined = c .before .before .before .join-value .ensures in
     grow-still (pre .1) joined
 
-mode-after-requires : tie.Need-mode-after-requires
-mode-after-requires c κs = search needs
+content-after-requires : tie.Need-content-after-requires
+content-after-requires c κs = search needs
 
 next-tag-requires : tie.Need-next-tag-requires
 next-tag-requires c κs =
@@ -51,16 +52,16 @@ same-length-2 : tie.Need-same-length-2
 same-length-2 c = search needs
 
 returns : tie.Need-returns
-unfolding kindNumber joinedStrings joinedUri joinedName topAfter depthAfter tagNumber
+unfolding kindNumber joinedStrings joinedUri joinedName modeAfter topAfter depthAfter tagNumber
 returns c =
     let pre = c .before .before .before .before .before .before .before .before .before .before .before .before
     .before .before .before .before .before .before .pre in
     let joined = c .before .before .before .before .before .before .before .before .before .join-value .ensures
     in
-    added-as (pre .1) joined (pre .0) (rw (c .before .before .before .before .before .before .before .before
+    λ fragment. added-as (pre .1) joined fragment (pre .0) (rw (c .before .before .before .before .before .before .before .before
     .before .before .before .before .before .before .before .part-of .ensures) at (c .before .before .before
     .before .before .before .before .before .before .before .before .before .before .store .ensures))
-    (c .before .before .before .before .before .grow .ensures) (c .before .before .mode-after .ensures) refl
+    (c .before .before .before .before .before .grow .ensures) (c .before .before .content-after .ensures) refl
     refl
     (c .before .next-tag .ensures) (c .moved .ensures)
 
@@ -72,7 +73,7 @@ add-characters-spec =
     store-requires
     join-value-requires
     grow-requires
-    mode-after-requires
+    content-after-requires
     next-tag-requires
     moved-requires
     same-length

@@ -161,7 +161,7 @@ returns-3 c =
     in
     let j = c .before .before .before .before .before .before .before .before .judge .ensures in
     first-read pre first (reads) refl (sym g) j (c .before .before .before .before .before .before .before .if2
-    .left) (c .before .before .before .before .add-characters .ensures)
+    .left) (c .before .before .before .before .add-characters .ensures _)
 
 pub first-characters-spec : {M : Type 1} → statement M
 first-characters-spec =

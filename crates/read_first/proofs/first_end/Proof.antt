@@ -36,7 +36,8 @@ returns c =
     let fixed = c .before .before .before .before .before .before .before .before .pre .1 .1 in
     let g = c .before .before .before .before .growth .ensures in
     let j = c .before .before .judge .ensures in
-    rw (c .answer .ensures) (end-refused tag room fixed g j (omega (arith, c .before .if1 .taken)))
+    rw (c .answer .ensures) (end-refused tag room fixed g j
+    (c .before .before .before .before .before .before .before .before .args .fragment) (omega (arith, c .before .if1 .taken)))
 
 store-requires : tie.Need-store-requires
 store-requires c κs =
@@ -99,7 +100,9 @@ returns-2 c =
     .before .judge .ensures in
     let o = c .before .before .before .before .before .before .before .before .before .before .before .before
     .if1 .left in
-    end-read tag room fixed g j o (c .before .before .before .before .before .before .before .before .before
+    let start = c .before .before .before .before .before .before .before .before .before .before .before
+    .before .before .before .before .before .before .before .before in
+    end-read tag room fixed g j (start .args .fragment) o (c .before .before .before .before .before .before .before .before .before
     .before .store .ensures) (c .before .before .before .before .before .before .grow .ensures) (c .before
     .before .before .mode-after .ensures)
     (c .before .before .next-tag .ensures) (c .moved .ensures)

@@ -30,8 +30,8 @@ store-requires c κs = c .before .before .before .before .before .before .before
 join-value-requires : tie.Need-join-value-requires
 join-value-requires c κs = join-asks (c .before .before .before .before .before .before .before .before .before .before .before .before .before .before .before .before .before .pre .0) (c .before .before .before .before .before .before .before .before .before .before .before .before .before .before .before .before .before .pre .1) (c .before .before .before .before .before .before .before .before .before .before .read-value .ensures .1) (c .before .before .before .before .before .before .before .before .before .before .before .before .before .before .before .before .before .pre .0 .bounded .top)
 
-mode-after-requires : tie.Need-mode-after-requires
-mode-after-requires c κs = search needs
+content-after-requires : tie.Need-content-after-requires
+content-after-requires c κs = search needs
 
 next-tag-requires : tie.Need-next-tag-requires
 next-tag-requires c κs = c .before .before .before .before .before .before .before .before .before .before .before .before .before .before .before .before .before .before .before .before .before .pre .0 .early
@@ -50,7 +50,7 @@ same-length-5 c = search needs
 
 returns-2 : tie.Need-returns-2
 unfolding kindNumber
-returns-2 c = rw (c .moved-on .ensures) (record { steps = λ s a q. characters-stepped (c .before .before .before .before .before .before .before .before .before .before .before .before .before .before .before .before .before .before .before .before .before .before .before .pre .0) q (c .before .before .before .before .before .before .before .before .before .before .before .before .before .before .before .before .before .before .before .before .before .before .before .pre .1 .learned) a (c .before .before .before .before .before .before .before .before .before .before .before .before .before .before .before .before .read-value .ensures .1) (c .before .before .before .before .before .before .before .before .before .before .before .before .before .before .before .before .before .before .before .before .before .before .before .pre .1 .kind) (c .before .before .before .before .before .before .before .before .before .before .before .before .before .before .before .before .read-value .ensures .0) (c .before .before .before .before .before .before .before .before .before .before .before .before .if1 .left) (c .before .before .before .before .before .before .before .before .before .before .before .part-of .ensures) (c .before .before .before .before .before .before .before .before .before .store .ensures) (c .before .before .before .before .before .join-value .ensures) (c .before .before .mode-after .ensures) (c .before .next-tag .ensures) })
+returns-2 c = rw (c .moved-on .ensures) (record { steps = λ s a q. characters-stepped (c .before .before .before .before .before .before .before .before .before .before .before .before .before .before .before .before .before .before .before .before .before .before .before .pre .0) q (c .before .before .before .before .before .before .before .before .before .before .before .before .before .before .before .before .before .before .before .before .before .before .before .pre .1 .learned) a (c .before .before .before .before .before .before .before .before .before .before .before .before .before .before .before .before .read-value .ensures .1) (c .before .before .before .before .before .before .before .before .before .before .before .before .before .before .before .before .before .before .before .before .before .before .before .pre .1 .kind) (c .before .before .before .before .before .before .before .before .before .before .before .before .before .before .before .before .read-value .ensures .0) (c .before .before .before .before .before .before .before .before .before .before .before .before .if1 .left) (c .before .before .before .before .before .before .before .before .before .before .before .part-of .ensures) (c .before .before .before .before .before .before .before .before .before .store .ensures) (c .before .before .before .before .before .join-value .ensures) (c .before .before .content-after .ensures) (c .before .next-tag .ensures) })
 
 pub known-characters-spec : {M : Type 1} → statement M
 known-characters-spec =
@@ -64,7 +64,7 @@ known-characters-spec =
     part-of-requires
     store-requires
     join-value-requires
-    mode-after-requires
+    content-after-requires
     next-tag-requires
     moved-on-requires
     same-length-3

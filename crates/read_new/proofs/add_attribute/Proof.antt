@@ -78,7 +78,7 @@ returns c =
     .join-names .ensures) (c .before .before .before .before .before .before .before .join-value .ensures) in
     let kind = c .before .before .before .before .before .before .before .before .before .before .before .before
     .before .before .before .before .before .before .before .before .before .before .pre .0 in
-    λ n early. added-as (add-numbered pre early) (joined) kind (rw (
+    λ n early fragment. added-as (add-numbered pre early) (joined) fragment kind (rw (
       c .before .before .before .before .before
           .before .before .before .before .before .before .before .before .before .before .before .before .before
           .before .part-of .ensures,

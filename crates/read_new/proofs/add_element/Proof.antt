@@ -69,7 +69,7 @@ returns c =
     .before .before .before .before .before .before .before .pre .0 in
     let name = c .before .before .before .before .before .before .before .before .before .before .before .before
     .before .before .before .before .before .before .before .pre .1 .0 in
-    added-as pre joined kind (rw (
+    λ fragment. added-as pre joined fragment kind (rw (
       c .before .before .before .before .before .before .before .before .before
           .before .before .before .before .before .before .before .part-of .ensures,
       c .before .before .before .before

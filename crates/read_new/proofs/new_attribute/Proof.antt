@@ -397,7 +397,7 @@ returns-5 c =
     let j = c .before .before .before .before .before .before .before .before .judge .ensures in
     let o = c .before .before .before .before .before .before .before .if4 .left in
     λ n early. first-read (numbered pre early) first (reads) refl (sym g) j o (c .before .before .before .before
-    .add-attribute .ensures n early)
+    .add-attribute .ensures n early _)
 
 pub new-attribute-spec : {M : Type 1} → statement M
 new-attribute-spec =

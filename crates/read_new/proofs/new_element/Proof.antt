@@ -283,7 +283,7 @@ returns-4 c =
     in
     let j = c .before .before .before .before .before .before .before .before .judge .ensures in
     let o = c .before .before .before .before .before .before .before .if3 .left in
-    first-read pre first (reads) refl (sym g) j o (c .before .before .before .before .add-element .ensures)
+    first-read pre first (reads) refl (sym g) j o (c .before .before .before .before .add-element .ensures _)
 
 pub new-element-spec : {M : Type 1} → statement M
 new-element-spec =

@@ -6,7 +6,7 @@ returns : tie.Need-returns
 returns c = rw (c .if1 .taken)
 
 returns-2 : tie.Need-returns-2
-returns-2 c = rw (ne-eqb _ 5 (c .if1 .left))
+returns-2 c = rw (ne-eqb _ _ (c .if1 .left))
 
 pub own-count-spec : {M : Type 1} → statement M
 own-count-spec = tie.close (tie.spec returns returns-2)

@@ -1,24 +1,20 @@
 use native.Mathlib.Omega.{arith}
 use Rattle.settings.specs.Meant.{settingsFrom}
 use Rattle.read_production.proofs.Returns.{inner-lower, inner-learned}
-use Rattle.read_production.proofs.Returns.{own-most, outer-read, inner-refused, inner-end}
+use Rattle.read_production.proofs.Returns.{own-most, inner-refused, inner-end}
+use Rattle.read_production.proofs.Between.{at-none}
 use Rattle.read_production.proofs.Returns.{fixed-asks, site-asks, learned-asks, part-asked}
 use borrow.Author.Needs.{needs}
 use Rattle.read_production.proofs.read_production.Statement.{statement}
 use Rattle.read_production.proofs.read_production.Tie as tie
 
-read-fixed-requires : tie.Need-read-fixed-requires
-read-fixed-requires c κs =
-    let pre = c .before .before .before .pre in
-    fixed-asks pre (pre .place)
+read-outer-requires : tie.Need-read-outer-requires
+read-outer-requires c κs = (at-none (c .before .before .before .pre), c .if1 .taken)
 
 returns : tie.Need-returns
-unfolding settingsFrom
 returns c =
-    let args = c .before .before .before .before .args in
-    let pre = c .before .before .before .before .pre in
-    let if1 = c .before .if1 in
-    outer-read (settingsFrom (args .o)) _ pre (if1 .taken) (c .read-fixed .ensures)
+    let start = c .before .before .before .before in
+    c .read-outer .ensures (start .args .top) (start .pre .low)
 
 site-in-requires : tie.Need-site-in-requires
 site-in-requires c κs = c .before .before .before .pre .low
@@ -102,8 +98,8 @@ returns-4 c =
     (part .before .own-count .ensures) (part .read-part .ensures)
     (if2 .left) (c .before .before .before .if3 .left) (c .before .if4 .taken))
 
-read-fixed-requires-2 : tie.Need-read-fixed-requires-2
-read-fixed-requires-2 c κs =
+read-fixed-requires : tie.Need-read-fixed-requires
+read-fixed-requires c κs =
     let part = c .before .before .before .before .before .before in
     let start = part .before .before .before .before .before .before .before in
     fixed-asks (start .pre) (part .read-part .ensures .inside)
@@ -119,13 +115,13 @@ returns-5 c =
     inner-lower (settingsFrom (start .args .o)) _ (start .pre) (inner .if1 .left)
     (counted .before .site-in .ensures) (counted .count-at .ensures)
     (part .before .own-count .ensures) (part .read-part .ensures)
-    (if2 .left) (c .before .if4 .left) (c .read-fixed2 .ensures)
+    (if2 .left) (c .before .if4 .left) (c .read-fixed .ensures)
 
 pub read-production-spec : {M : Type 1} → statement M
 read-production-spec =
     tie.close
     (tie.spec
-    read-fixed-requires
+    read-outer-requires
     returns
     site-in-requires
     count-at-requires
@@ -139,5 +135,5 @@ read-production-spec =
     returns-3
     fixed-requires
     returns-4
-    read-fixed-requires-2
+    read-fixed-requires
     returns-5)

@@ -2,6 +2,7 @@ use Rattle.read_step.proofs.Steps.{tag-asks, first-asks, at-end, in-con
 use Rattle.read_tags.proofs.Plain.{plain-outside}
 use Rattle.read_event.proofs.Steps.{numbered}
 use Rattle.spec_exi.specs.Grammar.{kindNumber}
+use Rattle.settings.specs.Meant.{settingsFrom}
 use Rattle.spec_exi.specs.Sizes.{maxEvents}
 use Rattle.spec_exi.specs.Event.{SD, ED, SE, AT, EE, CH}
 use mathlib.Core.Path.{refl}
@@ -34,12 +35,13 @@ same-length-2 c =
     refl
 
 returns : tie.Need-returns
+unfolding settingsFrom
 returns c =
     let pre = c .before .before .before .before .before .before .before .before .before .before .before .before
     .pre .0 in
     let code = c .before .before .before .before .before .before .before .before .before .before .before .before
     .pre .1 in
-    c .before .before .end-tag .ensures .steps _ _ _ pre (code .code)
+    c .before .before .end-tag .ensures .steps _ refl _ _ pre (code .code)
 
 start-document-requires : tie.Need-start-document-requires
 unfolding kindNumber
@@ -98,26 +100,30 @@ same-length-3 c =
     c .before .events2 .given
 
 returns-2 : tie.Need-returns-2
+unfolding settingsFrom
 returns-2 c =
     let pre = c .before .before .before .before .before .before .before .before .before .before .before .before
     .pre .0 in
     let code = c .before .before .before .before .before .before .before .before .before .before .before .before
     .pre .1 in
-    c .before .before .start-document .ensures .steps _ _ _ _ pre (code .code)
-    (plain-outside (code .is) (outside code (omega (arith, c .before .before .before .before .match .keys1))))
+    c .before .before .start-document .ensures .steps _ refl _ _ _ pre (code .code)
+    (plain-outside (code .is) (outside code (omega (arith, c .before .before .before .before .match .keys1)))
+    (omega (arith, c .before .before .before .before .match .keys1)))
 
 same-length-4 : tie.Need-same-length-4
 same-length-4 c =
     c .before .events3 .given
 
 returns-3 : tie.Need-returns-3
+unfolding settingsFrom
 returns-3 c =
     let pre = c .before .before .before .before .before .before .before .before .before .before .before .before
     .pre .0 in
     let code = c .before .before .before .before .before .before .before .before .before .before .before .before
     .pre .1 in
-    c .before .before .end-document .ensures .steps _ _ _ _ pre (code .code)
-    (plain-outside (code .is) (outside code (omega (arith, c .before .before .before .before .match .keys2))))
+    c .before .before .end-document .ensures _ .steps _ refl _ _ _ pre (code .code)
+    (plain-outside (code .is) (outside code (omega (arith, c .before .before .before .before .match .keys2)))
+    (omega (arith, c .before .before .before .before .match .keys2)))
 
 same-length-5 : tie.Need-same-length-5
 same-length-5 c =
@@ -162,12 +168,13 @@ same-length-12 c =
     c .before .work3 .given
 
 returns-6 : tie.Need-returns-6
+unfolding settingsFrom
 returns-6 c =
     let pre = c .before .before .before .before .before .before .before .before .before .before .before .before
     .before .before .before .pre .0 in
     let code = c .before .before .before .before .before .before .before .before .before .before .before .before
     .before .before .before .pre .1 in
-    c .before .before .before .before .first-end .ensures .steps _ _ _ pre (code .code)
+    c .before .before .before .before .first-end .ensures .steps _ refl _ _ pre (code .code)
 
 same-length-13 : tie.Need-same-length-13
 same-length-13 c =

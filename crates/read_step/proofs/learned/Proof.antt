@@ -45,11 +45,12 @@ same-length-2 : tie.Need-same-length-2
 same-length-2 c = c .before .work .given
 
 returns : tie.Need-returns
+unfolding settingsFrom
 returns c =
     let pre = c .before .before .before .before .before .before .before .before .before .before
     .before .before .pre in
     let known-element = c .before .before .before .before .known-element in
-    known-element .ensures .steps _ _ _ (pre .0) ((pre .1) .code)
+    known-element .ensures _ .steps _ refl _ _ (pre .0) ((pre .1) .code)
 
 same-length-3 : tie.Need-same-length-3
 same-length-3 c = c .before .before .before .before .before .events2 .given
@@ -89,10 +90,11 @@ same-length-9 : tie.Need-same-length-9
 same-length-9 c = c .before .events4 .given
 
 returns-4 : tie.Need-returns-4
+unfolding settingsFrom
 returns-4 c =
     let pre = c .before .before .before .before .before .before .before .before .before .pre in
     let known-end = c .before .before .known-end in
-    known-end .ensures .steps _ _ _ _ (pre .0) ((pre .1) .code) (plain-learned ((pre .1) .is))
+    known-end .ensures .steps _ refl _ _ _ (pre .0) ((pre .1) .code) (plain-learned ((pre .1) .is))
 
 pub learned-spec : {M : Type 1} → statement M
 learned-spec =

@@ -15,7 +15,7 @@ returns : tie.Need-returns
 returns c =
     let pre = c .before .before .before .before .before .pre in
     let bare = c .before .before .bare in
-    over-stepped (pre) (bare .ensures)
+    λ fragment. over-stepped fragment (pre) (bare .ensures)
 
 pub end-document-spec : {M : Type 1} → statement M
 end-document-spec = tie.close (tie.spec bare-requires same-length returns)

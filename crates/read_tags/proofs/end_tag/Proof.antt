@@ -26,7 +26,8 @@ returns c =
     let pre = c .before .before .before .before .before .pre in
     let find-learned = c .before .before .find-learned in
     let if1 = c .before .if1 in
-    rw (c .answer .ensures) (end-loose (pre .0) (pre .1 .1 .0) (find-learned .ensures) (if1 .taken))
+    rw (c .answer .ensures) (end-loose (pre .0) (pre .1 .1 .0) (find-learned .ensures) (if1 .taken)
+    (c .before .before .before .before .before .args .fragment))
 
 known-end-requires : tie.Need-known-end-requires
 known-end-requires c κs = c .before .before .before .before .before .pre .0

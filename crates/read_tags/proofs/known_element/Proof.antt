@@ -28,8 +28,8 @@ returns c =
     let has-grammar = c .before .before .before .has-grammar in
     let has-room = c .before .before .has-room in
     let if1 = c .before .if1 in
-    rw (c .answer .ensures) (element-limit _ (pre .0) (pre .1 .1) (has-grammar .ensures) refl
-    (has-room .ensures) (if1 .taken))
+    rw (c .answer .ensures) (λ fragment. element-limit _ (pre .0) (pre .1 .1) (has-grammar .ensures) refl
+    (has-room .ensures) fragment (if1 .taken))
 
 element-requires : tie.Need-element-requires
 element-requires c κs =
@@ -92,8 +92,8 @@ returns-2 c =
     .before .element in
     let store = c .before .before .before .before .before .before .before .before .before .store in
     let enter = c .before .before .before .before .before .enter in
-    rw (c .moved-on .ensures) (element-stepped _ (pre .0) (pre .1 .1) (has-grammar .ensures) refl
-    (has-room .ensures) (if1 .left) (element .ensures) (store .ensures) (enter .ensures)
+    rw (c .moved-on .ensures) (λ fragment. element-stepped _ (pre .0) (pre .1 .1) (has-grammar .ensures)
+    refl (has-room .ensures) fragment (if1 .left) (element .ensures) (store .ensures) (enter .ensures)
     (c .before .before .next-tag .ensures))
 
 pub known-element-spec : {M : Type 1} → statement M

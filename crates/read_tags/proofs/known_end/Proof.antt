@@ -24,7 +24,8 @@ returns c =
     let pre = c .before .before .before .before .before .before .before .pre in
     let mode-after = c .before .before .before .before .before .mode-after in
     let bare = c .before .before .bare in
-    end-stepped (pre) (mode-after .ensures) (bare .ensures)
+    let args = c .before .before .before .before .before .before .before .args in
+    end-stepped (args .fragment) (pre) (mode-after .ensures) (bare .ensures)
 
 pub known-end-spec : {M : Type 1} → statement M
 known-end-spec =

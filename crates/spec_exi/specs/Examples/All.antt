@@ -13,6 +13,7 @@ use Rattle.spec_exi.specs.Examples.Written.{WrittenUnder, writesInOrder,
 use Rattle.spec_exi.specs.Examples.Attributes.{equalRead, equalWritten}
 use Rattle.spec_exi.specs.Examples.Names.{InitialNames, namesRead, textsRead}
 use Rattle.spec_exi.specs.Examples.Names.{namesWritten, namesInOrder}
+use Rattle.spec_exi.specs.Examples.Fragments.{fragmentsRead, fragmentsWritten}
 use Rattle.spec_exi.specs.Examples.Pieces.{Tell, pieces}
 
 -- Each holds.
@@ -39,4 +40,6 @@ pub record WorkedExamples : Type 0 where
   pub texts-read : Hold textsRead
   pub names-written : Written namesWritten
   pub names-in-order : WrittenUnder namesInOrder
+  pub fragments-read : Hold fragmentsRead
+  pub fragments-written : Written fragmentsWritten
   pub pieces-told : Tell pieces

@@ -17,7 +17,7 @@ setting i v = numbers (replicate i 0 ++ (v ∷ []))
 -- Each at the first number that has no meaning.
 unfoldable pub meaningless : List SettingNumbers
 meaningless =
-    setting 0 2 ∷ setting 1 2 ∷ setting 2 2 ∷ setting 3 2 ∷ setting 4 1 ∷ setting 5 1 ∷ setting 6 1
+    setting 0 2 ∷ setting 1 2 ∷ setting 2 2 ∷ setting 3 2 ∷ setting 4 2 ∷ setting 5 1 ∷ setting 6 1
     ∷ setting 7 1 ∷ setting 8 1 ∷ setting 9 1 ∷ []
 
 -- Lent lengths.

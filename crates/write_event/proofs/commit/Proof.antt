@@ -20,11 +20,11 @@ same-length c = search needs
 
 returns : tie.Need-returns
 returns c =
-    let pre = c .before .before .before .before .before .before .before .before .before .before
-    .before .before .before .pre in
+    let start = c .before .before .before .before .before .before .before .before .before .before
+    .before .before .before in
     let join-strings = c .before .before .before .before .before .before .before .join-strings in
     let grow = c .before .before .before .grow in
-    committed pre _ (join-strings .ensures) (grow .ensures) (c .after .ensures)
+    committed (start .pre) (start .args .fragment) _ (join-strings .ensures) (grow .ensures) (c .after .ensures)
 
 pub commit-spec : {M : Type 1} → statement M
 commit-spec =

@@ -1,5 +1,6 @@
 use native.Mathlib.Omega.{arith}
 use Rattle.write_event.proofs.Steps.{step-refused, put-asks, commit-asks, step-done}
+use Rattle.settings.specs.Meant.{settingsFrom}
 use borrow.Author.Needs.{needs}
 use Rattle.write_event.proofs.write_event.Statement.{statement}
 use Rattle.write_event.proofs.write_event.Tie as tie
@@ -32,6 +33,7 @@ same-length-3 : tie.Need-same-length-3
 same-length-3 c = search needs
 
 returns-2 : tie.Need-returns-2
+unfolding settingsFrom
 returns-2 c = rw (c .answer2 .ensures) (step-done (c .before .before .before .before .before .before .before .before .before .before .before .before .before .before .before .before .before .before .pre) (c .before .before .before .before .before .before .before .before .before .before .before .before .judge-event .ensures) (c .before .before .before .before .before .before .before .before .before .before .if1 .left) (c .before .before .before .before .before .before .before .put-event .ensures) (c .before .before .before .commit .ensures))
 
 pub write-event-spec : {M : Type 1} → statement M

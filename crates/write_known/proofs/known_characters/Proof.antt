@@ -38,8 +38,8 @@ put-learned-requires c κs = learned-asks (c .before .before .before .before .be
 keep-value-requires : tie.Need-keep-value-requires
 keep-value-requires c κs = keep-asks (c .before .before .before .before .before .before .before .before .before .before .before .before .before .before .before .before .before .pre .0) (c .before .before .before .before .put-learned .ensures) (c .before .before .before .before .before .before .before .before .before .judge-value .ensures) (c .before .before .before .before .before .before .before .if2 .left) (c .before .before .before .before .before .before .before .before .before .before .before .before .before .before .before .before .before .pre .0 .bounded .top)
 
-mode-after-requires : tie.Need-mode-after-requires
-mode-after-requires c κs = search needs
+content-after-requires : tie.Need-content-after-requires
+content-after-requires c κs = search needs
 
 next-tag-requires : tie.Need-next-tag-requires
 next-tag-requires c κs = c .before .before .before .before .before .before .before .before .before .before .before .before .before .before .before .before .before .before .before .before .before .before .before .pre .0 .early
@@ -55,7 +55,7 @@ same-length-3 c = search needs
 
 returns-3 : tie.Need-returns-3
 unfolding kindNumber
-returns-3 c = rw (c .moved-on .ensures) (characters-stepped (c .before .before .before .before .before .before .before .before .before .before .before .before .before .before .before .before .before .before .before .before .before .before .before .before .before .pre .0) (c .before .before .before .before .before .before .before .before .before .before .before .before .before .before .before .before .before .before .before .before .before .before .before .before .before .pre .1) _ _ (c .before .before .before .before .before .before .before .before .before .before .before .before .before .before .before .before .before .before .before .before .before .is-inside .ensures) (c .before .before .before .before .before .before .before .before .before .before .before .before .before .before .before .before .before .before .before .before .if1 .left) (c .before .before .before .before .before .before .before .before .before .before .before .before .before .before .before .before .before .before .before .look-up .ensures .0) (c .before .before .before .before .before .before .before .before .before .before .before .before .before .before .before .before .before .judge-value .ensures) (c .before .before .before .before .before .before .before .before .before .before .before .before .before .before .before .if2 .left) (c .before .before .before .before .before .before .before .before .before .before .before .before .put-learned .ensures) (c .before .before .before .before .before .before .before .keep-value .ensures) (c .before .before .mode-after .ensures) (c .before .next-tag .ensures))
+returns-3 c = rw (c .moved-on .ensures) (characters-stepped (c .before .before .before .before .before .before .before .before .before .before .before .before .before .before .before .before .before .before .before .before .before .before .before .before .before .pre .0) (c .before .before .before .before .before .before .before .before .before .before .before .before .before .before .before .before .before .before .before .before .before .before .before .before .before .pre .1) _ _ (c .before .before .before .before .before .before .before .before .before .before .before .before .before .before .before .before .before .before .before .before .before .is-inside .ensures) (c .before .before .before .before .before .before .before .before .before .before .before .before .before .before .before .before .before .before .before .before .if1 .left) (c .before .before .before .before .before .before .before .before .before .before .before .before .before .before .before .before .before .before .before .look-up .ensures .0) (c .before .before .before .before .before .before .before .before .before .before .before .before .before .before .before .before .before .judge-value .ensures) (c .before .before .before .before .before .before .before .before .before .before .before .before .before .before .before .if2 .left) (c .before .before .before .before .before .before .before .before .before .before .before .before .put-learned .ensures) (c .before .before .before .before .before .before .before .keep-value .ensures) (c .before .before .content-after .ensures) (c .before .next-tag .ensures))
 
 pub known-characters-spec : {M : Type 1} → statement M
 known-characters-spec =
@@ -71,7 +71,7 @@ known-characters-spec =
     returns-2
     put-learned-requires
     keep-value-requires
-    mode-after-requires
+    content-after-requires
     next-tag-requires
     moved-on-requires
     same-length-2

@@ -28,7 +28,7 @@ returns c = search needs
 
 known-element-requires : tie.Need-known-element-requires
 unfolding kindNumber maxOpen
-known-element-requires c κs = let t = element-tests _ _ _ (c .before .before .if1 .left) in (c .before .before .before .before .before .before .before .before .before .before .before .before .before .pre, (record { found = (c .before .before .before .before .before .before .before .learned-name .ensures) .found (t .0); some = t .0 }, (sym (c .before .before .before .before .before .has-grammar .ensures) ∙ t .1, t .2)))
+known-element-requires c κs = let t = element-tests _ _ _ _ (c .before .before .if1 .left) in (c .before .before .before .before .before .before .before .before .before .before .before .before .before .pre, (record { found = (c .before .before .before .before .before .before .before .learned-name .ensures) .found (t .0); some = t .0; inner = t .3 }, (sym (c .before .before .before .before .before .has-grammar .ensures) ∙ t .1, t .2)))
 
 same-length-3 : tie.Need-same-length-3
 same-length-3 c = search needs

@@ -17,7 +17,7 @@ same-length : tie.Need-same-length
 same-length c = search needs
 
 returns : tie.Need-returns
-returns c = rw (c .ended .ensures) (content-ended (c .before .before .before .before .before .before .before .before .pre .0) (c .before .before .before .before .before .before .before .before .pre .1 .0) (c .before .before .before .before .before .count-here .ensures) (c .before .before .before .before .before .before .before .before .pre .1 .1) (c .before .before .before .put-first .ensures))
+returns c = rw (c .ended .ensures) (content-ended (c .before .before .before .before .before .before .before .before .pre .0) (c .before .before .before .before .before .before .before .before .pre .1 .0) (c .before .before .before .before .before .before .before .before .args .fragment) (c .before .before .before .before .before .count-here .ensures) (c .before .before .before .before .before .before .before .before .pre .1 .1) (c .before .before .before .put-first .ensures))
 
 pub end-tag-spec : {M : Type 1} → statement M
 end-tag-spec =

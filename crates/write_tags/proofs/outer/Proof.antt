@@ -1,4 +1,5 @@
 use mathlib.Core.Path.{refl}
+use Rattle.settings.specs.Meant.{settingsFrom}
 use Rattle.write_tags.proofs.Documents.{code-asks}
 use borrow.Author.Needs.{needs}
 use Rattle.write_tags.proofs.outer.Statement.{statement}
@@ -23,6 +24,7 @@ same-length : tie.Need-same-length
 same-length c = search needs
 
 returns : tie.Need-returns
+unfolding settingsFrom
 returns c = rw (c .moved-on .ensures, c .before .before .mode-after .ensures, c .before .next-tag .ensures) (record { count = _; counted = c .before .before .before .before .before .before .before .count-here .ensures; at = _; put = c .before .before .before .before .before .put-code .ensures; is = refl })
 
 pub outer-spec : {M : Type 1} → statement M

@@ -12,7 +12,7 @@ abbrev Inv-loop : tie.InvT-loop
 Inv-loop word i₀ t4 i = Passed words word i
 
 abbrev μ-loop : tie.MeasureT-loop
-μ-loop word i₀ t4 i = 11 - i
+μ-loop word i₀ t4 i = 12 - i
 
 loop-holds : tie.Need-loop-holds Inv-loop μ-loop
 loop-holds c = none-passed _ _
