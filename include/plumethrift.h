@@ -299,7 +299,6 @@ plumethrift_write_reply plumethrift_write_readings(plumethrift_settings settings
                                                    uint32_t *text, size_t text_cells,
                                                    uint32_t *work, size_t work_cells);
 
-#ifdef PLUMETHRIFT_PACKETS
 /*
  * The stream in packets
  *
@@ -314,7 +313,7 @@ plumethrift_write_reply plumethrift_write_readings(plumethrift_settings settings
  *   plumethrift_read does for the whole of it; `held` is zero then, too.
  */
 #define PLUMETHRIFT_HELD_OCTETS 16384 /* receiver: octets of the stream so far */
-#define PLUMETHRIFT_RECEIVER_WORDS 43 /* 64-bit words of a receiver's record */
+#define PLUMETHRIFT_RECEIVER_WORDS 44 /* 64-bit words of a receiver's record */
 
 /* A receiver between its calls. What the words are is the library's affair. */
 typedef struct plumethrift_receiver {
@@ -348,7 +347,6 @@ plumethrift_read_reply plumethrift_close(plumethrift_receiver *receiver,
                                          uint32_t *events, size_t event_cells,
                                          uint32_t *text, size_t text_cells,
                                          uint32_t *work, size_t work_cells);
-#endif
 
 /* The name of a refusal, "ROOM" to "NOT_LATER" for 1 to 19; "" for any other number. */
 plumethrift_name plumethrift_refusal_name(uint32_t number);

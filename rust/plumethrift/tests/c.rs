@@ -226,7 +226,6 @@ int main(void) {
 }
 
 /// The example that reads packets: what each completes, whatever their size.
-#[cfg(feature = "packets")]
 #[test]
 fn the_example_reads_packets() {
     let packets = program(&root().join("examples/packets.c"));
@@ -274,13 +273,11 @@ fn the_example_reads_packets() {
 
 /// The library writes a whole record and not an octet more: it is started in the answer's place,
 /// over two fills, by a declaration that has this place as the calling convention passes it.
-#[cfg(feature = "packets")]
 #[test]
 fn a_record_is_as_large_as_the_header_says() {
     const START: &str = r#"
 #include <stdio.h>
 #include <string.h>
-#define PLUMETHRIFT_PACKETS
 #define plumethrift_start plumethrift_start_by_value
 #include "plumethrift.h"
 #undef plumethrift_start

@@ -41,8 +41,8 @@ fn the_header_has_these_numbers_and_no_others() {
         ("STREAM_OCTETS", lent::STREAM_OCTETS),
         ("READER_WORK_CELLS", lent::READER_WORK_CELLS),
         ("WRITER_WORK_CELLS", lent::WRITER_WORK_CELLS),
-        ("HELD_OCTETS", 16_384),
-        ("RECEIVER_WORDS", 43),
+        ("HELD_OCTETS", lent::HELD_OCTETS),
+        ("RECEIVER_WORDS", lent::RECEIVER_WORDS),
         ("MAX_READINGS", lent::MAX_READINGS),
         ("LAST_STAMP", lent::LAST_STAMP as usize),
         ("MAX_MOVEMENT", lent::MAX_MOVEMENT as usize),
@@ -65,11 +65,6 @@ fn the_header_has_these_numbers_and_no_others() {
     ]
     .map(|(name, number)| (name.to_string(), number))
     .into();
-    #[cfg(feature = "packets")]
-    {
-        assert_eq!(expected["HELD_OCTETS"], lent::HELD_OCTETS);
-        assert_eq!(expected["RECEIVER_WORDS"], lent::RECEIVER_WORDS);
-    }
     let refusals = Refusal::ALL.iter();
     expected.extend(refusals.map(|it| (it.name().to_string(), it.number() as usize)));
     assert_eq!(numbers(), expected);

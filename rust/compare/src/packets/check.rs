@@ -1,10 +1,9 @@
-//! Streams in pieces, put to every implementation that has a receiver, and judged by the ordinary
-//! reader on the octets so far.
+//! Streams in pieces, put to both implementations, and judged by the ordinary reader on the octets
+//! so far.
 
-use super::{Call, PacketMemory, Receiver, RECEIVERS};
+use super::{Call, PacketMemory, Receiver};
 use crate::event::CELLS;
-use crate::lent::{Codec, ReadReply, ReaderSizes, Settings, ENDED, LONG, ROOM, SETTINGS};
-#[cfg(feature = "packets")]
+use crate::lent::{Codec, ReadReply, ReaderSizes, Settings, BOTH, ENDED, LONG, ROOM, SETTINGS};
 use crate::prng::Prng;
 use crate::protocol::Request;
 use crate::sizes::MAX_STREAM;
@@ -12,7 +11,7 @@ use crate::sizes::MAX_STREAM;
 /// The receivers side by side, and what they are judged by. An error is what differs, after the
 /// request line.
 pub struct PacketComparison {
-    memories: Vec<PacketMemory>,
+    memories: [PacketMemory; 2],
     whole: Cells,
     so_far: Cells,
     /// How many calls were put to all.
@@ -60,7 +59,7 @@ impl Cells {
             text,
             work,
         } = self;
-        let mut receiver = Receiver::start(Codec::Ordinary, settings).expect("an ordinary one");
+        let mut receiver = Receiver::start(Codec::Ordinary, settings);
         receiver.call(Some(octets), held, events, text, work)
     }
 
@@ -94,7 +93,7 @@ const fn refused(number: u32) -> ReadReply {
 impl PacketComparison {
     pub fn new() -> PacketComparison {
         PacketComparison {
-            memories: RECEIVERS.iter().map(|_| PacketMemory::new()).collect(),
+            memories: BOTH.map(|_| PacketMemory::new()),
             whole: Cells::new(),
             so_far: Cells::new(),
             calls: 0,
@@ -120,12 +119,10 @@ impl PacketComparison {
             kept: None,
             is_closed: false,
         };
-        let run = |codec: Codec| (codec != Codec::Ordinary || every == 1, codec);
-        let mut receivers: Vec<Option<Receiver>> = RECEIVERS
-            .iter()
-            .map(|&codec| run(codec))
-            .map(|(runs, codec)| Receiver::start(codec, settings).filter(|_| runs))
-            .collect();
+        let mut receivers = BOTH.map(|codec| {
+            let runs = codec != Codec::Ordinary || every == 1;
+            runs.then(|| Receiver::start(codec, settings))
+        });
         self.memories.iter_mut().for_each(PacketMemory::start);
         let mut last = refused(ENDED);
         for (k, call) in calls.iter().enumerate() {
@@ -158,9 +155,7 @@ impl PacketComparison {
             None
         };
         let so_far = &self.so_far;
-        for ((receiver, memory), codec) in
-            receivers.iter_mut().zip(&mut self.memories).zip(RECEIVERS)
-        {
+        for ((receiver, memory), codec) in receivers.iter_mut().zip(&mut self.memories).zip(BOTH) {
             let Some(receiver) = receiver else { continue };
             let (reply, fault) = memory.call(receiver, call);
             if let Some(fault) = fault {
@@ -248,15 +243,13 @@ impl Expected {
 
 /// The library's receiver, with its record and the lent memory changed at random between calls:
 /// every call has to return, and nothing may be touched that was not lent.
-#[cfg(feature = "packets")]
 pub fn run_changed(
     rng: &mut Prng,
     memory: &mut PacketMemory,
     settings: Settings,
     calls: &[Call],
 ) -> Result<(), String> {
-    let record = plumethrift::lent::start(crate::lent::library_settings(settings));
-    let mut receiver = Receiver::Library(Box::new(record));
+    let mut receiver = Receiver::start(Codec::Library, settings);
     memory.start();
     for call in calls {
         memory.call(&mut receiver, call);
@@ -277,7 +270,6 @@ pub fn run_changed(
 }
 
 /// A number as counts, places and positions are, or any.
-#[cfg(feature = "packets")]
 fn number(rng: &mut Prng) -> u32 {
     match rng.below(6) {
         0 => 0,
