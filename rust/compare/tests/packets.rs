@@ -212,7 +212,7 @@ fn streams() -> Vec<(Settings, Vec<u8>)> {
 }
 
 /// Streams up to this length are judged after each octet, longer ones after every so many.
-const SHORT_STREAM: usize = 150;
+const SHORT_STREAM: usize = 400;
 
 fn every(stream: &[u8]) -> usize {
     if stream.len() <= SHORT_STREAM {

@@ -102,13 +102,25 @@ impl PacketComparison {
 
     /// All calls, each judged. Answers the last reply.
     pub fn run(&mut self, settings: Settings, calls: &[Call]) -> Result<ReadReply, String> {
-        self.run_some(settings, calls, 1)
+        let receivers = BOTH.map(|codec| Some(Receiver::start(codec, settings)));
+        self.run_with(receivers, settings, calls, 1)
     }
 
-    /// All calls; of those that go on every so many are judged, and the memory after each. Where
-    /// not every one is, the ordinary receiver is left out: it takes as long as the judge.
+    /// All calls of the library alone; of those that go on every so many are judged, and the memory
+    /// after each.
     pub fn run_some(
         &mut self,
+        settings: Settings,
+        calls: &[Call],
+        every: usize,
+    ) -> Result<ReadReply, String> {
+        let library = Receiver::start(Codec::Library, settings);
+        self.run_with([Some(library), None], settings, calls, every)
+    }
+
+    fn run_with(
+        &mut self,
+        mut receivers: [Option<Receiver>; 2],
         settings: Settings,
         calls: &[Call],
         every: usize,
@@ -119,10 +131,6 @@ impl PacketComparison {
             kept: None,
             is_closed: false,
         };
-        let mut receivers = BOTH.map(|codec| {
-            let runs = codec != Codec::Ordinary || every == 1;
-            runs.then(|| Receiver::start(codec, settings))
-        });
         self.memories.iter_mut().for_each(PacketMemory::start);
         let mut last = refused(ENDED);
         for (k, call) in calls.iter().enumerate() {
