@@ -25,7 +25,7 @@
 //! assert!(matches!(second, Some(Event::StartElement { name, .. }) if name == "a"));
 //! ```
 
-use std::{fmt, mem::MaybeUninit};
+use core::{fmt, mem::MaybeUninit};
 
 use crate::boundary;
 
@@ -70,8 +70,8 @@ pub const MAX_MOVEMENT: i32 = 20_000;
 /// Settings of a stream, as numbers. A number other than those named is refused as SETTINGS.
 ///
 /// The default, all zero, is bit-packed, no cookie, nothing kept; of the last six numbers no other
-/// than 0 has a meaning yet. Value length, value capacity and grammar cap are bounds: 0 is none, and
-/// a bound n is n + 1. [`Settings`](crate::Settings) are the same in types.
+/// than 0 has a meaning yet. Value length, value capacity and grammar cap are bounds: 0 is none,
+/// and a bound n is n + 1. [`Settings`](crate::Settings) are the same in types.
 #[repr(C)]
 #[derive(Clone, Copy, Debug, PartialEq, Eq, Default)]
 pub struct SettingNumbers {
