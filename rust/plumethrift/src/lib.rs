@@ -138,7 +138,7 @@ pub use list::EventList;
 #[cfg(feature = "std")]
 pub use reader::Reader;
 #[cfg(feature = "std")]
-pub use readings::{Reading, Readings};
+pub use readings::{Reading, Readings, ReadingsIter};
 #[cfg(feature = "std")]
 pub use receiver::{Progress, Receiver};
 pub use refusal::{Refusal, Refused, Unknown};

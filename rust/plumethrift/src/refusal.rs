@@ -91,6 +91,7 @@ impl Refusal {
     /// assert_eq!(Refusal::from_number(13), Some(Refusal::Tail));
     /// assert_eq!(Refusal::from_number(0), None);
     /// ```
+    #[must_use]
     pub fn from_number(number: u32) -> Option<Refusal> {
         Refusal::ALL
             .iter()
@@ -99,11 +100,13 @@ impl Refusal {
     }
 
     /// Its number, 1 to 19.
+    #[must_use]
     pub const fn number(self) -> u32 {
         self as u32
     }
 
     /// Its name in capitals, as the C header has it.
+    #[must_use]
     pub const fn name(self) -> &'static str {
         match self {
             Refusal::Room => "ROOM",
@@ -129,6 +132,7 @@ impl Refusal {
     }
 
     /// What it means, in one sentence without a full stop.
+    #[must_use]
     pub const fn sentence(self) -> &'static str {
         match self {
             Refusal::Room => "a lent part is too short",

@@ -96,6 +96,7 @@ impl Settings {
     /// assert_eq!(bounded(0).numbers().value_capacity, 1);
     /// assert_eq!(bounded(u32::MAX).numbers().value_capacity, u32::MAX);
     /// ```
+    #[must_use]
     pub const fn numbers(&self) -> SettingNumbers {
         SettingNumbers {
             alignment: self.alignment as u32,

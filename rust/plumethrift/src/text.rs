@@ -18,27 +18,32 @@ pub struct Text<'a>(&'a [u32]);
 
 impl<'a> Text<'a> {
     /// The string of these code points.
+    #[must_use]
     pub const fn new(code_points: &'a [u32]) -> Self {
         Text(code_points)
     }
 
     /// Its code points.
+    #[must_use]
     pub const fn code_points(self) -> &'a [u32] {
         self.0
     }
 
     /// How many code points it has.
+    #[must_use]
     pub const fn len(self) -> usize {
         self.0.len()
     }
 
     /// It has none.
+    #[must_use]
     pub const fn is_empty(self) -> bool {
         self.0.is_empty()
     }
 
     /// Its characters. A code point that is no `char` (there is none in a document that was read)
     /// comes as U+FFFD.
+    #[must_use]
     pub fn chars(self) -> impl DoubleEndedIterator<Item = char> + ExactSizeIterator + Clone + 'a {
         self.0
             .iter()
