@@ -4,10 +4,21 @@
 use std::env;
 use std::error::Error;
 use std::io::{self, Read};
+use std::process::ExitCode;
 
 use plumethrift::{Receiver, Settings};
 
-fn main() -> Result<(), Box<dyn Error>> {
+fn main() -> ExitCode {
+    match run() {
+        Ok(()) => ExitCode::SUCCESS,
+        Err(error) => {
+            eprintln!("packets: {error}");
+            ExitCode::FAILURE
+        }
+    }
+}
+
+fn run() -> Result<(), Box<dyn Error>> {
     let mut words = env::args().skip(1);
     let octets = words
         .next()

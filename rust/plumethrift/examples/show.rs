@@ -1,11 +1,22 @@
 //! Prints the events of a stream: `show FILE [bit-packed | byte-aligned]`
 
 use std::error::Error;
+use std::process::ExitCode;
 use std::{env, fs};
 
 use plumethrift::{Event, Reader, Settings};
 
-fn main() -> Result<(), Box<dyn Error>> {
+fn main() -> ExitCode {
+    match run() {
+        Ok(()) => ExitCode::SUCCESS,
+        Err(error) => {
+            eprintln!("show: {error}");
+            ExitCode::FAILURE
+        }
+    }
+}
+
+fn run() -> Result<(), Box<dyn Error>> {
     let mut words = env::args().skip(1);
     let file = words.next().ok_or("a file is missing")?;
     let alignment = words

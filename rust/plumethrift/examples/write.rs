@@ -4,10 +4,21 @@
 use std::env;
 use std::error::Error;
 use std::io::{self, Write};
+use std::process::ExitCode;
 
 use plumethrift::{EventList, Settings, Writer};
 
-fn main() -> Result<(), Box<dyn Error>> {
+fn main() -> ExitCode {
+    match run() {
+        Ok(()) => ExitCode::SUCCESS,
+        Err(error) => {
+            eprintln!("write: {error}");
+            ExitCode::FAILURE
+        }
+    }
+}
+
+fn run() -> Result<(), Box<dyn Error>> {
     let word = env::args().nth(1);
     let alignment = word.map_or(Ok(Default::default()), |it| it.parse())?;
     let settings = Settings {
