@@ -848,7 +848,9 @@ fn time_rows(rows: Vec<Row>) -> Score {
     let mut memory = Memory::new();
     let mut score = Score::default();
     let mut timed: Vec<Timed> = Vec::new();
-    print_head();
+    if !rows.is_empty() {
+        print_head();
+    }
     for row in rows {
         let streams = row.streams;
         let case = Case::new(row, streams);
