@@ -25,8 +25,7 @@
 //! assert!(matches!(second, Some(Event::StartElement { name, .. }) if name == "a"));
 //! ```
 
-#[cfg(feature = "packets")]
-use std::{fmt, mem::MaybeUninit};
+use core::{fmt, mem::MaybeUninit};
 
 use crate::boundary;
 
@@ -53,12 +52,10 @@ pub const READER_WORK_CELLS: usize = 18_432;
 pub const WRITER_WORK_CELLS: usize = 18_432;
 
 /// Octets to lend to a receiver, at least, in which it keeps the stream so far.
-#[cfg(feature = "packets")]
 pub const HELD_OCTETS: usize = 16_384;
 
 /// Words of 64 bits in a [`ReceiverRecord`].
-#[cfg(feature = "packets")]
-pub const RECEIVER_WORDS: usize = 43;
+pub const RECEIVER_WORDS: usize = 44;
 
 /// Stamps, and as many movements, to lend where readings are taken out, at least; also the most
 /// readings that there are in one list.
@@ -73,8 +70,8 @@ pub const MAX_MOVEMENT: i32 = 20_000;
 /// Settings of a stream, as numbers. A number other than those named is refused as SETTINGS.
 ///
 /// The default, all zero, is bit-packed, no cookie, nothing kept; of the last six numbers no other
-/// than 0 has a meaning yet. Value length, value capacity and grammar cap are bounds: 0 is none, and
-/// a bound n is n + 1. [`Settings`](crate::Settings) are the same in types.
+/// than 0 has a meaning yet. Value length, value capacity and grammar cap are bounds: 0 is none,
+/// and a bound n is n + 1. [`Settings`](crate::Settings) are the same in types.
 #[repr(C)]
 #[derive(Clone, Copy, Debug, PartialEq, Eq, Default)]
 pub struct SettingNumbers {
@@ -102,6 +99,7 @@ pub struct SettingNumbers {
 
 /// The reader's answer.
 #[repr(C)]
+#[must_use]
 #[derive(Clone, Copy, Debug, PartialEq, Eq, Default)]
 pub struct ReadReply {
     /// 0, or the number of a [`Refusal`](crate::Refusal).
@@ -119,14 +117,12 @@ pub struct ReadReply {
 ///
 /// Any record is safe to lend. Where it, or the memory lent with it, does not come back as the call
 /// before left it, the answers may be other ones.
-#[cfg(feature = "packets")]
 #[repr(C)]
 #[derive(Clone, Copy)]
 pub struct ReceiverRecord {
     words: [MaybeUninit<u64>; RECEIVER_WORDS], // with padding, which has no value
 }
 
-#[cfg(feature = "packets")]
 impl ReceiverRecord {
     /// Changes the word at a place below [`RECEIVER_WORDS`], to try the library with other records.
     ///
@@ -138,7 +134,6 @@ impl ReceiverRecord {
     }
 }
 
-#[cfg(feature = "packets")]
 impl fmt::Debug for ReceiverRecord {
     fn fmt(&self, f: &mut fmt::Formatter<'_>) -> fmt::Result {
         f.debug_struct("ReceiverRecord").finish_non_exhaustive()
@@ -147,6 +142,7 @@ impl fmt::Debug for ReceiverRecord {
 
 /// The writer's answer.
 #[repr(C)]
+#[must_use]
 #[derive(Clone, Copy, Debug, PartialEq, Eq, Default)]
 pub struct WriteReply {
     /// 0, or the number of a [`Refusal`](crate::Refusal).
@@ -159,6 +155,7 @@ pub struct WriteReply {
 
 /// The answer where readings are taken out of a list or a stream.
 #[repr(C)]
+#[must_use]
 #[derive(Clone, Copy, Debug, PartialEq, Eq, Default)]
 pub struct ReadingsReply {
     /// 0, or the number of a [`Refusal`](crate::Refusal).
@@ -171,6 +168,7 @@ pub struct ReadingsReply {
 
 /// The answer where readings are made into a list.
 #[repr(C)]
+#[must_use]
 #[derive(Clone, Copy, Debug, PartialEq, Eq, Default)]
 pub struct ListReply {
     /// 0, or the number of a [`Refusal`](crate::Refusal).
@@ -293,7 +291,7 @@ pub fn write_readings(
 
 /// Starts a receiver for one stream: a record to lend to [`feed`] and [`close`]. Settings without a
 /// meaning are refused by these.
-#[cfg(feature = "packets")]
+#[must_use]
 pub fn start(s: SettingNumbers) -> ReceiverRecord {
     boundary::start(s)
 }
@@ -310,7 +308,6 @@ pub fn start(s: SettingNumbers) -> ReceiverRecord {
 /// refusal stays; but past 16,384 octets, those of refused pieces counted, it is LONG, unless it is
 /// ROOM or SETTINGS. From a refusal on each call leaves all that is lent zero. After [`close`] its
 /// answer is repeated.
-#[cfg(feature = "packets")]
 pub fn feed(
     receiver: &mut ReceiverRecord,
     piece: &[u8],
@@ -327,7 +324,6 @@ pub fn feed(
 ///
 /// Calls after this one repeat the answer, whatever they are given; they leave what is lent as it
 /// is, or zero where the answer is a refusal.
-#[cfg(feature = "packets")]
 pub fn close(
     receiver: &mut ReceiverRecord,
     held: &mut [u8],
@@ -339,12 +335,14 @@ pub fn close(
 }
 
 /// Asks the library for the sizes. They are this module's constants.
+#[must_use]
 pub fn sizes() -> Sizes {
     boundary::sizes()
 }
 
 /// Asks the library for a refusal's name, in ASCII padded with zeros; all zeros for a number that
 /// is not 1 to 19. [`Refusal::name`](crate::Refusal::name) is the same as a string.
+#[must_use]
 pub fn refusal_name(number: u32) -> [u8; 16] {
     boundary::refusal_name(number)
 }

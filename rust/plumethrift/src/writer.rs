@@ -6,7 +6,7 @@ use crate::readings::Readings;
 use crate::refusal::{judge, Refused};
 use crate::settings::Settings;
 
-/// Writes lists, in memory of its own: 152 KiB, allocated once and used for each list. For
+/// Writes lists, in memory of its own: 88 KiB, allocated once and used for each list. For
 /// readings it is 208 KiB more, allocated with the first.
 ///
 /// ```
@@ -32,6 +32,7 @@ pub struct Writer {
 
 impl Writer {
     /// A writer, with its memory.
+    #[must_use]
     pub fn new() -> Self {
         Writer {
             octets: vec![0; STREAM_OCTETS].into_boxed_slice(),

@@ -5,6 +5,8 @@ use std::io::Write;
 use std::path::{Path, PathBuf};
 use std::process::{Command, Output, Stdio};
 
+use plumethrift::{Alignment, EventList, Reader, Refusal, Settings};
+
 /// K3, `<a>b</a>`, byte-aligned.
 const STREAM: [u8; 8] = [0x80, 0x01, 0x02, 0x61, 0x03, 0x03, 0x62, 0x00];
 
@@ -21,11 +23,38 @@ fn compiler(standard: &str) -> Command {
     command
 }
 
+/// A source in C beside these tests.
+fn of_tests(name: &str) -> PathBuf {
+    Path::new(env!("CARGO_MANIFEST_DIR"))
+        .join("tests/c")
+        .join(name)
+}
+
+/// The sample streams.
+fn samples() -> Vec<PathBuf> {
+    let entries = fs::read_dir(root().join("samples")).unwrap();
+    let mut all: Vec<PathBuf> = entries.map(|entry| entry.unwrap().path()).collect();
+    all.retain(|path| path.extension().is_some_and(|it| it == "exi"));
+    all.sort();
+    all
+}
+
 /// Compiles a program and links it with the archive.
 fn program(source: &Path) -> PathBuf {
+    compiled(source, &[])
+}
+
+/// The same, with the sanitizers for addresses and for undefined behaviour.
+fn sanitized(source: &Path) -> PathBuf {
+    let sanitizers = ["-fsanitize=address,undefined", "-fno-sanitize-recover=all"];
+    compiled(source, &sanitizers)
+}
+
+fn compiled(source: &Path, words: &[&str]) -> PathBuf {
     let name = source.file_stem().expect("a source has a name");
     let program = Path::new(env!("CARGO_TARGET_TMPDIR")).join(name);
     let status = compiler("-std=c99")
+        .args(words)
         .args([source, Path::new(env!("PLUMETHRIFT_ARCHIVE"))])
         .arg("-o")
         .arg(&program)
@@ -226,7 +255,6 @@ int main(void) {
 }
 
 /// The example that reads packets: what each completes, whatever their size.
-#[cfg(feature = "packets")]
 #[test]
 fn the_example_reads_packets() {
     let packets = program(&root().join("examples/packets.c"));
@@ -272,37 +300,118 @@ fn the_example_reads_packets() {
     }
 }
 
-/// The library writes a whole record and not an octet more: it is started in the answer's place,
-/// over two fills, by a declaration that has this place as the calling convention passes it.
-#[cfg(feature = "packets")]
+/// Sizes and fields of all structs, against what the archive reads and writes.
 #[test]
-fn a_record_is_as_large_as_the_header_says() {
-    const START: &str = r#"
+fn the_structs_are_the_archives() {
+    let output = run(&mut Command::new(program(&of_tests("layout.c"))), &[]);
+    let octets = size_of::<plumethrift::lent::ReceiverRecord>();
+    assert_eq!(
+        text(&output.stdout),
+        format!("a record of {octets} octets\n")
+    );
+    assert_eq!(output.status.code(), Some(0));
+}
+
+/// Record and memory changed between the calls, each part beside a page that cannot be touched.
+#[test]
+fn changed_records_and_memory() {
+    let mut changed = Command::new(sanitized(&of_tests("changed.c")));
+    let output = run(changed.args(["1000", "8"]).args(samples()), &[]);
+    assert_eq!(text(&output.stderr), "");
+    assert!(text(&output.stdout).ends_with(" refused\n"));
+    assert_eq!(output.status.code(), Some(0));
+}
+
+/// Lists from UTF-8, and UTF-8 both ways, with the sanitizers.
+#[test]
+fn the_header_for_lists() {
+    let output = run(&mut Command::new(sanitized(&of_tests("list.c"))), &[]);
+    assert_eq!((text(&output.stdout), text(&output.stderr)), ("", ""));
+    assert_eq!(output.status.code(), Some(0));
+}
+
+/// The sentences of refusals are this crate's.
+#[test]
+fn the_sentences_of_the_header() {
+    const SENTENCES: &str = r#"
 #include <stdio.h>
-#include <string.h>
-#define PLUMETHRIFT_PACKETS
-#define plumethrift_start plumethrift_start_by_value
 #include "plumethrift.h"
-#undef plumethrift_start
-void *plumethrift_start(void *place, plumethrift_settings settings);
 
 int main(void) {
-  static uint64_t words[2][2 * PLUMETHRIFT_RECEIVER_WORDS];
-  size_t last = 0;
-  for (int i = 0; i < 2; i++) {
-    memset(words[i], i == 0 ? 0x5A : 0xA5, sizeof words[i]);
-    plumethrift_start(words[i], (plumethrift_settings){0});
-    for (size_t at = 0; at < sizeof words[i]; at++)
-      if (((uint8_t *)words[i])[at] != (i == 0 ? 0x5A : 0xA5) && at >= last)
-        last = at + 1;
-  }
-  printf("%zu %zu\n", last, sizeof(plumethrift_receiver));
+  for (uint32_t number = 0; number < 22; number++)
+    printf("%s\n", plumethrift_refusal_sentence(number));
+  printf("%s\n", plumethrift_refusal_sentence(UINT32_MAX));
   return 0;
 }
 "#;
-    let file = Path::new(env!("CARGO_TARGET_TMPDIR")).join("record.c");
-    fs::write(&file, START).unwrap();
+    let file = Path::new(env!("CARGO_TARGET_TMPDIR")).join("sentences.c");
+    fs::write(&file, SENTENCES).unwrap();
     let output = run(&mut Command::new(program(&file)), &[]);
-    let octets = std::mem::size_of::<plumethrift::lent::ReceiverRecord>();
-    assert_eq!(text(&output.stdout), format!("{octets} {octets}\n"));
+    let sentence = |number| Refusal::from_number(number).map_or("", Refusal::sentence);
+    let expected: Vec<&str> = (0..22).chain([u32::MAX]).map(sentence).collect();
+    assert_eq!(text(&output.stdout).lines().collect::<Vec<_>>(), expected);
+}
+
+/// The example that writes: its stream has the lines.
+#[test]
+fn the_example_writes() {
+    let write = program(&root().join("examples/write.c"));
+    let input = "eins\n\nT\u{FC}r".as_bytes();
+    for (word, alignment) in [
+        (None, Alignment::BitPacked),
+        (Some("--byte-aligned"), Alignment::ByteAligned),
+    ] {
+        let output = run(Command::new(&write).args(word), input);
+        assert_eq!(output.status.code(), Some(0));
+        let mut list = EventList::new();
+        list.start_document().start_element("", "lines");
+        for (n, line) in [("1", "eins"), ("2", ""), ("3", "T\u{FC}r")] {
+            list.start_element("", "line").attribute("", "n", n);
+            list.characters(line).end_element();
+        }
+        list.end_element().end_document();
+        let settings = Settings {
+            alignment,
+            ..Settings::default()
+        };
+        let mut reader = Reader::new();
+        assert_eq!(reader.read(&settings, &output.stdout).unwrap(), list);
+    }
+
+    let many = "x\n".repeat(3_000);
+    let long = format!("{}\n", "x".repeat(4_096));
+    let control = "\u{1}\n";
+    for (input, says) in [
+        (&b"a\n\xC3\n"[..], "line 2 is not UTF-8\n"),
+        (many.as_bytes(), "line 1024 has no room\n"),
+        (long.as_bytes(), "line 1 is too long, or has a zero\n"),
+        (b"\0\n", "line 1 is too long, or has a zero\n"),
+        (
+            control.as_bytes(),
+            "refused: 8 CHARACTER at event 4: a code point is no XML 1.0 Char, or a comment has \
+             -- or ends in -, or an instruction has ?>\n",
+        ),
+    ] {
+        let output = run(&mut Command::new(&write), input);
+        assert_eq!((text(&output.stdout), text(&output.stderr)), ("", says));
+        assert_eq!(output.status.code(), Some(1));
+    }
+    for words in [&["--bit-packed"][..], &["--byte-aligned", "x"]] {
+        let output = run(Command::new(&write).args(words), input);
+        assert_eq!(output.status.code(), Some(2));
+    }
+}
+
+/// The stack that the calls take is what the header says, at most.
+#[test]
+fn the_stack() {
+    let stack = compiled(&of_tests("stack.c"), &["-std=c11", "-pthread"]);
+    let output = run(Command::new(stack).args(samples()), &[]);
+    assert_eq!(output.status.code(), Some(0));
+    let said = text(&output.stdout);
+    assert_eq!(said.lines().count(), 9);
+    for line in said.lines() {
+        let (_, octets) = line.split_once(' ').expect("a call and its octets");
+        assert!(octets.parse::<usize>().unwrap() <= 8 * 1024, "{line}");
+    }
 }
