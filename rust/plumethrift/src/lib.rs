@@ -116,3 +116,9 @@ pub use refusal::{Refusal, Refused};
 pub use settings::{Alignment, Settings};
 pub use text::Text;
 pub use writer::Writer;
+
+/// The programs of README and docs/READINGS.md.
+#[cfg(doctest)]
+#[doc = include_str!("../../../README.md")]
+#[doc = include_str!("../../../docs/READINGS.md")]
+pub struct Documents;
