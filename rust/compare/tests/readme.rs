@@ -1,6 +1,6 @@
 //! What the documents show, run: in each `console` block the commands, whose output has to be what
-//! stands after them, and each C program, which has to print what the sentence after it says. (Their
-//! Rust programs are documentation tests of the crate `plumethrift`.)
+//! stands after them, and each C program, which has to print what the sentence after it says.
+//! (Their Rust programs are documentation tests of the crate `plumethrift`.)
 
 #![forbid(unsafe_code)]
 

@@ -61,9 +61,9 @@ pub enum Event<'a> {
 impl<'a> Event<'a> {
     /// Takes an event out of its nine cells, with its strings from `store`.
     ///
-    /// Cells are no event where they are not nine, where the first is not 1 to 8, and where one that
-    /// the kind does not use, or one of a prefix, is not 0: what the writer refuses as SHAPE by
-    /// itself. A string that lies outside the store is the empty part at its start.
+    /// Cells are no event where they are not nine, where the first is not 1 to 8, and where one
+    /// that the kind does not use, or one of a prefix, is not 0: what the writer refuses as SHAPE
+    /// by itself. A string that lies outside the store is the empty part at its start.
     ///
     /// ```
     /// use plumethrift::Event;

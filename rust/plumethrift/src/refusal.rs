@@ -9,8 +9,8 @@ pub enum Refusal {
     /// A lent part is too short. [`Reader`](crate::Reader) and [`Writer`](crate::Writer) lend
     /// enough.
     Room = 1,
-    /// A settings number has no meaning: of [`Settings`](crate::Settings), what this version does not
-    /// do.
+    /// A settings number has no meaning: of [`Settings`](crate::Settings), what this version does
+    /// not do.
     Settings = 2,
     /// Reader: the input is over 16,384 octets. Writer: the result would be.
     Long = 3,
