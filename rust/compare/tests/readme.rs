@@ -128,3 +128,59 @@ fn links_lead_somewhere() {
         }
     }
 }
+
+/// What stands between backticks on a page, but for fenced blocks.
+fn quoted(page: &str) -> Vec<&str> {
+    let text = page.split("```").step_by(2);
+    text.flat_map(|text| text.split('`').skip(1).step_by(2))
+        .collect()
+}
+
+/// Whether a file of the crate's code or specifications has the word.
+fn has_word(folder: &Path, word: &str) -> bool {
+    let Ok(entries) = fs::read_dir(folder) else {
+        return false;
+    };
+    entries
+        .map(|entry| entry.expect("a file").path())
+        .any(|path| {
+            if path.is_dir() {
+                return has_word(&path, word);
+            }
+            let text = fs::read_to_string(&path).expect("text");
+            text.split(|c: char| c != '_' && !c.is_alphanumeric())
+                .any(|other| other == word)
+        })
+}
+
+/// Functions that pages name as `crate::function`, and edits as `crate/edit`, are there. Notes of
+/// landings and the list of changes tell what was.
+#[test]
+fn names_are_there() {
+    let mut names = 0;
+    for page in pages() {
+        if page.ends_with("CHANGELOG.md") || page.parent() == Some(&root().join("docs/landings")) {
+            continue;
+        }
+        let text = fs::read_to_string(&page).expect("a page");
+        for quoted in quoted(&text) {
+            if let Some((name, word)) = quoted.split_once("::") {
+                let folder = root().join("crates").join(name);
+                if folder.is_dir() {
+                    let there = ["src", "specs"].map(|part| has_word(&folder.join(part), word));
+                    assert!(there.contains(&true), "{}: {quoted}", page.display());
+                    names += 1;
+                }
+            } else if let Some((name, edit)) = quoted.split_once('/') {
+                let folder = root().join("crates").join(name);
+                if folder.is_dir() && !edit.contains(['/', '.', '*', ' ']) {
+                    let file = folder.join("must-fail").join(edit).with_extension("edit");
+                    let there = file.is_file() || folder.join(edit).is_dir();
+                    assert!(there, "{}: {quoted}", page.display());
+                    names += 1;
+                }
+            }
+        }
+    }
+    assert!(names > 200);
+}
