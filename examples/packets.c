@@ -9,7 +9,6 @@
  * The first argument is how many octets a packet has, 1 to 240. Without the second the stream is
  * bit-packed. Exit status: 0 read, 1 refused, 2 bad usage or no input.
  */
-#define PLUMETHRIFT_PACKETS
 #include <inttypes.h>
 #include <stdio.h>
 #include <stdlib.h>

@@ -47,6 +47,9 @@
 extern "C" {
 #endif
 
+/* The version of this header, and of the archive that it is for. */
+#define PLUMETHRIFT_VERSION "0.1.0"
+
 /* Sizes to lend, at least. plumethrift_sizes answers the same numbers. */
 #define PLUMETHRIFT_EVENT_CELLS 36864       /* reader: events, 9 cells for each of 4,096 */
 #define PLUMETHRIFT_TEXT_CELLS 16384        /* reader: text store, one code point a cell */
@@ -203,11 +206,11 @@ plumethrift_read_reply plumethrift_read(plumethrift_settings settings,
  * element, and no two of one start tag have the same URI and local name. Kinds that the settings
  * drop are not allowed.
  *
- * Its strings have only XML 1.0 Chars. Local names are NCNames of Namespaces in XML 1.0 (by XML 1.0,
- * Fifth Edition), and so are targets, but not xml in any case; no attribute is nil or type of
- * XMLSchema-instance: else NAME. A comment has no two hyphens in a row and none at its end, the text
- * of an instruction no ?>: else CHARACTER. URIs and values have no rule but that of Chars. What a
- * stream holds is judged so, too, each string once it is whole.
+ * Its strings have only XML 1.0 Chars. Local names are NCNames of Namespaces in XML 1.0 (by XML
+ * 1.0, Fifth Edition), and so are targets, but not xml in any case; no attribute is nil or type of
+ * XMLSchema-instance: else NAME. A comment has no two hyphens in a row and none at its end, the
+ * text of an instruction no ?>: else CHARACTER. URIs and values have no rule but that of Chars.
+ * What a stream holds is judged so, too, each string once it is whole.
  */
 plumethrift_write_reply plumethrift_write(plumethrift_settings settings,
                                           uint8_t *stream, size_t stream_octets,
@@ -299,7 +302,6 @@ plumethrift_write_reply plumethrift_write_readings(plumethrift_settings settings
                                                    uint32_t *text, size_t text_cells,
                                                    uint32_t *work, size_t work_cells);
 
-#ifdef PLUMETHRIFT_PACKETS
 /*
  * The stream in packets
  *
@@ -314,7 +316,7 @@ plumethrift_write_reply plumethrift_write_readings(plumethrift_settings settings
  *   plumethrift_read does for the whole of it; `held` is zero then, too.
  */
 #define PLUMETHRIFT_HELD_OCTETS 16384 /* receiver: octets of the stream so far */
-#define PLUMETHRIFT_RECEIVER_WORDS 43 /* 64-bit words of a receiver's record */
+#define PLUMETHRIFT_RECEIVER_WORDS 44 /* 64-bit words of a receiver's record */
 
 /* A receiver between its calls. What the words are is the library's affair. */
 typedef struct plumethrift_receiver {
@@ -348,10 +350,60 @@ plumethrift_read_reply plumethrift_close(plumethrift_receiver *receiver,
                                          uint32_t *events, size_t event_cells,
                                          uint32_t *text, size_t text_cells,
                                          uint32_t *work, size_t work_cells);
-#endif
 
 /* The name of a refusal, "ROOM" to "NOT_LATER" for 1 to 19; "" for any other number. */
 plumethrift_name plumethrift_refusal_name(uint32_t number);
+
+/*
+ * What a refusal means, in one sentence without a full stop; "" for any other number. This function
+ * is ordinary C.
+ */
+static inline const char *plumethrift_refusal_sentence(uint32_t number) {
+  switch (number) {
+  case PLUMETHRIFT_ROOM:
+    return "a lent part is too short";
+  case PLUMETHRIFT_SETTINGS:
+    return "a settings number has no meaning";
+  case PLUMETHRIFT_LONG:
+    return "the stream is, or would be, over 16384 octets";
+  case PLUMETHRIFT_HEADER:
+    return "an octet differs from the header that the settings ask for";
+  case PLUMETHRIFT_ENDED:
+    return "the input ends inside the header or a field";
+  case PLUMETHRIFT_CODE:
+    return "an event code part names no production";
+  case PLUMETHRIFT_NUMBER:
+    return "an Unsigned Integer is not in fewest octets, over 5 octets, or above 2147483647";
+  case PLUMETHRIFT_CHARACTER:
+    return "a code point is no XML 1.0 Char, or a comment has -- or ends in -, or an instruction "
+           "has ?>";
+  case PLUMETHRIFT_REFERENCE:
+    return "a URI, name or value number names no entry";
+  case PLUMETHRIFT_LOOSE:
+    return "a literal, hit or production stands where the strict form has another";
+  case PLUMETHRIFT_NAME:
+    return "a local name or target is no NCName, a target is xml, or an attribute is xsi:nil or "
+           "xsi:type";
+  case PLUMETHRIFT_LIMIT:
+    return "a size would be passed";
+  case PLUMETHRIFT_TAIL:
+    return "a pad bit is 1, or octets follow the end";
+  case PLUMETHRIFT_SHAPE:
+    return "a start tag has an attribute twice, or the kinds or the order of events are wrong";
+  case PLUMETHRIFT_PLACE:
+    return "a string lies outside the text store";
+  case PLUMETHRIFT_STRUCTURE:
+    return "the list is not one of readings";
+  case PLUMETHRIFT_BAD_STAMP:
+    return "a stamp is none of the years 2000 to 2099, or there is no such day or time";
+  case PLUMETHRIFT_BAD_MOVEMENT:
+    return "a movement is no whole number from -20000 to 20000, or not in its plain form";
+  case PLUMETHRIFT_NOT_LATER:
+    return "a stamp is not later than the one before";
+  default:
+    return "";
+  }
+}
 
 /* The sizes to lend, at least: what the macros of the same names say. */
 typedef struct plumethrift_sizes_to_lend {

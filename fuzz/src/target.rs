@@ -7,12 +7,8 @@ use std::cell::RefCell;
 
 use compare::check::Comparison;
 use compare::lent::{ReaderSizes, Settings, WriterSizes};
-#[cfg(feature = "packets")]
 use compare::packets::check::{run_changed, PacketComparison};
-use compare::packets::Call;
-#[cfg(feature = "packets")]
-use compare::packets::PacketMemory;
-#[cfg(feature = "packets")]
+use compare::packets::{Call, PacketMemory};
 use compare::prng::Prng;
 use compare::protocol::Request;
 use compare::readings::check::ReadingsComparison;
@@ -21,10 +17,6 @@ use compare::readings::{ListSizes, ReadingsSizes};
 thread_local! {
     static BOTH: RefCell<Comparison> = RefCell::new(Comparison::new());
     static READINGS: RefCell<ReadingsComparison> = RefCell::new(ReadingsComparison::new());
-}
-
-#[cfg(feature = "packets")]
-thread_local! {
     static PACKETS: RefCell<PacketComparison> = RefCell::new(PacketComparison::new());
     static CHANGED: RefCell<PacketMemory> = RefCell::new(PacketMemory::new());
 }
@@ -80,7 +72,6 @@ fn check(request: &Request) -> Result<(), String> {
 }
 
 /// The calls as they are; then once more, with record and memory changed between them.
-#[cfg(feature = "packets")]
 fn check_packets(settings: Settings, calls: &[Call]) -> Result<(), String> {
     PACKETS.with(|both| both.borrow_mut().run(settings, calls).map(|_| ()))?;
     let octets = calls.iter().flat_map(|call| call.piece.iter().flatten());
@@ -91,12 +82,6 @@ fn check_packets(settings: Settings, calls: &[Call]) -> Result<(), String> {
         let mut memory = memory.borrow_mut();
         run_changed(&mut Prng::new(seed), &mut memory, settings, calls)
     })
-}
-
-/// This archive has no receiver.
-#[cfg(not(feature = "packets"))]
-fn check_packets(_: Settings, _: &[Call]) -> Result<(), String> {
-    Ok(())
 }
 
 fn check_readings(request: &Request) -> Result<(), String> {

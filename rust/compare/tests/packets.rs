@@ -1,5 +1,4 @@
-//! Streams in pieces: every implementation that has a receiver against the ordinary reader on the
-//! octets so far.
+//! Streams in pieces: both implementations against the ordinary reader on the octets so far.
 //!
 //! A run puts 6,000 random streams in a release build and 300 otherwise; `COMPARE_REQUESTS` and
 //! `COMPARE_SEED` ask for others, the first as one stream for 60 requests. What fails is told by
@@ -15,13 +14,12 @@ use compare::encode::encode;
 use compare::event::{characters, document, element, Event};
 use compare::generate::{self, Profile};
 use compare::lent::{
-    ReaderPart, Settings, CODE, ENDED, HEADER, LIMIT, LONG, REFERENCE, ROOM, SETTINGS, TAIL,
+    ReaderPart, Settings, BOTH, CODE, ENDED, HEADER, LIMIT, LONG, REFERENCE, ROOM, SETTINGS, TAIL,
 };
-#[cfg(feature = "packets")]
 use compare::packets::check::run_changed;
 use compare::packets::check::PacketComparison;
 use compare::packets::cut::{after_the_close, at_random, by_octets, filled_up, short_once};
-use compare::packets::{Call, PacketMemory, PacketSizes, Receiver, RECEIVERS};
+use compare::packets::{Call, PacketMemory, PacketSizes, Receiver};
 use compare::prng::Prng;
 use compare::protocol::Request;
 use compare::sizes::{MAX_EVENTS, MAX_STREAM, MAX_STRING};
@@ -146,10 +144,10 @@ fn too_little_memory() {
     let short = [ReaderPart::Events, ReaderPart::Text, ReaderPart::Work];
     let mut all: Vec<PacketSizes> = short.into_iter().map(PacketSizes::short).collect();
     all.push(PacketSizes::short_of_octets());
-    for &codec in RECEIVERS {
+    for codec in BOTH {
         for &sizes in &all {
             for at in 0..3 {
-                let mut receiver = Receiver::start(codec, ALIGNED).expect("a receiver");
+                let mut receiver = Receiver::start(codec, ALIGNED);
                 let mut memory = PacketMemory::new();
                 for k in 0..5 {
                     let piece = [Some(&[0x80][..]), Some(&[0x01]), None, Some(&[]), None][k];
@@ -166,7 +164,7 @@ fn too_little_memory() {
             }
             // after the close nothing is judged, and as much as is lent is cleared after a refusal
             for (stream, number) in [(&hex("80 01 02 61 00")[..], 0), (&[0xA0], HEADER)] {
-                let mut receiver = Receiver::start(codec, ALIGNED).expect("a receiver");
+                let mut receiver = Receiver::start(codec, ALIGNED);
                 let mut memory = PacketMemory::new();
                 for piece in [Some(stream), None, Some(&[0]), None] {
                     let closed = piece.is_none() || piece == Some(&[0]);
@@ -214,7 +212,7 @@ fn streams() -> Vec<(Settings, Vec<u8>)> {
 }
 
 /// Streams up to this length are judged after each octet, longer ones after every so many.
-const SHORT_STREAM: usize = 150;
+const SHORT_STREAM: usize = 400;
 
 fn every(stream: &[u8]) -> usize {
     if stream.len() <= SHORT_STREAM {
@@ -284,7 +282,6 @@ fn random_streams() {
 }
 
 /// Record and memory changed at random between calls.
-#[cfg(feature = "packets")]
 #[test]
 fn changed_records_and_memory() {
     let mut rng = Prng::new(seed());

@@ -5,8 +5,7 @@
 
 use std::collections::HashMap;
 
-use compare::lent::{Codec, BOTH};
-use compare::packets::RECEIVERS;
+use compare::lent::BOTH;
 use compare::protocol::{Asker, Request};
 
 const EDGES: &str = include_str!("../vectors/edges.txt");
@@ -51,18 +50,12 @@ fn base(file: &'static str) -> (Vec<(&'static str, &'static str)>, usize) {
     (all, count)
 }
 
-/// Whether this implementation is asked: calls of a receiver only where it has one.
-fn is_asked(codec: Codec, request: &str) -> bool {
-    !request.starts_with('f') || RECEIVERS.contains(&codec)
-}
-
 /// Both implementations answer these requests as they have to.
 fn run<'a>(lines: impl Iterator<Item = (&'a str, &'a str)>, count: usize) {
     let mut askers = BOTH.map(Asker::new);
     let mut asked = 0;
     for (request, answer) in lines {
-        let askers = askers.iter_mut().zip(BOTH);
-        for (asker, codec) in askers.filter(|(_, codec)| is_asked(*codec, request)) {
+        for (asker, codec) in askers.iter_mut().zip(BOTH) {
             let got = asker.answer_line(request);
             assert!(
                 got == answer,
@@ -226,10 +219,8 @@ fn settings_that_have_not_landed() {
             Ok(Request::Read { .. }) => format!("{number} 0 - -"),
             _ => format!("{number} 0 -"),
         };
-        for (asker, codec) in askers.iter_mut().zip(BOTH) {
-            if is_asked(codec, request) {
-                assert_eq!(asker.answer_line(request), answer);
-            }
+        for asker in &mut askers {
+            assert_eq!(asker.answer_line(request), answer);
         }
         asked += 1;
     }

@@ -6,7 +6,6 @@
 //! all of it: their pointers are aligned and never null, and while a `&mut` slice is borrowed no
 //! other slice overlaps it. Any contents, lengths and numbers are allowed.
 
-#[cfg(feature = "packets")]
 use crate::lent::ReceiverRecord;
 use crate::lent::{ListReply, ReadReply, ReadingsReply, SettingNumbers, Sizes, WriteReply};
 
@@ -95,10 +94,8 @@ extern "C" {
         work_cells: usize,
     ) -> WriteReply;
 
-    #[cfg(feature = "packets")]
     fn plumethrift_start(settings: SettingNumbers) -> ReceiverRecord;
 
-    #[cfg(feature = "packets")]
     fn plumethrift_feed(
         receiver: *mut ReceiverRecord,
         piece: *const u8,
@@ -113,7 +110,6 @@ extern "C" {
         work_cells: usize,
     ) -> ReadReply;
 
-    #[cfg(feature = "packets")]
     fn plumethrift_close(
         receiver: *mut ReceiverRecord,
         held: *mut u8,
@@ -278,14 +274,12 @@ pub(crate) fn write_readings(
     }
 }
 
-#[cfg(feature = "packets")]
 pub(crate) fn start(settings: SettingNumbers) -> ReceiverRecord {
     // SAFETY: the function takes any numbers, and touches no memory but its answer, which is of the
     // record's size: a test holds that.
     unsafe { plumethrift_start(settings) }
 }
 
-#[cfg(feature = "packets")]
 pub(crate) fn feed(
     receiver: &mut ReceiverRecord,
     piece: &[u8],
@@ -312,7 +306,6 @@ pub(crate) fn feed(
     }
 }
 
-#[cfg(feature = "packets")]
 pub(crate) fn close(
     receiver: &mut ReceiverRecord,
     held: &mut [u8],

@@ -25,7 +25,6 @@
 //! assert!(matches!(second, Some(Event::StartElement { name, .. }) if name == "a"));
 //! ```
 
-#[cfg(feature = "packets")]
 use std::{fmt, mem::MaybeUninit};
 
 use crate::boundary;
@@ -53,12 +52,10 @@ pub const READER_WORK_CELLS: usize = 18_432;
 pub const WRITER_WORK_CELLS: usize = 18_432;
 
 /// Octets to lend to a receiver, at least, in which it keeps the stream so far.
-#[cfg(feature = "packets")]
 pub const HELD_OCTETS: usize = 16_384;
 
 /// Words of 64 bits in a [`ReceiverRecord`].
-#[cfg(feature = "packets")]
-pub const RECEIVER_WORDS: usize = 43;
+pub const RECEIVER_WORDS: usize = 44;
 
 /// Stamps, and as many movements, to lend where readings are taken out, at least; also the most
 /// readings that there are in one list.
@@ -119,14 +116,12 @@ pub struct ReadReply {
 ///
 /// Any record is safe to lend. Where it, or the memory lent with it, does not come back as the call
 /// before left it, the answers may be other ones.
-#[cfg(feature = "packets")]
 #[repr(C)]
 #[derive(Clone, Copy)]
 pub struct ReceiverRecord {
     words: [MaybeUninit<u64>; RECEIVER_WORDS], // with padding, which has no value
 }
 
-#[cfg(feature = "packets")]
 impl ReceiverRecord {
     /// Changes the word at a place below [`RECEIVER_WORDS`], to try the library with other records.
     ///
@@ -138,7 +133,6 @@ impl ReceiverRecord {
     }
 }
 
-#[cfg(feature = "packets")]
 impl fmt::Debug for ReceiverRecord {
     fn fmt(&self, f: &mut fmt::Formatter<'_>) -> fmt::Result {
         f.debug_struct("ReceiverRecord").finish_non_exhaustive()
@@ -293,7 +287,6 @@ pub fn write_readings(
 
 /// Starts a receiver for one stream: a record to lend to [`feed`] and [`close`]. Settings without a
 /// meaning are refused by these.
-#[cfg(feature = "packets")]
 pub fn start(s: SettingNumbers) -> ReceiverRecord {
     boundary::start(s)
 }
@@ -310,7 +303,6 @@ pub fn start(s: SettingNumbers) -> ReceiverRecord {
 /// refusal stays; but past 16,384 octets, those of refused pieces counted, it is LONG, unless it is
 /// ROOM or SETTINGS. From a refusal on each call leaves all that is lent zero. After [`close`] its
 /// answer is repeated.
-#[cfg(feature = "packets")]
 pub fn feed(
     receiver: &mut ReceiverRecord,
     piece: &[u8],
@@ -327,7 +319,6 @@ pub fn feed(
 ///
 /// Calls after this one repeat the answer, whatever they are given; they leave what is lent as it
 /// is, or zero where the answer is a refusal.
-#[cfg(feature = "packets")]
 pub fn close(
     receiver: &mut ReceiverRecord,
     held: &mut [u8],

@@ -98,7 +98,6 @@ pub mod lent;
 mod list;
 mod reader;
 mod readings;
-#[cfg(feature = "packets")]
 mod receiver;
 mod refusal;
 mod settings;
@@ -110,7 +109,6 @@ pub use event::Event;
 pub use list::EventList;
 pub use reader::Reader;
 pub use readings::{Reading, Readings};
-#[cfg(feature = "packets")]
 pub use receiver::{Progress, Receiver};
 pub use refusal::{Refusal, Refused};
 pub use settings::{Alignment, Settings};

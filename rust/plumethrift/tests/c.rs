@@ -21,11 +21,29 @@ fn compiler(standard: &str) -> Command {
     command
 }
 
+/// A source in C beside these tests.
+fn of_tests(name: &str) -> PathBuf {
+    Path::new(env!("CARGO_MANIFEST_DIR"))
+        .join("tests/c")
+        .join(name)
+}
+
 /// Compiles a program and links it with the archive.
 fn program(source: &Path) -> PathBuf {
+    compiled(source, &[])
+}
+
+/// The same, with the sanitizers for addresses and for undefined behaviour.
+fn sanitized(source: &Path) -> PathBuf {
+    let sanitizers = ["-fsanitize=address,undefined", "-fno-sanitize-recover=all"];
+    compiled(source, &sanitizers)
+}
+
+fn compiled(source: &Path, words: &[&str]) -> PathBuf {
     let name = source.file_stem().expect("a source has a name");
     let program = Path::new(env!("CARGO_TARGET_TMPDIR")).join(name);
     let status = compiler("-std=c99")
+        .args(words)
         .args([source, Path::new(env!("PLUMETHRIFT_ARCHIVE"))])
         .arg("-o")
         .arg(&program)
@@ -226,7 +244,6 @@ int main(void) {
 }
 
 /// The example that reads packets: what each completes, whatever their size.
-#[cfg(feature = "packets")]
 #[test]
 fn the_example_reads_packets() {
     let packets = program(&root().join("examples/packets.c"));
@@ -272,37 +289,28 @@ fn the_example_reads_packets() {
     }
 }
 
-/// The library writes a whole record and not an octet more: it is started in the answer's place,
-/// over two fills, by a declaration that has this place as the calling convention passes it.
-#[cfg(feature = "packets")]
+/// Sizes and fields of all structs, against what the archive reads and writes.
 #[test]
-fn a_record_is_as_large_as_the_header_says() {
-    const START: &str = r#"
-#include <stdio.h>
-#include <string.h>
-#define PLUMETHRIFT_PACKETS
-#define plumethrift_start plumethrift_start_by_value
-#include "plumethrift.h"
-#undef plumethrift_start
-void *plumethrift_start(void *place, plumethrift_settings settings);
-
-int main(void) {
-  static uint64_t words[2][2 * PLUMETHRIFT_RECEIVER_WORDS];
-  size_t last = 0;
-  for (int i = 0; i < 2; i++) {
-    memset(words[i], i == 0 ? 0x5A : 0xA5, sizeof words[i]);
-    plumethrift_start(words[i], (plumethrift_settings){0});
-    for (size_t at = 0; at < sizeof words[i]; at++)
-      if (((uint8_t *)words[i])[at] != (i == 0 ? 0x5A : 0xA5) && at >= last)
-        last = at + 1;
-  }
-  printf("%zu %zu\n", last, sizeof(plumethrift_receiver));
-  return 0;
-}
-"#;
-    let file = Path::new(env!("CARGO_TARGET_TMPDIR")).join("record.c");
-    fs::write(&file, START).unwrap();
-    let output = run(&mut Command::new(program(&file)), &[]);
+fn the_structs_are_the_archives() {
+    let output = run(&mut Command::new(program(&of_tests("layout.c"))), &[]);
     let octets = std::mem::size_of::<plumethrift::lent::ReceiverRecord>();
-    assert_eq!(text(&output.stdout), format!("{octets} {octets}\n"));
+    assert_eq!(
+        text(&output.stdout),
+        format!("a record of {octets} octets\n")
+    );
+    assert_eq!(output.status.code(), Some(0));
+}
+
+/// Record and memory changed between the calls, each part beside a page that cannot be touched.
+#[test]
+fn changed_records_and_memory() {
+    let samples = fs::read_dir(root().join("samples")).unwrap();
+    let mut samples: Vec<PathBuf> = samples.map(|entry| entry.unwrap().path()).collect();
+    samples.retain(|path| path.extension().is_some_and(|it| it == "exi"));
+    samples.sort();
+    let mut changed = Command::new(sanitized(&of_tests("changed.c")));
+    let output = run(changed.args(["1000", "8"]).args(samples), &[]);
+    assert_eq!(text(&output.stderr), "");
+    assert!(text(&output.stdout).ends_with(" refused\n"));
+    assert_eq!(output.status.code(), Some(0));
 }

@@ -1,4 +1,4 @@
-//! `include/plumethrift.h` says the same numbers as this crate, and so as the library.
+//! `include/plumethrift.h` says the same numbers, sentences and version as this crate.
 
 use std::collections::BTreeMap;
 use std::fs;
@@ -6,18 +6,22 @@ use std::path::Path;
 
 use plumethrift::{lent, Refusal};
 
-/// The header's `#define PLUMETHRIFT_X number` and `PLUMETHRIFT_X = number` lines; not what takes an
-/// argument.
-fn numbers() -> BTreeMap<String, usize> {
+fn header() -> String {
     let path = Path::new(env!("CARGO_MANIFEST_DIR")).join("../../include/plumethrift.h");
-    let header = fs::read_to_string(path).unwrap();
+    fs::read_to_string(path).unwrap()
+}
+
+/// The header's `#define PLUMETHRIFT_X number` and `PLUMETHRIFT_X = number` lines; not what takes an
+/// argument, and not the version.
+fn numbers() -> BTreeMap<String, usize> {
     let mut numbers = BTreeMap::new();
-    for line in header.lines() {
+    for line in header().lines() {
         let words: Vec<&str> = line
             .split([' ', ','])
             .filter(|word| !word.is_empty())
             .collect();
         let (name, number) = match words[..] {
+            ["#define", "PLUMETHRIFT_VERSION", ..] => continue,
             ["#define", name, number, ..] if !name.contains('(') => (name, number),
             [name, "=", number, ..] => (name, number),
             _ => continue,
@@ -41,8 +45,8 @@ fn the_header_has_these_numbers_and_no_others() {
         ("STREAM_OCTETS", lent::STREAM_OCTETS),
         ("READER_WORK_CELLS", lent::READER_WORK_CELLS),
         ("WRITER_WORK_CELLS", lent::WRITER_WORK_CELLS),
-        ("HELD_OCTETS", 16_384),
-        ("RECEIVER_WORDS", 43),
+        ("HELD_OCTETS", lent::HELD_OCTETS),
+        ("RECEIVER_WORDS", lent::RECEIVER_WORDS),
         ("MAX_READINGS", lent::MAX_READINGS),
         ("LAST_STAMP", lent::LAST_STAMP as usize),
         ("MAX_MOVEMENT", lent::MAX_MOVEMENT as usize),
@@ -65,12 +69,14 @@ fn the_header_has_these_numbers_and_no_others() {
     ]
     .map(|(name, number)| (name.to_string(), number))
     .into();
-    #[cfg(feature = "packets")]
-    {
-        assert_eq!(expected["HELD_OCTETS"], lent::HELD_OCTETS);
-        assert_eq!(expected["RECEIVER_WORDS"], lent::RECEIVER_WORDS);
-    }
     let refusals = Refusal::ALL.iter();
     expected.extend(refusals.map(|it| (it.name().to_string(), it.number() as usize)));
     assert_eq!(numbers(), expected);
+}
+
+#[test]
+fn the_header_has_this_version() {
+    let version = env!("CARGO_PKG_VERSION");
+    let line = format!("#define PLUMETHRIFT_VERSION \"{version}\"\n");
+    assert!(header().contains(&line), "{line}");
 }

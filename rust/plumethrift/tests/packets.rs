@@ -1,5 +1,4 @@
 //! Streams in packets: the receiver against the reader on the whole.
-#![cfg(feature = "packets")]
 
 use plumethrift::{lent, Alignment, Reader, Receiver, Refusal, Settings};
 

@@ -1,10 +1,9 @@
-//! Streams in pieces, put to every implementation that has a receiver, and judged by the ordinary
-//! reader on the octets so far.
+//! Streams in pieces, put to both implementations, and judged by the ordinary reader on the octets
+//! so far.
 
-use super::{Call, PacketMemory, Receiver, RECEIVERS};
+use super::{Call, PacketMemory, Receiver};
 use crate::event::CELLS;
-use crate::lent::{Codec, ReadReply, ReaderSizes, Settings, ENDED, LONG, ROOM, SETTINGS};
-#[cfg(feature = "packets")]
+use crate::lent::{Codec, ReadReply, ReaderSizes, Settings, BOTH, ENDED, LONG, ROOM, SETTINGS};
 use crate::prng::Prng;
 use crate::protocol::Request;
 use crate::sizes::MAX_STREAM;
@@ -12,7 +11,7 @@ use crate::sizes::MAX_STREAM;
 /// The receivers side by side, and what they are judged by. An error is what differs, after the
 /// request line.
 pub struct PacketComparison {
-    memories: Vec<PacketMemory>,
+    memories: [PacketMemory; 2],
     whole: Cells,
     so_far: Cells,
     /// How many calls were put to all.
@@ -60,7 +59,7 @@ impl Cells {
             text,
             work,
         } = self;
-        let mut receiver = Receiver::start(Codec::Ordinary, settings).expect("an ordinary one");
+        let mut receiver = Receiver::start(Codec::Ordinary, settings);
         receiver.call(Some(octets), held, events, text, work)
     }
 
@@ -94,7 +93,7 @@ const fn refused(number: u32) -> ReadReply {
 impl PacketComparison {
     pub fn new() -> PacketComparison {
         PacketComparison {
-            memories: RECEIVERS.iter().map(|_| PacketMemory::new()).collect(),
+            memories: BOTH.map(|_| PacketMemory::new()),
             whole: Cells::new(),
             so_far: Cells::new(),
             calls: 0,
@@ -103,13 +102,25 @@ impl PacketComparison {
 
     /// All calls, each judged. Answers the last reply.
     pub fn run(&mut self, settings: Settings, calls: &[Call]) -> Result<ReadReply, String> {
-        self.run_some(settings, calls, 1)
+        let receivers = BOTH.map(|codec| Some(Receiver::start(codec, settings)));
+        self.run_with(receivers, settings, calls, 1)
     }
 
-    /// All calls; of those that go on every so many are judged, and the memory after each. Where
-    /// not every one is, the ordinary receiver is left out: it takes as long as the judge.
+    /// All calls of the library alone; of those that go on every so many are judged, and the memory
+    /// after each.
     pub fn run_some(
         &mut self,
+        settings: Settings,
+        calls: &[Call],
+        every: usize,
+    ) -> Result<ReadReply, String> {
+        let library = Receiver::start(Codec::Library, settings);
+        self.run_with([Some(library), None], settings, calls, every)
+    }
+
+    fn run_with(
+        &mut self,
+        mut receivers: [Option<Receiver>; 2],
         settings: Settings,
         calls: &[Call],
         every: usize,
@@ -120,12 +131,6 @@ impl PacketComparison {
             kept: None,
             is_closed: false,
         };
-        let run = |codec: Codec| (codec != Codec::Ordinary || every == 1, codec);
-        let mut receivers: Vec<Option<Receiver>> = RECEIVERS
-            .iter()
-            .map(|&codec| run(codec))
-            .map(|(runs, codec)| Receiver::start(codec, settings).filter(|_| runs))
-            .collect();
         self.memories.iter_mut().for_each(PacketMemory::start);
         let mut last = refused(ENDED);
         for (k, call) in calls.iter().enumerate() {
@@ -158,9 +163,7 @@ impl PacketComparison {
             None
         };
         let so_far = &self.so_far;
-        for ((receiver, memory), codec) in
-            receivers.iter_mut().zip(&mut self.memories).zip(RECEIVERS)
-        {
+        for ((receiver, memory), codec) in receivers.iter_mut().zip(&mut self.memories).zip(BOTH) {
             let Some(receiver) = receiver else { continue };
             let (reply, fault) = memory.call(receiver, call);
             if let Some(fault) = fault {
@@ -248,15 +251,13 @@ impl Expected {
 
 /// The library's receiver, with its record and the lent memory changed at random between calls:
 /// every call has to return, and nothing may be touched that was not lent.
-#[cfg(feature = "packets")]
 pub fn run_changed(
     rng: &mut Prng,
     memory: &mut PacketMemory,
     settings: Settings,
     calls: &[Call],
 ) -> Result<(), String> {
-    let record = plumethrift::lent::start(crate::lent::library_settings(settings));
-    let mut receiver = Receiver::Library(Box::new(record));
+    let mut receiver = Receiver::start(Codec::Library, settings);
     memory.start();
     for call in calls {
         memory.call(&mut receiver, call);
@@ -277,7 +278,6 @@ pub fn run_changed(
 }
 
 /// A number as counts, places and positions are, or any.
-#[cfg(feature = "packets")]
 fn number(rng: &mut Prng) -> u32 {
     match rng.below(6) {
         0 => 0,

@@ -38,7 +38,7 @@ impl PacketSizes {
     }
 }
 
-/// One part: all of it now, and before the last call.
+/// One part: all of it now, and what was kept of it from before the last call.
 struct Part<T> {
     cells: Vec<T>,
     before: Vec<T>,
@@ -61,8 +61,11 @@ impl<T: Copy + Default + PartialEq> Part<T> {
         self.cells.fill(self.fill);
     }
 
-    fn lend(&mut self, size: usize) -> &mut [T] {
-        self.before.copy_from_slice(&self.cells);
+    /// Lends the first cells, and keeps so many of them and all that are not lent, to compare.
+    fn lend(&mut self, size: usize, kept: usize) -> &mut [T] {
+        for part in [0..kept.min(size), size..self.cells.len()] {
+            self.before[part.clone()].copy_from_slice(&self.cells[part]);
+        }
         self.lent = size;
         &mut self.cells[..size]
     }
@@ -77,6 +80,7 @@ impl<T: Copy + Default + PartialEq> Part<T> {
         self.lent()[from..].iter().fold(true, is_zero)
     }
 
+    /// Whether nothing changed, where all was kept.
     fn is_as_before(&self) -> bool {
         self.cells == self.before
     }
@@ -171,11 +175,16 @@ impl PacketMemory {
         is_close: bool,
         call: impl FnOnce(&mut [u8], &mut [u32], &mut [u32], &mut [u32]) -> ReadReply,
     ) -> Answered {
+        // after an accepted close no cell may change, before it none that is shown
+        let (work, (events, text)) = match self.phase {
+            Phase::Accepted => (usize::MAX, (usize::MAX, usize::MAX)),
+            _ => (0, self.shown),
+        };
         let reply = call(
-            self.held.lend(sizes.held),
-            self.events.lend(sizes.reader.events),
-            self.text.lend(sizes.reader.text),
-            self.work.lend(sizes.reader.work),
+            self.held.lend(sizes.held, work),
+            self.events.lend(sizes.reader.events, events),
+            self.text.lend(sizes.reader.text, text),
+            self.work.lend(sizes.reader.work, work),
         );
         self.before = self.shown;
         let fault = self.fault(&reply, is_close);

@@ -6,14 +6,9 @@ mod memory;
 
 pub use memory::{PacketMemory, PacketSizes};
 
-use crate::lent::{ordinary_settings, sizes, Codec, ReadReply, ReaderPart, Settings};
-
-/// The implementations that have a receiver.
-#[cfg(feature = "packets")]
-pub const RECEIVERS: &[Codec] = &crate::lent::BOTH;
-/// The implementations that have a receiver.
-#[cfg(not(feature = "packets"))]
-pub const RECEIVERS: &[Codec] = &[Codec::Ordinary];
+use crate::lent::{
+    library_settings, ordinary_settings, sizes, Codec, ReadReply, ReaderPart, Settings,
+};
 
 /// A call of a receiver.
 #[derive(Clone, Debug, Default, PartialEq, Eq)]
@@ -42,25 +37,20 @@ impl Call {
 /// A receiver of one implementation.
 #[derive(Clone, Debug)]
 pub enum Receiver {
-    #[cfg(feature = "packets")]
     Library(Box<plumethrift::lent::ReceiverRecord>),
     Ordinary(ordinary::Receiver),
 }
 
 impl Receiver {
-    /// A receiver, where this implementation has one.
-    pub fn start(codec: Codec, settings: Settings) -> Option<Receiver> {
+    pub fn start(codec: Codec, settings: Settings) -> Receiver {
         match codec {
-            #[cfg(feature = "packets")]
             Codec::Library => {
-                let s = crate::lent::library_settings(settings);
-                Some(Receiver::Library(Box::new(plumethrift::lent::start(s))))
+                let s = library_settings(settings);
+                Receiver::Library(Box::new(plumethrift::lent::start(s)))
             }
-            #[cfg(not(feature = "packets"))]
-            Codec::Library => None,
             Codec::Ordinary => {
                 let s = ordinary_settings(settings);
-                Some(Receiver::Ordinary(ordinary::Receiver::start(s)))
+                Receiver::Ordinary(ordinary::Receiver::start(s))
             }
         }
     }
@@ -75,7 +65,6 @@ impl Receiver {
         work: &mut [u32],
     ) -> ReadReply {
         match self {
-            #[cfg(feature = "packets")]
             Receiver::Library(record) => {
                 let r = match piece {
                     Some(piece) => plumethrift::lent::feed(record, piece, held, events, text, work),

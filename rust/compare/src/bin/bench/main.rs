@@ -7,11 +7,16 @@
 //! ordinary one's; net of clearing, the clearing is taken off both. In the row of one bucket each
 //! of the two has values that were crafted for its own hash.
 //!
-//! `bench WORD..` takes only rows whose names have one of the words. `bench --once ROW WAY WHICH`
-//! puts a few streams of a row once to one of the two, for a counter of instructions; see
-//! `instructions`. `bench --rows` tells the names of the rows.
+//! Streams in packets are timed against the library's own read of the whole.
+//!
+//! `bench WORD..` takes only rows whose names have one of the words. For a counter of instructions
+//! (see `instructions`), `bench --once ROW WAY WHICH` puts a few streams of a row once to one of
+//! the two, and `bench --packets ROW SIZE` reads one stream in packets, or `whole`. `bench --rows`
+//! and `bench --packet-rows` tell the names of the rows, the latter with the sizes.
 
 #![forbid(unsafe_code)]
+
+mod packets;
 
 use std::hint::black_box;
 use std::ops::Range;
@@ -839,7 +844,7 @@ fn print_one_bucket(timed: &[Timed], score: &mut Score) {
     }
 }
 
-fn time_rows(rows: Vec<Row>) {
+fn time_rows(rows: Vec<Row>) -> Score {
     let mut memory = Memory::new();
     let mut score = Score::default();
     let mut timed: Vec<Timed> = Vec::new();
@@ -862,7 +867,7 @@ fn time_rows(rows: Vec<Row>) {
     print_growth(&timed, &mut score);
     print_one_tag(&timed, &mut score);
     print_one_bucket(&timed, &mut score);
-    println!("{} of {} goals missed", score.missed, score.goals);
+    score
 }
 
 /// Puts a few streams of a row once to one implementation.
@@ -879,6 +884,17 @@ fn main() -> ExitCode {
     let mut rows = rows();
     match words[..] {
         ["--rows"] => rows.iter().for_each(|row| println!("{}", row.name)),
+        ["--packet-rows"] => packets::rows().iter().for_each(|row| {
+            let sizes: Vec<String> = row.packets.iter().map(usize::to_string).collect();
+            println!("{}: whole {}", row.name, sizes.join(" "));
+        }),
+        ["--packets", name, size] => {
+            let Some(row) = packets::rows().into_iter().find(|row| row.name == name) else {
+                eprintln!("bench: no row {name:?}");
+                return ExitCode::from(2);
+            };
+            packets::once(&row, size.parse().ok());
+        }
         ["--once", name, way, which] => {
             let way = if way == "read" { Way::Read } else { Way::Write };
             let codec = if which == "library" {
@@ -893,8 +909,14 @@ fn main() -> ExitCode {
             once(rows.swap_remove(at), way, codec);
         }
         _ => {
-            rows.retain(|row| words.is_empty() || words.iter().any(|word| row.name.contains(word)));
-            time_rows(rows);
+            let is_asked =
+                |name: &str| words.is_empty() || words.iter().any(|word| name.contains(word));
+            rows.retain(|row| is_asked(row.name));
+            let mut in_packets = Vec::from(packets::rows());
+            in_packets.retain(|row| is_asked(row.name));
+            let mut score = time_rows(rows);
+            packets::time_rows(&in_packets, &mut score);
+            println!("{} of {} goals missed", score.missed, score.goals);
         }
     }
     ExitCode::SUCCESS
