@@ -69,6 +69,23 @@
 //! # Ok::<(), plumethrift::Refused>(())
 //! ```
 //!
+//! # In packets
+//!
+//! A [`Receiver`] takes a stream in pieces, and tells after each which events are complete.
+//!
+//! ```
+//! use plumethrift::{Receiver, Settings};
+//!
+//! let mut receiver = Receiver::new(&Settings::default());
+//! for packet in [&[0x80, 0x40][..], &[0x98], &[0x40]] { // <a/>
+//!     for event in receiver.feed(packet)?.new_events() {
+//!         println!("{event:?}");
+//!     }
+//! }
+//! assert_eq!(receiver.close()?.len(), 4);
+//! # Ok::<(), plumethrift::Refused>(())
+//! ```
+//!
 //! # Memory of one's own
 //!
 //! Module [`lent`] has the calls as they cross the boundary: over slices that the caller lends,
@@ -115,8 +132,9 @@ pub use settings::{Alignment, Settings};
 pub use text::Text;
 pub use writer::Writer;
 
-/// The programs of README and docs/READINGS.md.
+/// The programs of README and of pages of docs/.
 #[cfg(doctest)]
 #[doc = include_str!("../../../README.md")]
 #[doc = include_str!("../../../docs/READINGS.md")]
+#[doc = include_str!("../../../docs/PACKETS.md")]
 pub struct Documents;

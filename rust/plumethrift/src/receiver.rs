@@ -9,7 +9,7 @@ use crate::refusal::{judge, Refused};
 use crate::settings::Settings;
 
 /// Reads one stream at a time that comes in pieces, as packets of a radio do, in memory of its own:
-/// 300 KiB, allocated once.
+/// 296 KiB, allocated once.
 ///
 /// Each piece is answered with the [`Progress`]: the events that are complete from the octets so
 /// far. However the stream is cut, empty pieces included, [`close`](Receiver::close) answers as

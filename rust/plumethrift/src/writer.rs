@@ -6,7 +6,7 @@ use crate::readings::Readings;
 use crate::refusal::{judge, Refused};
 use crate::settings::Settings;
 
-/// Writes lists, in memory of its own: 152 KiB, allocated once and used for each list. For
+/// Writes lists, in memory of its own: 88 KiB, allocated once and used for each list. For
 /// readings it is 208 KiB more, allocated with the first.
 ///
 /// ```

@@ -5,6 +5,8 @@ use std::io::Write;
 use std::path::{Path, PathBuf};
 use std::process::{Command, Output, Stdio};
 
+use plumethrift::{Alignment, EventList, Reader, Refusal, Settings};
+
 /// K3, `<a>b</a>`, byte-aligned.
 const STREAM: [u8; 8] = [0x80, 0x01, 0x02, 0x61, 0x03, 0x03, 0x62, 0x00];
 
@@ -293,7 +295,7 @@ fn the_example_reads_packets() {
 #[test]
 fn the_structs_are_the_archives() {
     let output = run(&mut Command::new(program(&of_tests("layout.c"))), &[]);
-    let octets = std::mem::size_of::<plumethrift::lent::ReceiverRecord>();
+    let octets = size_of::<plumethrift::lent::ReceiverRecord>();
     assert_eq!(
         text(&output.stdout),
         format!("a record of {octets} octets\n")
@@ -313,4 +315,84 @@ fn changed_records_and_memory() {
     assert_eq!(text(&output.stderr), "");
     assert!(text(&output.stdout).ends_with(" refused\n"));
     assert_eq!(output.status.code(), Some(0));
+}
+
+/// Lists from UTF-8, and UTF-8 both ways, with the sanitizers.
+#[test]
+fn the_header_for_lists() {
+    let output = run(&mut Command::new(sanitized(&of_tests("list.c"))), &[]);
+    assert_eq!((text(&output.stdout), text(&output.stderr)), ("", ""));
+    assert_eq!(output.status.code(), Some(0));
+}
+
+/// The sentences of refusals are this crate's.
+#[test]
+fn the_sentences_of_the_header() {
+    const SENTENCES: &str = r#"
+#include <stdio.h>
+#include "plumethrift.h"
+
+int main(void) {
+  for (uint32_t number = 0; number < 22; number++)
+    printf("%s\n", plumethrift_refusal_sentence(number));
+  printf("%s\n", plumethrift_refusal_sentence(UINT32_MAX));
+  return 0;
+}
+"#;
+    let file = Path::new(env!("CARGO_TARGET_TMPDIR")).join("sentences.c");
+    fs::write(&file, SENTENCES).unwrap();
+    let output = run(&mut Command::new(program(&file)), &[]);
+    let sentence = |number| Refusal::from_number(number).map_or("", Refusal::sentence);
+    let expected: Vec<&str> = (0..22).chain([u32::MAX]).map(sentence).collect();
+    assert_eq!(text(&output.stdout).lines().collect::<Vec<_>>(), expected);
+}
+
+/// The example that writes: its stream has the lines.
+#[test]
+fn the_example_writes() {
+    let write = program(&root().join("examples/write.c"));
+    let input = "eins\n\nT\u{FC}r".as_bytes();
+    for (word, alignment) in [
+        (None, Alignment::BitPacked),
+        (Some("--byte-aligned"), Alignment::ByteAligned),
+    ] {
+        let output = run(Command::new(&write).args(word), input);
+        assert_eq!(output.status.code(), Some(0));
+        let mut list = EventList::new();
+        list.start_document().start_element("", "lines");
+        for (n, line) in [("1", "eins"), ("2", ""), ("3", "T\u{FC}r")] {
+            list.start_element("", "line").attribute("", "n", n);
+            list.characters(line).end_element();
+        }
+        list.end_element().end_document();
+        let settings = Settings {
+            alignment,
+            ..Settings::default()
+        };
+        let mut reader = Reader::new();
+        assert_eq!(reader.read(&settings, &output.stdout).unwrap(), list);
+    }
+
+    let many = "x\n".repeat(3_000);
+    let long = format!("{}\n", "x".repeat(4_096));
+    let control = "\u{1}\n";
+    for (input, says) in [
+        (&b"a\n\xC3\n"[..], "line 2 is not UTF-8\n"),
+        (many.as_bytes(), "line 1024 has no room\n"),
+        (long.as_bytes(), "line 1 is too long, or has a zero\n"),
+        (b"\0\n", "line 1 is too long, or has a zero\n"),
+        (
+            control.as_bytes(),
+            "refused: 8 CHARACTER at event 4: a code point is no XML 1.0 Char, or a comment has \
+             -- or ends in -, or an instruction has ?>\n",
+        ),
+    ] {
+        let output = run(&mut Command::new(&write), input);
+        assert_eq!((text(&output.stdout), text(&output.stderr)), ("", says));
+        assert_eq!(output.status.code(), Some(1));
+    }
+    for words in [&["--bit-packed"][..], &["--byte-aligned", "x"]] {
+        let output = run(Command::new(&write).args(words), input);
+        assert_eq!(output.status.code(), Some(2));
+    }
 }
