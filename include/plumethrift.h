@@ -34,6 +34,8 @@
  * The library allocates nothing, keeps no pointer after a call and has no state of its own. Calls
  * may run in any number of threads at once, as long as none of them writes a part of another.
  *
+ * A call takes at most 8 KiB of the stack: that is measured, not proved.
+ *
  * The archive is for x86-64 with the System V calling convention. Of other libraries it needs
  * memcpy and memset alone.
  */

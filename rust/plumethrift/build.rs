@@ -1,12 +1,14 @@
 //! Finds the proved archive, or has it made, and links it.
 //!
 //! The archive is `target/staticlib/libplumethrift.a` below the repository's root. One that is
-//! there is taken as it is; where there is none, `rt staticlib plumethrift` proves and writes it.
-//! `PLUMETHRIFT_ARCHIVE_DIR` may name another folder that has the archive, by its whole path.
+//! there is taken as it is, with a warning where its sources are newer; where there is none,
+//! `rt staticlib plumethrift` proves and writes it. `PLUMETHRIFT_ARCHIVE_DIR` may name another
+//! folder that has the archive, by its whole path.
 
-use std::env;
 use std::path::{Path, PathBuf};
 use std::process::{exit, Command};
+use std::time::{Instant, SystemTime};
+use std::{env, fs};
 
 const ARCHIVE: &str = "libplumethrift.a";
 const FOLDER: &str = "PLUMETHRIFT_ARCHIVE_DIR";
@@ -56,17 +58,50 @@ fn repository_folder() -> PathBuf {
         "cargo:rerun-if-changed={}",
         root.join("crates.txt").display()
     );
+    println!("cargo:rerun-if-changed={}", root.join("crates").display());
     let folder = root.join("target").join("staticlib");
-    if !folder.join(ARCHIVE).is_file() {
+    let archive = folder.join(ARCHIVE);
+    if !archive.is_file() {
+        let begin = Instant::now();
         make_archive(root);
-        if !folder.join(ARCHIVE).is_file() {
+        if !archive.is_file() {
             stop(&format!(
                 "`rt staticlib plumethrift` left no '{}'",
-                folder.join(ARCHIVE).display()
+                archive.display()
             ));
         }
+        let seconds = begin.elapsed().as_secs();
+        say(&format!(
+            "`rt staticlib plumethrift` proved and wrote the archive in {seconds} s"
+        ));
+    } else if changed(&archive) < newest_source(&root.join("crates")) {
+        say(&format!(
+            "'{}' is older than its sources: `rt staticlib plumethrift` makes it anew",
+            archive.display()
+        ));
     }
     folder
+}
+
+/// When the newest source of the library was changed.
+fn newest_source(folder: &Path) -> Option<SystemTime> {
+    let entries = fs::read_dir(folder).ok()?;
+    let paths = entries.filter_map(|entry| Some(entry.ok()?.path()));
+    let times = paths.map(|path| match path.extension() {
+        _ if path.is_dir() => newest_source(&path),
+        Some(kind) if kind == "rt" => changed(&path),
+        _ => None,
+    });
+    times.max().flatten()
+}
+
+fn changed(file: &Path) -> Option<SystemTime> {
+    fs::metadata(file).ok()?.modified().ok()
+}
+
+/// Shows a line when the build script has ended.
+fn say(message: &str) {
+    println!("cargo:warning={message}");
 }
 
 /// Proves the library and writes the archive.

@@ -34,23 +34,27 @@ impl<'a> Document<'a> {
     }
 
     /// Its events, from start document to end document.
+    #[must_use]
     pub fn events(&self) -> Events<'a> {
         Events::new(self.cells, self.store)
     }
 
     /// How many events it has: at least 4.
     #[allow(clippy::len_without_is_empty)] // none is empty
+    #[must_use]
     pub fn len(&self) -> usize {
         self.cells.len() / CELLS_PER_EVENT
     }
 
     /// Its events as they lie in memory, nine cells each.
+    #[must_use]
     pub fn cells(&self) -> &'a [u32] {
         self.cells
     }
 
     /// Its text store: the 99 code points of the initial table entries, then every literal in
     /// stream order.
+    #[must_use]
     pub fn store(&self) -> &'a [u32] {
         self.store
     }

@@ -79,6 +79,7 @@ impl<'a> Event<'a> {
     /// assert_eq!(Event::from_cells(&[3, 0, 0, 0, 1, 0, 1, 0, 0], &store), None);
     /// assert_eq!(Event::from_cells(&[0; 9], &store), None);
     /// ```
+    #[must_use]
     pub fn from_cells(cells: &[u32], store: &'a [u32]) -> Option<Event<'a>> {
         let string = |place: u32, length: u32| look_up(store, place, length);
         Some(match *cells {

@@ -25,7 +25,7 @@
 //! assert!(matches!(second, Some(Event::StartElement { name, .. }) if name == "a"));
 //! ```
 
-use std::{fmt, mem::MaybeUninit};
+use core::{fmt, mem::MaybeUninit};
 
 use crate::boundary;
 
@@ -70,8 +70,8 @@ pub const MAX_MOVEMENT: i32 = 20_000;
 /// Settings of a stream, as numbers. A number other than those named is refused as SETTINGS.
 ///
 /// The default, all zero, is bit-packed, no cookie, nothing kept; of the last six numbers no other
-/// than 0 has a meaning yet. Value length, value capacity and grammar cap are bounds: 0 is none, and
-/// a bound n is n + 1. [`Settings`](crate::Settings) are the same in types.
+/// than 0 has a meaning yet. Value length, value capacity and grammar cap are bounds: 0 is none,
+/// and a bound n is n + 1. [`Settings`](crate::Settings) are the same in types.
 #[repr(C)]
 #[derive(Clone, Copy, Debug, PartialEq, Eq, Default)]
 pub struct SettingNumbers {
@@ -99,6 +99,7 @@ pub struct SettingNumbers {
 
 /// The reader's answer.
 #[repr(C)]
+#[must_use]
 #[derive(Clone, Copy, Debug, PartialEq, Eq, Default)]
 pub struct ReadReply {
     /// 0, or the number of a [`Refusal`](crate::Refusal).
@@ -141,6 +142,7 @@ impl fmt::Debug for ReceiverRecord {
 
 /// The writer's answer.
 #[repr(C)]
+#[must_use]
 #[derive(Clone, Copy, Debug, PartialEq, Eq, Default)]
 pub struct WriteReply {
     /// 0, or the number of a [`Refusal`](crate::Refusal).
@@ -153,6 +155,7 @@ pub struct WriteReply {
 
 /// The answer where readings are taken out of a list or a stream.
 #[repr(C)]
+#[must_use]
 #[derive(Clone, Copy, Debug, PartialEq, Eq, Default)]
 pub struct ReadingsReply {
     /// 0, or the number of a [`Refusal`](crate::Refusal).
@@ -165,6 +168,7 @@ pub struct ReadingsReply {
 
 /// The answer where readings are made into a list.
 #[repr(C)]
+#[must_use]
 #[derive(Clone, Copy, Debug, PartialEq, Eq, Default)]
 pub struct ListReply {
     /// 0, or the number of a [`Refusal`](crate::Refusal).
@@ -287,6 +291,7 @@ pub fn write_readings(
 
 /// Starts a receiver for one stream: a record to lend to [`feed`] and [`close`]. Settings without a
 /// meaning are refused by these.
+#[must_use]
 pub fn start(s: SettingNumbers) -> ReceiverRecord {
     boundary::start(s)
 }
@@ -330,12 +335,14 @@ pub fn close(
 }
 
 /// Asks the library for the sizes. They are this module's constants.
+#[must_use]
 pub fn sizes() -> Sizes {
     boundary::sizes()
 }
 
 /// Asks the library for a refusal's name, in ASCII padded with zeros; all zeros for a number that
 /// is not 1 to 19. [`Refusal::name`](crate::Refusal::name) is the same as a string.
+#[must_use]
 pub fn refusal_name(number: u32) -> [u8; 16] {
     boundary::refusal_name(number)
 }

@@ -89,7 +89,9 @@
 //! # Memory of one's own
 //!
 //! Module [`lent`] has the calls as they cross the boundary: over slices that the caller lends,
-//! with settings and answers as numbers. Nothing is allocated there.
+//! with settings and answers as numbers. Nothing is allocated there. Without the feature `std`,
+//! which is a default, the crate does without the standard library, and has `lent`, [`Event`],
+//! [`Text`], [`Settings`], [`Alignment`], [`Refusal`] and [`Refused`] alone.
 //!
 //! # What is proved, and what is trusted
 //!
@@ -104,32 +106,45 @@
 //! Where an answer breaks what is proved of it (a refusal's number above 19, a kind of event that
 //! does not exist), this crate panics. The proved library gives no such answer.
 
+#![cfg_attr(not(feature = "std"), no_std)]
 #![deny(unsafe_code)]
 #![deny(missing_docs)]
 
 #[allow(unsafe_code)]
 mod boundary;
+#[cfg(feature = "std")]
 mod document;
 mod event;
 pub mod lent;
+#[cfg(feature = "std")]
 mod list;
+#[cfg(feature = "std")]
 mod reader;
+#[cfg(feature = "std")]
 mod readings;
+#[cfg(feature = "std")]
 mod receiver;
 mod refusal;
 mod settings;
 mod text;
+#[cfg(feature = "std")]
 mod writer;
 
+#[cfg(feature = "std")]
 pub use document::{Document, Events};
 pub use event::Event;
+#[cfg(feature = "std")]
 pub use list::EventList;
+#[cfg(feature = "std")]
 pub use reader::Reader;
-pub use readings::{Reading, Readings};
+#[cfg(feature = "std")]
+pub use readings::{Reading, Readings, ReadingsIter};
+#[cfg(feature = "std")]
 pub use receiver::{Progress, Receiver};
-pub use refusal::{Refusal, Refused};
+pub use refusal::{Refusal, Refused, Unknown};
 pub use settings::{Alignment, Settings};
 pub use text::Text;
+#[cfg(feature = "std")]
 pub use writer::Writer;
 
 /// The programs of README and of pages of docs/.

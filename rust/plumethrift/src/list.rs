@@ -56,6 +56,7 @@ pub struct EventList {
 
 impl EventList {
     /// A list without events.
+    #[must_use]
     pub const fn new() -> Self {
         EventList {
             cells: Vec::new(),
@@ -146,16 +147,19 @@ impl EventList {
     }
 
     /// Its events.
+    #[must_use]
     pub fn events(&self) -> Events<'_> {
         Events::new(&self.cells, &self.store)
     }
 
     /// How many events it has.
+    #[must_use]
     pub fn len(&self) -> usize {
         self.cells.len() / CELLS_PER_EVENT
     }
 
     /// It has no events.
+    #[must_use]
     pub fn is_empty(&self) -> bool {
         self.cells.is_empty()
     }
@@ -167,11 +171,13 @@ impl EventList {
     }
 
     /// Its events as they lie in memory, nine cells each.
+    #[must_use]
     pub fn cells(&self) -> &[u32] {
         &self.cells
     }
 
     /// Its text store.
+    #[must_use]
     pub fn store(&self) -> &[u32] {
         &self.store
     }

@@ -27,6 +27,7 @@ pub struct Reader {
 
 impl Reader {
     /// A reader, with its memory.
+    #[must_use]
     pub fn new() -> Self {
         Reader {
             events: vec![0; EVENT_CELLS].into_boxed_slice(),

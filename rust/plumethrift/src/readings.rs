@@ -1,3 +1,6 @@
+use std::iter::{FusedIterator, Zip};
+use std::slice::Iter;
+
 use crate::document::Document;
 use crate::lent::{self, CELLS_PER_EVENT, EVENT_CELLS, MAX_READINGS, TEXT_CELLS};
 use crate::list::EventList;
@@ -52,6 +55,7 @@ pub struct Readings {
 
 impl Readings {
     /// No readings.
+    #[must_use]
     pub const fn new() -> Self {
         Readings {
             stamps: Vec::new(),
@@ -120,20 +124,18 @@ impl Readings {
     }
 
     /// The readings in order.
-    pub fn iter(&self) -> impl DoubleEndedIterator<Item = Reading> + ExactSizeIterator + '_ {
-        let both = self.stamps.iter().zip(&self.movements);
-        both.map(|(&milliseconds, &micrometres)| Reading {
-            milliseconds,
-            micrometres,
-        })
+    pub fn iter(&self) -> ReadingsIter<'_> {
+        ReadingsIter(self.stamps.iter().zip(&self.movements))
     }
 
     /// How many readings there are.
+    #[must_use]
     pub fn len(&self) -> usize {
         self.stamps.len()
     }
 
     /// There are none.
+    #[must_use]
     pub fn is_empty(&self) -> bool {
         self.stamps.is_empty()
     }
@@ -145,11 +147,13 @@ impl Readings {
     }
 
     /// Their stamps, in milliseconds.
+    #[must_use]
     pub fn stamps(&self) -> &[u64] {
         &self.stamps
     }
 
     /// Their movements, in micrometres.
+    #[must_use]
     pub fn movements(&self) -> &[i32] {
         &self.movements
     }
@@ -165,6 +169,54 @@ impl Readings {
         stamps.truncate(reply.readings as usize);
         movements.truncate(reply.readings as usize);
         Ok(Readings { stamps, movements })
+    }
+}
+
+/// The stamp in milliseconds and the movement in micrometres.
+impl From<(u64, i32)> for Reading {
+    fn from((milliseconds, micrometres): (u64, i32)) -> Self {
+        Reading {
+            milliseconds,
+            micrometres,
+        }
+    }
+}
+
+/// [`Readings`] in order.
+#[derive(Clone, Debug)]
+#[must_use]
+pub struct ReadingsIter<'a>(Zip<Iter<'a, u64>, Iter<'a, i32>>);
+
+impl Iterator for ReadingsIter<'_> {
+    type Item = Reading;
+
+    fn next(&mut self) -> Option<Reading> {
+        let (&milliseconds, &micrometres) = self.0.next()?;
+        Some(Reading::from((milliseconds, micrometres)))
+    }
+
+    fn size_hint(&self) -> (usize, Option<usize>) {
+        self.0.size_hint()
+    }
+}
+
+impl DoubleEndedIterator for ReadingsIter<'_> {
+    fn next_back(&mut self) -> Option<Reading> {
+        let (&milliseconds, &micrometres) = self.0.next_back()?;
+        Some(Reading::from((milliseconds, micrometres)))
+    }
+}
+
+impl ExactSizeIterator for ReadingsIter<'_> {}
+
+impl FusedIterator for ReadingsIter<'_> {}
+
+impl<'a> IntoIterator for &'a Readings {
+    type Item = Reading;
+    type IntoIter = ReadingsIter<'a>;
+
+    fn into_iter(self) -> ReadingsIter<'a> {
+        self.iter()
     }
 }
 

@@ -57,6 +57,7 @@ pub struct Receiver {
 
 impl Receiver {
     /// A receiver for a stream of these settings, with its memory.
+    #[must_use]
     pub fn new(settings: &Settings) -> Self {
         Receiver {
             record: lent::start(settings.numbers()),
@@ -140,33 +141,39 @@ pub struct Progress<'a> {
 
 impl<'a> Progress<'a> {
     /// All events that are complete from the octets so far.
+    #[must_use]
     pub fn events(&self) -> Events<'a> {
         self.so_far.events()
     }
 
     /// Those of them that were not complete before this piece.
+    #[must_use]
     pub fn new_events(&self) -> Events<'a> {
         let cells = &self.so_far.cells()[CELLS_PER_EVENT * self.before..];
         Events::new(cells, self.so_far.store())
     }
 
     /// How many events are complete: 0 while the header is not.
+    #[must_use]
     pub fn len(&self) -> usize {
         self.so_far.len()
     }
 
     /// Whether no event is complete yet.
+    #[must_use]
     pub fn is_empty(&self) -> bool {
         self.len() == 0
     }
 
     /// The events as they lie in memory, nine cells each.
+    #[must_use]
     pub fn cells(&self) -> &'a [u32] {
         self.so_far.cells()
     }
 
     /// The text store: the 99 code points of the initial table entries, then every literal of the
     /// complete events in stream order.
+    #[must_use]
     pub fn store(&self) -> &'a [u32] {
         self.so_far.store()
     }

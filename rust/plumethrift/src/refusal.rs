@@ -1,8 +1,9 @@
-use std::error::Error;
-use std::fmt;
+use core::error::Error;
+use core::fmt;
+use core::str::FromStr;
 
 /// Why a stream, a list or readings were refused. Later versions may have more refusals.
-#[derive(Clone, Copy, Debug, PartialEq, Eq, Hash)]
+#[derive(Clone, Copy, Debug, PartialEq, Eq, PartialOrd, Ord, Hash)]
 #[non_exhaustive]
 #[repr(u32)]
 pub enum Refusal {
@@ -90,6 +91,7 @@ impl Refusal {
     /// assert_eq!(Refusal::from_number(13), Some(Refusal::Tail));
     /// assert_eq!(Refusal::from_number(0), None);
     /// ```
+    #[must_use]
     pub fn from_number(number: u32) -> Option<Refusal> {
         Refusal::ALL
             .iter()
@@ -98,11 +100,13 @@ impl Refusal {
     }
 
     /// Its number, 1 to 19.
+    #[must_use]
     pub const fn number(self) -> u32 {
         self as u32
     }
 
     /// Its name in capitals, as the C header has it.
+    #[must_use]
     pub const fn name(self) -> &'static str {
         match self {
             Refusal::Room => "ROOM",
@@ -128,6 +132,7 @@ impl Refusal {
     }
 
     /// What it means, in one sentence without a full stop.
+    #[must_use]
     pub const fn sentence(self) -> &'static str {
         match self {
             Refusal::Room => "a lent part is too short",
@@ -169,11 +174,56 @@ impl Refusal {
     }
 }
 
+/// Its [name](Refusal::name).
 impl fmt::Display for Refusal {
     fn fmt(&self, f: &mut fmt::Formatter<'_>) -> fmt::Result {
-        f.write_str(self.name())
+        f.pad(self.name())
     }
 }
+
+/// The refusal of a [name](Refusal::name).
+///
+/// ```
+/// use plumethrift::Refusal;
+///
+/// assert_eq!("TAIL".parse(), Ok(Refusal::Tail));
+/// assert!("tail".parse::<Refusal>().is_err());
+/// ```
+impl FromStr for Refusal {
+    type Err = Unknown;
+
+    fn from_str(name: &str) -> Result<Self, Unknown> {
+        let mut all = Refusal::ALL.iter().copied();
+        all.find(|refusal| refusal.name() == name).ok_or(Unknown)
+    }
+}
+
+/// The refusal of a [number](Refusal::number).
+impl TryFrom<u32> for Refusal {
+    type Error = Unknown;
+
+    fn try_from(number: u32) -> Result<Self, Unknown> {
+        Refusal::from_number(number).ok_or(Unknown)
+    }
+}
+
+impl From<Refusal> for u32 {
+    fn from(refusal: Refusal) -> u32 {
+        refusal.number()
+    }
+}
+
+/// A word or a number that names nothing of the kind that was asked for.
+#[derive(Clone, Copy, Debug, PartialEq, Eq, Hash)]
+pub struct Unknown;
+
+impl fmt::Display for Unknown {
+    fn fmt(&self, f: &mut fmt::Formatter<'_>) -> fmt::Result {
+        f.pad("no such name or number")
+    }
+}
+
+impl Error for Unknown {}
 
 /// A refusal, and the event or the reading that it concerns.
 ///
@@ -200,26 +250,29 @@ pub struct Refused {
 impl fmt::Display for Refused {
     fn fmt(&self, f: &mut fmt::Formatter<'_>) -> fmt::Result {
         let Refused { refusal, index } = self;
-        let counted = match refusal {
-            Refusal::Limit => "index", // events or readings, by the call
-            _ if refusal.number() < Refusal::Structure.number() => "event",
-            _ => "reading",
-        };
-        write!(
-            f,
-            "refused: {} {} at {} {}: {}",
-            refusal.number(),
-            refusal.name(),
-            counted,
-            index,
-            refusal.sentence()
-        )
+        write!(f, "refused: {} {refusal}", refusal.number())?;
+        match refusal {
+            Refusal::Room | Refusal::Settings | Refusal::Long | Refusal::Header => {}
+            Refusal::Limit => write!(f, " at index {index}")?, // events or readings, by the call
+            _ if *refusal < Refusal::Structure => write!(f, " at event {index}")?,
+            _ => write!(f, " at reading {index}")?,
+        }
+        write!(f, ": {}", refusal.sentence())
     }
 }
 
 impl Error for Refused {}
 
+/// As invalid data.
+#[cfg(feature = "std")]
+impl From<Refused> for std::io::Error {
+    fn from(refused: Refused) -> Self {
+        std::io::Error::new(std::io::ErrorKind::InvalidData, refused)
+    }
+}
+
 /// An answer's number and index as a result.
+#[cfg(feature = "std")]
 pub(crate) fn judge(number: u32, index: u32) -> Result<(), Refused> {
     if number == 0 {
         return Ok(());

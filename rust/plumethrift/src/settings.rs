@@ -1,4 +1,8 @@
+use core::fmt;
+use core::str::FromStr;
+
 use crate::lent::SettingNumbers;
+use crate::refusal::Unknown;
 
 /// How the fields of a stream lie in its octets.
 #[derive(Clone, Copy, Debug, Default, PartialEq, Eq, Hash)]
@@ -8,6 +12,36 @@ pub enum Alignment {
     BitPacked = 0,
     /// Each field begins with an octet.
     ByteAligned = 1,
+}
+
+/// `bit-packed` or `byte-aligned`.
+impl fmt::Display for Alignment {
+    fn fmt(&self, f: &mut fmt::Formatter<'_>) -> fmt::Result {
+        f.pad(match self {
+            Alignment::BitPacked => "bit-packed",
+            Alignment::ByteAligned => "byte-aligned",
+        })
+    }
+}
+
+/// As it is displayed.
+///
+/// ```
+/// use plumethrift::Alignment;
+///
+/// assert_eq!("byte-aligned".parse(), Ok(Alignment::ByteAligned));
+/// assert!("aligned".parse::<Alignment>().is_err());
+/// ```
+impl FromStr for Alignment {
+    type Err = Unknown;
+
+    fn from_str(word: &str) -> Result<Self, Unknown> {
+        match word {
+            "bit-packed" => Ok(Alignment::BitPacked),
+            "byte-aligned" => Ok(Alignment::ByteAligned),
+            _ => Err(Unknown),
+        }
+    }
 }
 
 /// Settings of a stream. They travel outside it: reader and writer have to be given the same.
@@ -62,6 +96,7 @@ impl Settings {
     /// assert_eq!(bounded(0).numbers().value_capacity, 1);
     /// assert_eq!(bounded(u32::MAX).numbers().value_capacity, u32::MAX);
     /// ```
+    #[must_use]
     pub const fn numbers(&self) -> SettingNumbers {
         SettingNumbers {
             alignment: self.alignment as u32,

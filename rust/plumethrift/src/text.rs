@@ -1,4 +1,4 @@
-use std::fmt;
+use core::fmt::{self, Write};
 
 /// A string of an event: code points, one 32-bit number each.
 ///
@@ -18,27 +18,32 @@ pub struct Text<'a>(&'a [u32]);
 
 impl<'a> Text<'a> {
     /// The string of these code points.
+    #[must_use]
     pub const fn new(code_points: &'a [u32]) -> Self {
         Text(code_points)
     }
 
     /// Its code points.
+    #[must_use]
     pub const fn code_points(self) -> &'a [u32] {
         self.0
     }
 
     /// How many code points it has.
+    #[must_use]
     pub const fn len(self) -> usize {
         self.0.len()
     }
 
     /// It has none.
+    #[must_use]
     pub const fn is_empty(self) -> bool {
         self.0.is_empty()
     }
 
     /// Its characters. A code point that is no `char` (there is none in a document that was read)
     /// comes as U+FFFD.
+    #[must_use]
     pub fn chars(self) -> impl DoubleEndedIterator<Item = char> + ExactSizeIterator + Clone + 'a {
         self.0
             .iter()
@@ -46,18 +51,51 @@ impl<'a> Text<'a> {
     }
 }
 
+/// As the same `str` would be displayed.
 impl fmt::Display for Text<'_> {
     fn fmt(&self, f: &mut fmt::Formatter<'_>) -> fmt::Result {
-        use fmt::Write;
-        self.chars()
-            .try_for_each(|character| f.write_char(character))
+        let length = f.precision().unwrap_or(usize::MAX).min(self.len());
+        let free = f.width().unwrap_or(0).saturating_sub(length);
+        let before = match f.align() {
+            None | Some(fmt::Alignment::Left) => 0,
+            Some(fmt::Alignment::Center) => free / 2,
+            Some(fmt::Alignment::Right) => free,
+        };
+        let fill = f.fill();
+        (0..before).try_for_each(|_| f.write_char(fill))?;
+        let mut shown = self.chars().take(length);
+        shown.try_for_each(|character| f.write_char(character))?;
+        (before..free).try_for_each(|_| f.write_char(fill))
     }
 }
 
 /// As the same `str` would be shown.
 impl fmt::Debug for Text<'_> {
     fn fmt(&self, f: &mut fmt::Formatter<'_>) -> fmt::Result {
-        fmt::Debug::fmt(&self.to_string(), f)
+        f.write_char('"')?;
+        for character in self.chars() {
+            match character {
+                '\'' => f.write_char(character)?,
+                _ => character
+                    .escape_debug()
+                    .try_for_each(|it| f.write_char(it))?,
+            }
+        }
+        f.write_char('"')
+    }
+}
+
+impl<'a> From<&'a [u32]> for Text<'a> {
+    fn from(code_points: &'a [u32]) -> Self {
+        Text::new(code_points)
+    }
+}
+
+/// Its characters, as [`chars`](Text::chars) has them.
+#[cfg(feature = "std")]
+impl From<Text<'_>> for String {
+    fn from(text: Text<'_>) -> String {
+        text.chars().collect()
     }
 }
 

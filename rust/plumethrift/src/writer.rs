@@ -32,6 +32,7 @@ pub struct Writer {
 
 impl Writer {
     /// A writer, with its memory.
+    #[must_use]
     pub fn new() -> Self {
         Writer {
             octets: vec![0; STREAM_OCTETS].into_boxed_slice(),

@@ -30,6 +30,15 @@ fn of_tests(name: &str) -> PathBuf {
         .join(name)
 }
 
+/// The sample streams.
+fn samples() -> Vec<PathBuf> {
+    let entries = fs::read_dir(root().join("samples")).unwrap();
+    let mut all: Vec<PathBuf> = entries.map(|entry| entry.unwrap().path()).collect();
+    all.retain(|path| path.extension().is_some_and(|it| it == "exi"));
+    all.sort();
+    all
+}
+
 /// Compiles a program and links it with the archive.
 fn program(source: &Path) -> PathBuf {
     compiled(source, &[])
@@ -306,12 +315,8 @@ fn the_structs_are_the_archives() {
 /// Record and memory changed between the calls, each part beside a page that cannot be touched.
 #[test]
 fn changed_records_and_memory() {
-    let samples = fs::read_dir(root().join("samples")).unwrap();
-    let mut samples: Vec<PathBuf> = samples.map(|entry| entry.unwrap().path()).collect();
-    samples.retain(|path| path.extension().is_some_and(|it| it == "exi"));
-    samples.sort();
     let mut changed = Command::new(sanitized(&of_tests("changed.c")));
-    let output = run(changed.args(["1000", "8"]).args(samples), &[]);
+    let output = run(changed.args(["1000", "8"]).args(samples()), &[]);
     assert_eq!(text(&output.stderr), "");
     assert!(text(&output.stdout).ends_with(" refused\n"));
     assert_eq!(output.status.code(), Some(0));
@@ -394,5 +399,19 @@ fn the_example_writes() {
     for words in [&["--bit-packed"][..], &["--byte-aligned", "x"]] {
         let output = run(Command::new(&write).args(words), input);
         assert_eq!(output.status.code(), Some(2));
+    }
+}
+
+/// The stack that the calls take is what the header says, at most.
+#[test]
+fn the_stack() {
+    let stack = compiled(&of_tests("stack.c"), &["-std=c11", "-pthread"]);
+    let output = run(Command::new(stack).args(samples()), &[]);
+    assert_eq!(output.status.code(), Some(0));
+    let said = text(&output.stdout);
+    assert_eq!(said.lines().count(), 9);
+    for line in said.lines() {
+        let (_, octets) = line.split_once(' ').expect("a call and its octets");
+        assert!(octets.parse::<usize>().unwrap() <= 8 * 1024, "{line}");
     }
 }

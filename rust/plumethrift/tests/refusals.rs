@@ -392,4 +392,32 @@ fn a_refusal_says_what_it_is() {
         says(Refusal::Limit, 678),
         "refused: 12 LIMIT at index 678: a size would be passed"
     );
+    assert_eq!(
+        says(Refusal::Long, 0),
+        "refused: 3 LONG: the stream is, or would be, over 16384 octets"
+    );
+    let error = std::io::Error::from(refused);
+    assert_eq!(error.kind(), std::io::ErrorKind::InvalidData);
+}
+
+#[test]
+fn refusals_by_name_and_number() {
+    for &refusal in Refusal::ALL {
+        assert_eq!(refusal.name().parse(), Ok(refusal));
+        assert_eq!(Refusal::try_from(u32::from(refusal)), Ok(refusal));
+    }
+    for name in ["", "OK", "room", "ROOM ", "ROOM\0"] {
+        assert!(name.parse::<Refusal>().is_err());
+    }
+    for number in [0, 20, u32::MAX] {
+        assert!(Refusal::try_from(number).is_err());
+    }
+    assert_eq!(
+        format!("{:>7}|{:<6}|", Refusal::Tail, Refusal::Room),
+        "   TAIL|ROOM  |"
+    );
+    for alignment in [Alignment::BitPacked, Alignment::ByteAligned] {
+        assert_eq!(alignment.to_string().parse(), Ok(alignment));
+    }
+    assert_eq!(format!("{:>13}", Alignment::ByteAligned), " byte-aligned");
 }

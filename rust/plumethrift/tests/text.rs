@@ -35,3 +35,20 @@ fn code_points_that_are_no_char() {
         assert_eq!(text.code_points(), points);
     }
 }
+
+/// By width, fill and precision, too.
+#[test]
+fn padded_as_a_str_is() {
+    for string in ["", "T\u{FC}r", "a\"b'c\n\u{301}\u{FEFF}"] {
+        let points: Vec<u32> = string.chars().map(u32::from).collect();
+        let text = Text::from(&points[..]);
+        assert_eq!(String::from(text), string);
+        assert_eq!(format!("{text:?}"), format!("{string:?}"));
+        assert_eq!(format!("{text:2}"), format!("{string:2}"));
+        assert_eq!(format!("{text:9}"), format!("{string:9}"));
+        assert_eq!(format!("{text:>9}"), format!("{string:>9}"));
+        assert_eq!(format!("{text:*^8}"), format!("{string:*^8}"));
+        assert_eq!(format!("{text:.2}"), format!("{string:.2}"));
+        assert_eq!(format!("{text:-<7.1}"), format!("{string:-<7.1}"));
+    }
+}

@@ -1,0 +1,85 @@
+//! The numbers that the documents say are the library's.
+
+use std::fs;
+use std::path::Path;
+
+use plumethrift::lent::{
+    ReceiverRecord, EVENT_CELLS, HELD_OCTETS, MAX_READINGS, READER_WORK_CELLS, STREAM_OCTETS,
+    TEXT_CELLS, WRITER_WORK_CELLS,
+};
+
+/// A document below the repository's root, with spaces for its line ends.
+fn document(name: &str) -> String {
+    let path = Path::new(env!("CARGO_MANIFEST_DIR"))
+        .join("../..")
+        .join(name);
+    let text = fs::read_to_string(path).unwrap();
+    text.replace("\n/// ", " ").replace('\n', " ")
+}
+
+fn kibibytes(cells: usize, octets: usize) -> String {
+    let all = 4 * cells + octets;
+    assert_eq!(all % 1_024, 0);
+    format!("{} KiB", all / 1_024)
+}
+
+/// A number with a comma before the last three digits.
+fn grouped(number: usize) -> String {
+    match number {
+        0..1_000 => number.to_string(),
+        _ => format!("{},{:03}", number / 1_000, number % 1_000),
+    }
+}
+
+#[test]
+fn how_much_the_owning_types_allocate() {
+    let list = EVENT_CELLS + TEXT_CELLS;
+    let reader = kibibytes(list + READER_WORK_CELLS, 0);
+    let receiver = kibibytes(list + READER_WORK_CELLS, HELD_OCTETS);
+    let writer = kibibytes(WRITER_WORK_CELLS, STREAM_OCTETS);
+    let readings = kibibytes(list, 0);
+    for (file, says) in [
+        (
+            "reader",
+            format!("in memory of its own: {reader}, allocated once"),
+        ),
+        (
+            "receiver",
+            format!("in memory of its own: {receiver}, allocated once"),
+        ),
+        (
+            "writer",
+            format!("in memory of its own: {writer}, allocated once"),
+        ),
+        ("writer", format!("it is {readings} more")),
+    ] {
+        let text = document(&format!("rust/plumethrift/src/{file}.rs"));
+        assert!(text.contains(&says), "{file}.rs: {says}");
+    }
+}
+
+#[test]
+fn how_much_is_lent() {
+    let memory = document("docs/MEMORY.md");
+    for says in [
+        format!(
+            "| event cells | reader, to write | {} cells",
+            grouped(EVENT_CELLS)
+        ),
+        format!(
+            "| text store | reader, to write | {} cells",
+            grouped(TEXT_CELLS)
+        ),
+        format!("| octets | writer, to write | {} |", grouped(STREAM_OCTETS)),
+        format!(
+            "| work memory | reader, writer | {} cells",
+            grouped(READER_WORK_CELLS)
+        ),
+        format!("to write | {MAX_READINGS} cells each |"),
+    ] {
+        assert!(memory.contains(&says), "{says}");
+    }
+    let record = format!("{} octets", size_of::<ReceiverRecord>());
+    assert!(document("README.md").contains(&record));
+    assert!(document("README.md").contains(&format!("at most {MAX_READINGS} readings")));
+}
