@@ -11,10 +11,10 @@
 //! [`RAW`] is followed by how many cells, at most nine, and the cells; [`AGAIN`] is the newest
 //! attribute once more, and is followed by the place and the length of its value.
 //!
-//! With both 64 and 1 set the request is about readings: with 128 set for the list of readings, else
-//! for the readings of a list, which follows as to write. Of the other bits only 32 counts. Readings
-//! are numbers up to the end: by how much a stamp is above the one before, and the movement, twice
-//! its size, and one more below 0.
+//! With both 64 and 1 set the request is about readings: with 128 set for the list of readings,
+//! else for the readings of a list, which follows as to write. Of the other bits only 32 counts.
+//! Readings are numbers up to the end: by how much a stamp is above the one before, and the
+//! movement, twice its size, and one more below 0.
 //!
 //! With 2 set there, too, the request is the calls of a receiver. An octet follows with the
 //! settings as above, then calls up to the end. A call is an octet, up to 240 as many octets of a

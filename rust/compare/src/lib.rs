@@ -11,9 +11,9 @@
 //! that end with what is lent, or are cut), `primer` (the EXI Primer's worked examples), `vectors`
 //! (requests and answers from files), `differential` (random and damaged lists and streams),
 //! `readings` (readings from lists and streams, and back), `packets` (streams in pieces), `batch`
-//! (the program of that name), `exi` and `plot` (the command line). Run them in a release build.
-//! The programs are `batch`, which answers request lines, `bench`, which times both
-//! implementations, and `fields`, which times n-bit fields by themselves.
+//! (the program of that name), `exi` and `plot` (the command line), `readme` (what the documents
+//! show). Run them in a release build. The programs are `batch`, which answers request lines,
+//! `bench`, which times both implementations, and `fields`, which times n-bit fields by themselves.
 
 #![forbid(unsafe_code)]
 

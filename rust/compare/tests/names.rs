@@ -58,8 +58,8 @@ fn is_answered(settings: Settings, list: &[Event], number: u32, index: u32) {
     }
 }
 
-/// A string as the name of an element, of an attribute, in no namespace and in one, and as a target;
-/// the event has index 2.
+/// A string as the name of an element, of an attribute, in no namespace and in one, and as a
+/// target; the event has index 2.
 fn with_name(name: &[u32]) -> [Vec<Event>; 4] {
     let (uri, name) = (text("u"), name.to_vec());
     let attribute = |uri| Event::Attribute {

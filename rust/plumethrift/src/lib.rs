@@ -146,3 +146,10 @@ pub use settings::{Alignment, Settings};
 pub use text::Text;
 #[cfg(feature = "std")]
 pub use writer::Writer;
+
+/// The programs of README and of pages of docs/.
+#[cfg(doctest)]
+#[doc = include_str!("../../../README.md")]
+#[doc = include_str!("../../../docs/READINGS.md")]
+#[doc = include_str!("../../../docs/PACKETS.md")]
+pub struct Documents;

@@ -12,14 +12,17 @@
 //! `bench WORD..` takes only rows whose names have one of the words. For a counter of instructions
 //! (see `instructions`), `bench --once ROW WAY WHICH` puts a few streams of a row once to one of
 //! the two, and `bench --packets ROW SIZE` reads one stream in packets, or `whole`. `bench --rows`
-//! and `bench --packet-rows` tell the names of the rows, the latter with the sizes.
+//! and `bench --packet-rows` tell the names of the rows, the latter with the sizes. `bench --table
+//! PAGE` takes all rows and puts the table of their ratios and goals into the page (docs/SPEED.md).
 
 #![forbid(unsafe_code)]
 
 mod packets;
+mod table;
 
 use std::hint::black_box;
 use std::ops::Range;
+use std::path::Path;
 use std::process::ExitCode;
 use std::time::Instant;
 
@@ -789,38 +792,47 @@ fn print(case: &Case, way: Way, times: &Times, score: &mut Score) {
 /// A row that was timed: the octets of a stream, and the times to read and to write.
 struct Timed {
     name: &'static str,
+    goals: Goals,
     octets: f64,
     times: [Times; 2],
 }
 
 const WAYS: [&str; 2] = ["read", "write"];
 
-/// What eight times the octets cost, by the first and the last row of growth.
-fn print_growth(timed: &[Timed], score: &mut Score) {
+/// What eight times the octets cost, by the first and the last row of growth: times the time.
+fn growth(timed: &[Timed], way: usize) -> Option<f64> {
     let mut grown = timed.iter().filter(|row| row.name.starts_with("growth"));
-    let (Some(first), Some(last)) = (grown.next(), grown.next_back()) else {
-        return;
-    };
+    let (first, last) = (grown.next()?, grown.next_back()?);
+    let times = last.times[way].library / first.times[way].library;
+    Some(8.0 * times / (last.octets / first.octets))
+}
+
+fn print_growth(timed: &[Timed], score: &mut Score) {
     for (k, way) in WAYS.into_iter().enumerate() {
-        let times = last.times[k].library / first.times[k].library;
-        let eight = 8.0 * times / (last.octets / first.octets);
+        let Some(eight) = growth(timed, k) else {
+            continue;
+        };
         let verdict = score.judge(eight, GROWTH);
         println!("growth, {way}: eight times the octets take {eight:.1} times the time  {verdict}");
     }
 }
 
-/// What 120 attributes in one start tag cost, by those in elements of their own.
+/// What 120 attributes in one start tag cost, by those in elements of their own, net.
+fn one_tag(timed: &[Timed], alignment: &str, way: usize) -> Option<f64> {
+    let row = |name: &str| {
+        let name = format!("{name}, {alignment}");
+        timed.iter().find(|row| row.name == name)
+    };
+    let (tag, elements) = (row("120 attributes")?, row("120 elements")?);
+    Some(tag.times[way].library_net() / elements.times[way].library_net())
+}
+
 fn print_one_tag(timed: &[Timed], score: &mut Score) {
     for alignment in ["byte-aligned", "bit-packed"] {
-        let row = |name: &str| {
-            let name = format!("{name}, {alignment}");
-            timed.iter().find(|row| row.name == name)
-        };
-        let (Some(tag), Some(elements)) = (row("120 attributes"), row("120 elements")) else {
-            continue;
-        };
         for (k, way) in WAYS.into_iter().enumerate() {
-            let ratio = tag.times[k].library_net() / elements.times[k].library_net();
+            let Some(ratio) = one_tag(timed, alignment, k) else {
+                continue;
+            };
             let verdict = score.judge(ratio, ONE_TAG);
             println!(
                 "120 attributes, {alignment}, {way}: one start tag takes {ratio:.2} times the time \
@@ -844,7 +856,7 @@ fn print_one_bucket(timed: &[Timed], score: &mut Score) {
     }
 }
 
-fn time_rows(rows: Vec<Row>) -> Score {
+fn time_rows(rows: Vec<Row>) -> (Score, Vec<Timed>) {
     let mut memory = Memory::new();
     let mut score = Score::default();
     let mut timed: Vec<Timed> = Vec::new();
@@ -862,6 +874,7 @@ fn time_rows(rows: Vec<Row>) -> Score {
         });
         timed.push(Timed {
             name: case.row.name,
+            goals: case.row.goals,
             octets: case.octets() as f64 / case.streams() as f64,
             times: both,
         });
@@ -869,7 +882,7 @@ fn time_rows(rows: Vec<Row>) -> Score {
     print_growth(&timed, &mut score);
     print_one_tag(&timed, &mut score);
     print_one_bucket(&timed, &mut score);
-    score
+    (score, timed)
 }
 
 /// Puts a few streams of a row once to one implementation.
@@ -910,13 +923,21 @@ fn main() -> ExitCode {
             };
             once(rows.swap_remove(at), way, codec);
         }
+        ["--table", page] => {
+            let (score, timed) = time_rows(rows);
+            println!("{} of {} goals missed", score.missed, score.goals);
+            if let Err(error) = table::put(Path::new(page), &timed) {
+                eprintln!("bench: {page}: {error}");
+                return ExitCode::from(2);
+            }
+        }
         _ => {
             let is_asked =
                 |name: &str| words.is_empty() || words.iter().any(|word| name.contains(word));
             rows.retain(|row| is_asked(row.name));
             let mut in_packets = Vec::from(packets::rows());
             in_packets.retain(|row| is_asked(row.name));
-            let mut score = time_rows(rows);
+            let (mut score, _) = time_rows(rows);
             packets::time_rows(&in_packets, &mut score);
             println!("{} of {} goals missed", score.missed, score.goals);
         }
