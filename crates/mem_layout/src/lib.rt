@@ -106,9 +106,6 @@ pub const PREFIXES: usize = 17618;
 // the layout's end
 pub const LAYOUT_CELLS: usize = 17746;
 
-// lent
-pub const WORK_CELLS: usize = 18432;
-
 // ---- rows of the tables, buckets of the chains, owners of the counts
 
 // values lie at their number modulo the ring

@@ -10,10 +10,10 @@ ghost use Rattle.read_field.specs.Parts.{Octet, Peeked, FewIn, Lying, Cu
 ghost use Rattle.read_field.specs.Parts.{few, broad, onward};
 
 // The stream ends inside the field.
-const ENDED: u8 = 5;
+const ENDED: u8 = refusal::ENDED as u8;
 
 // No number in fewest octets up to MOST.
-const NUMBER: u8 = 7;
+const NUMBER: u8 = refusal::NUMBER as u8;
 
 const MOST: u64 = 2147483647;
 

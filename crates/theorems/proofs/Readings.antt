@@ -87,6 +87,7 @@ readings-theorems =
         lists = examples.lists;
         readings = examples.readings;
         small-store = examples.small-store;
+        small-lists = examples.small-lists;
         places = examples.one-laid;
         room = examples.rooms-hold;
         list-replies = examples.list-replies;

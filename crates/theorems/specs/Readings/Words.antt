@@ -17,8 +17,9 @@ pub use Rattle.spec_exi.specs.Meaning.{AreOctets, storedOf, meant, Accepts}
 -- stamps and movements, readings and their lists
 pub use Rattle.spec_readings.specs.Calendar.{Stamp, exists, sinceStart, lastNumber, stampAt}
 pub use Rattle.spec_readings.specs.Calendar.{Earlier}
-pub use Rattle.spec_readings.specs.Stamps.{stampText, stampOf, millisecondsOf}
+pub use Rattle.spec_readings.specs.Stamps.{stampSize, stampText, stampOf, millisecondsOf}
 pub use Rattle.spec_readings.specs.Movements.{isMovement, movementText, movementOf}
+pub use Rattle.spec_readings.specs.Places.{namePoints}
 pub use Rattle.spec_readings.specs.Readings.{Reading, Fault, structure, badStamp, badMovement}
 pub use Rattle.spec_readings.specs.Readings.{notLater, limit, numberOf, refused, accepted, asList}
 pub use Rattle.spec_readings.specs.Readings.{noOption, insideSizes, readList, maxReadings}
@@ -36,7 +37,8 @@ pub use Rattle.refusal.specs.Names.{nameAt, padded}
 -- the worked examples
 pub use Rattle.spec_readings.specs.Examples.{Says, stamps, movements, textAt, numbers, numberTexts}
 pub use Rattle.spec_readings.specs.Examples.{Read, listExamples, Checked, readingsExamples}
-pub use Rattle.spec_readings.specs.Examples.{CheckedSmall, smallReadings, oneLaid, oneSpans, rooms}
+pub use Rattle.spec_readings.specs.Examples.{CheckedSmall, smallReadings, ReadSmall, smallLists}
+pub use Rattle.spec_readings.specs.Examples.{oneLaid, oneSpans, rooms}
 pub use Rattle.spec_readings.specs.Examples.{roomAnswers, listReplies, listRepliesAre, replies}
 pub use Rattle.spec_readings.specs.Examples.{repliesAre, storedAnswers, storedAnswersAre, still}
 pub use Rattle.spec_readings.specs.Examples.{rising}
