@@ -1,4 +1,5 @@
-//! The built-in document grammar and the built-in element grammars, which learn (EXI 8.4.1, 8.4.3).
+//! The built-in document grammar, the built-in fragment grammar and the built-in element grammars;
+//! the last two learn (EXI 8.4.1 to 8.4.3).
 
 use crate::buckets::{Buckets, Link};
 use crate::refusal::Refusal;
@@ -51,7 +52,7 @@ impl From<Terminal> for Symbol {
 #[derive(Clone, Copy, Debug, PartialEq, Eq)]
 pub enum Production {
     Learned,
-    /// One with two parts, inside an element: it gets one of one part.
+    /// One that puts a learned one before all others of its state.
     Teaching,
     Initial,
 }
@@ -72,7 +73,11 @@ enum State {
     ElementContent,
     DocEnd,
     Finished,
+    FragmentContent,
 }
+
+/// How many states there are.
+const STATES: usize = 7;
 
 /// The initial productions of a state.
 #[derive(Clone, Copy)]
@@ -83,12 +88,13 @@ struct Initial {
     places: [Option<Place>; 8],
     /// How many values they give to each part of an event code.
     choices: [usize; 3],
-    /// Whether those of two parts teach one of one part.
-    learns: bool,
+    /// By terminal, whether one is learned from it.
+    productions: [Production; 8],
 }
 
 impl Initial {
-    const fn new(levels: [&'static [Terminal]; 3], learns: bool) -> Initial {
+    /// Productions with these terminals teach.
+    const fn new(levels: [&'static [Terminal]; 3], teaching: &[Terminal]) -> Initial {
         let mut places = [None; 8];
         let mut choices = [0; 3];
         let mut depth = 0;
@@ -103,42 +109,44 @@ impl Initial {
             choices[depth] = level.len() + deeper as usize;
             depth += 1;
         }
+        let mut productions = [Production::Initial; 8];
+        let mut k = 0;
+        while k < teaching.len() {
+            productions[teaching[k] as usize] = Production::Teaching;
+            k += 1;
+        }
         Initial {
             levels,
             places,
             choices,
-            learns,
+            productions,
         }
     }
 
-    /// One that has this many parts and one.
-    fn production(&self, depth: usize) -> Production {
-        if self.learns && depth == 1 {
-            Production::Teaching
-        } else {
-            Production::Initial
-        }
-    }
-
-    /// All states, by their numbers, with these of comments and instructions kept.
-    const fn all(kept: &'static [Terminal]) -> [Initial; 6] {
+    /// All states, by their numbers, with these of comments and instructions kept. An element
+    /// learns from all that have two parts, a fragment's content from SE(*).
+    const fn all(kept: &'static [Terminal]) -> [Initial; STATES] {
         use Terminal::*;
         let in_tag = &[EndElement, Attribute, StartElement, Characters];
+        let in_content = &[StartElement, Characters];
+        let in_fragment = &[StartElement, EndDocument];
         [
-            Initial::new([&[StartDocument], &[], &[]], false),
-            Initial::new([&[StartElement], kept, &[]], false),
-            Initial::new([&[], in_tag, kept], true),
-            Initial::new([&[EndElement], &[StartElement, Characters], kept], true),
-            Initial::new([&[EndDocument], kept, &[]], false),
-            Initial::new([&[], &[], &[]], false),
+            Initial::new([&[StartDocument], &[], &[]], &[]),
+            Initial::new([&[StartElement], kept, &[]], &[]),
+            Initial::new([&[], in_tag, kept], in_tag),
+            Initial::new([&[EndElement], in_content, kept], in_content),
+            Initial::new([&[EndDocument], kept, &[]], &[]),
+            Initial::new([&[], &[], &[]], &[]),
+            Initial::new([in_fragment, kept, &[]], &[StartElement]),
         ]
     }
 }
 
-static NOTHING_KEPT: [Initial; 6] = Initial::all(&[]);
-static COMMENTS: [Initial; 6] = Initial::all(&[Terminal::Comment]);
-static INSTRUCTIONS: [Initial; 6] = Initial::all(&[Terminal::ProcessingInstruction]);
-static BOTH: [Initial; 6] = Initial::all(&[Terminal::Comment, Terminal::ProcessingInstruction]);
+static NOTHING_KEPT: [Initial; STATES] = Initial::all(&[]);
+static COMMENTS: [Initial; STATES] = Initial::all(&[Terminal::Comment]);
+static INSTRUCTIONS: [Initial; STATES] = Initial::all(&[Terminal::ProcessingInstruction]);
+static BOTH: [Initial; STATES] =
+    Initial::all(&[Terminal::Comment, Terminal::ProcessingInstruction]);
 
 /// What has been learned for one element name, in the start tag and in the content, oldest first.
 /// The newest has event code 0.
@@ -158,7 +166,11 @@ struct Learned {
 pub struct Grammars {
     state: State,
     /// The initial productions, by state.
-    initial: &'static [Initial; 6],
+    initial: &'static [Initial; STATES],
+    /// The states before and behind an element that is in no other.
+    outside: (State, State),
+    /// What has been learned outside all elements, oldest first.
+    learned_outside: Vec<Symbol>,
     elements: Vec<ElementGrammar>,
     /// Indices into `elements`.
     by_name: [Option<u8>; MAX_NAMES],
@@ -181,6 +193,12 @@ impl Grammars {
                 (false, true) => &INSTRUCTIONS,
                 (true, true) => &BOTH,
             },
+            outside: if options.fragment {
+                (State::FragmentContent, State::FragmentContent)
+            } else {
+                (State::DocContent, State::DocEnd)
+            },
+            learned_outside: Vec::new(),
             elements: Vec::with_capacity(4),
             by_name: [None; MAX_NAMES],
             open: [0; MAX_OPEN],
@@ -205,7 +223,7 @@ impl Grammars {
     fn learned(&self) -> &[Symbol] {
         match self.innermost() {
             Some(grammar) => &self.elements[grammar].learned[self.in_content()],
-            None => &[],
+            None => &self.learned_outside,
         }
     }
 
@@ -214,9 +232,17 @@ impl Grammars {
         usize::from(self.state == State::ElementContent)
     }
 
+    /// A number of its own for each state that learns.
+    fn site(&self) -> usize {
+        match self.innermost() {
+            Some(grammar) => 2 * grammar + self.in_content(),
+            None => 2 * MAX_GRAMMARS,
+        }
+    }
+
     /// The learned production of the current state with this symbol: how many older ones there are.
     fn find_learned(&self, symbol: Symbol) -> Option<usize> {
-        let key = symbol.key(2 * self.innermost()? + self.in_content());
+        let key = symbol.key(self.site());
         let found = self.learned_by_symbol.find(
             hash(key),
             |i| self.learned[i].next_in_bucket,
@@ -274,7 +300,8 @@ impl Grammars {
                 return Ok((symbol, Production::Learned));
             }
             if let Some(&terminal) = level.get(part - learned.len()) {
-                return Ok((terminal.into(), initial.production(depth)));
+                let production = initial.productions[terminal as usize];
+                return Ok((terminal.into(), production));
             }
             learned = &[];
         }
@@ -290,7 +317,7 @@ impl Grammars {
         mut write_part: impl FnMut(usize, usize),
     ) -> Production {
         let initial = self.initial();
-        let production = initial.production(place.depth);
+        let production = initial.productions[symbol.terminal as usize];
         let mut learned = self.learned().len();
         if production == Production::Teaching && learned > 0 {
             if let Some(older) = self.find_learned(symbol) {
@@ -329,7 +356,7 @@ impl Grammars {
         }
 
         match symbol.terminal {
-            Terminal::StartDocument => self.state = State::DocContent,
+            Terminal::StartDocument => self.state = self.outside.0,
             Terminal::EndDocument => self.state = State::Finished,
             Terminal::StartElement => {
                 if let Some(grammar) = entered {
@@ -343,7 +370,7 @@ impl Grammars {
             Terminal::EndElement => {
                 self.depth = self.depth.saturating_sub(1);
                 self.state = if self.depth == 0 {
-                    State::DocEnd
+                    self.outside.1
                 } else {
                     State::ElementContent
                 };
@@ -374,18 +401,18 @@ impl Grammars {
         Ok(grammar)
     }
 
-    /// What had an event code of two parts gets one of one part.
+    /// Puts a production for this symbol before all others of the current state.
     fn learn(&mut self, symbol: Symbol) -> Result<(), Refusal> {
-        let Some(grammar) = self.innermost() else {
-            return Ok(());
-        };
         let count = self.learned.len();
         if count == MAX_LEARNED {
             return Err(Refusal::Limit);
         }
+        let key = symbol.key(self.site());
         let in_content = self.in_content();
-        let key = symbol.key(2 * grammar + in_content);
-        let here = &mut self.elements[grammar].learned[in_content];
+        let here = match self.innermost() {
+            Some(grammar) => &mut self.elements[grammar].learned[in_content],
+            None => &mut self.learned_outside,
+        };
         self.learned.push(Learned {
             key,
             older: here.len() as u16,
