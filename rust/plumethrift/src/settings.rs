@@ -23,7 +23,7 @@ pub enum Alignment {
 /// assert_eq!(settings.numbers().comments, 1);
 /// ```
 ///
-/// The last six fields are for what this version does not do: reader and writer refuse any other
+/// The last five fields are for what this version does not do: reader and writer refuse any other
 /// than the default as [`Refusal::Settings`](crate::Refusal::Settings).
 #[derive(Clone, Copy, Debug, Default, PartialEq, Eq, Hash)]
 pub struct Settings {
@@ -35,7 +35,7 @@ pub struct Settings {
     pub comments: bool,
     /// Processing instructions are kept. Where they are not, no list or stream has any.
     pub instructions: bool,
-    /// A fragment: any number of elements, and not one root. Not in this version.
+    /// A fragment: any number of elements, none too, and not one root.
     pub fragment: bool,
     /// Values with more code points than this join no table. Not in this version.
     pub value_length: Option<u32>,

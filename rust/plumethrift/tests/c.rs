@@ -199,7 +199,7 @@ int main(void) {
         "cookie = 2",
         "comments = 2",
         "instructions = 2",
-        "fragment = 1",
+        "fragment = 2",
         "value_length = PLUMETHRIFT_BOUND(0)",
         "value_length = PLUMETHRIFT_BOUND(UINT32_MAX)",
         "value_capacity = PLUMETHRIFT_BOUND(0)",

@@ -58,7 +58,7 @@ fn refusals_stay() {
     assert_eq!(receiver.close().unwrap_err().refusal, Refusal::Long);
 
     let settings = Settings {
-        fragment: true,
+        loose: true,
         ..ALIGNED
     };
     receiver.start(&settings);

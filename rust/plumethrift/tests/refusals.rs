@@ -99,10 +99,6 @@ fn streams_that_are_too_long_or_have_a_bad_character() {
 fn settings_that_are_not_done() {
     let mut all = vec![
         Settings {
-            fragment: true,
-            ..BYTE_ALIGNED
-        },
-        Settings {
             loose: true,
             ..BYTE_ALIGNED
         },
