@@ -473,7 +473,7 @@ fn uris(rng: &mut Prng) -> Vec<Event> {
 /// New names, and names again, as attributes: all in one start tag, where those again have no
 /// place, or in nested elements of two names.
 fn names(rng: &mut Prng) -> Vec<Event> {
-    let count = rng.between(MAX_NAMES - 17, MAX_NAMES - 5);
+    let count = rng.between(MAX_NAMES - 17, MAX_NAMES - 2);
     let in_a_tag = *rng.pick(&[3, 20, 1_000]);
     let mut all = vec![Event::StartDocument, start("r")];
     let mut open = 1;
