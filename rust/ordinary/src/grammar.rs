@@ -58,11 +58,12 @@ pub enum Production {
 }
 
 /// Where an initial production of the current state stands: how many parts its event code has but
-/// one, and the value of the last.
+/// one, and the value of the last; and whether one is learned from it.
 #[derive(Clone, Copy)]
 pub struct Place {
-    depth: usize,
-    value: usize,
+    depth: u8,
+    value: u8,
+    production: Production,
 }
 
 #[derive(Clone, Copy, PartialEq, Eq)]
@@ -88,8 +89,17 @@ struct Initial {
     places: [Option<Place>; 8],
     /// How many values they give to each part of an event code.
     choices: [usize; 3],
-    /// By terminal, whether one is learned from it.
-    productions: [Production; 8],
+}
+
+const fn has(terminals: &[Terminal], terminal: Terminal) -> bool {
+    let mut k = 0;
+    while k < terminals.len() {
+        if terminals[k] as usize == terminal as usize {
+            return true;
+        }
+        k += 1;
+    }
+    false
 }
 
 impl Initial {
@@ -102,24 +112,32 @@ impl Initial {
             let level = levels[depth];
             let mut value = 0;
             while value < level.len() {
-                places[level[value] as usize] = Some(Place { depth, value });
+                places[level[value] as usize] = Some(Place {
+                    depth: depth as u8,
+                    value: value as u8,
+                    production: if has(teaching, level[value]) {
+                        Production::Teaching
+                    } else {
+                        Production::Initial
+                    },
+                });
                 value += 1;
             }
             let deeper = depth < 2 && !levels[depth + 1].is_empty();
             choices[depth] = level.len() + deeper as usize;
             depth += 1;
         }
-        let mut productions = [Production::Initial; 8];
-        let mut k = 0;
-        while k < teaching.len() {
-            productions[teaching[k] as usize] = Production::Teaching;
-            k += 1;
-        }
         Initial {
             levels,
             places,
             choices,
-            productions,
+        }
+    }
+
+    fn production(&self, terminal: Terminal) -> Production {
+        match self.places[terminal as usize] {
+            Some(place) => place.production,
+            None => Production::Initial,
         }
     }
 
@@ -149,9 +167,10 @@ static BOTH: [Initial; STATES] =
     Initial::all(&[Terminal::Comment, Terminal::ProcessingInstruction]);
 
 /// What has been learned for one element name, in the start tag and in the content, oldest first.
-/// The newest has event code 0.
+/// The newest has event code 0. A fragment's content has one, too, which is never left.
+#[derive(Default)]
 struct ElementGrammar {
-    element: NameId,
+    element: Option<NameId>,
     learned: [Vec<Symbol>; 2],
 }
 
@@ -169,13 +188,13 @@ pub struct Grammars {
     initial: &'static [Initial; STATES],
     /// The states before and behind an element that is in no other.
     outside: (State, State),
-    /// What has been learned outside all elements, oldest first.
-    learned_outside: Vec<Symbol>,
+    /// How many grammars are open outside of all elements: a fragment's content.
+    around: usize,
     elements: Vec<ElementGrammar>,
     /// Indices into `elements`.
     by_name: [Option<u8>; MAX_NAMES],
     /// Indices into `elements`, innermost last: so many of these.
-    open: [u8; MAX_OPEN],
+    open: [u8; MAX_OPEN + 1],
     depth: usize,
     /// The attributes that the newest start tag has had: a bit for each name.
     attributes: u128,
@@ -185,6 +204,13 @@ pub struct Grammars {
 
 impl Grammars {
     pub fn new(options: &Options) -> Self {
+        let mut elements = Vec::with_capacity(4);
+        let mut outside = (State::DocContent, State::DocEnd);
+        if options.fragment {
+            elements.push(ElementGrammar::default());
+            outside = (State::FragmentContent, State::FragmentContent);
+        }
+        let around = elements.len();
         Grammars {
             state: State::Document,
             initial: match (options.comments, options.instructions) {
@@ -193,16 +219,12 @@ impl Grammars {
                 (false, true) => &INSTRUCTIONS,
                 (true, true) => &BOTH,
             },
-            outside: if options.fragment {
-                (State::FragmentContent, State::FragmentContent)
-            } else {
-                (State::DocContent, State::DocEnd)
-            },
-            learned_outside: Vec::new(),
-            elements: Vec::with_capacity(4),
+            outside,
+            around,
+            elements,
             by_name: [None; MAX_NAMES],
-            open: [0; MAX_OPEN],
-            depth: 0,
+            open: [0; MAX_OPEN + 1],
+            depth: around,
             attributes: 0,
             learned: Vec::with_capacity(8),
             learned_by_symbol: Buckets::new(),
@@ -223,7 +245,7 @@ impl Grammars {
     fn learned(&self) -> &[Symbol] {
         match self.innermost() {
             Some(grammar) => &self.elements[grammar].learned[self.in_content()],
-            None => &self.learned_outside,
+            None => &[],
         }
     }
 
@@ -232,17 +254,9 @@ impl Grammars {
         usize::from(self.state == State::ElementContent)
     }
 
-    /// A number of its own for each state that learns.
-    fn site(&self) -> usize {
-        match self.innermost() {
-            Some(grammar) => 2 * grammar + self.in_content(),
-            None => 2 * MAX_GRAMMARS,
-        }
-    }
-
     /// The learned production of the current state with this symbol: how many older ones there are.
     fn find_learned(&self, symbol: Symbol) -> Option<usize> {
-        let key = symbol.key(self.site());
+        let key = symbol.key(2 * self.innermost()? + self.in_content());
         let found = self.learned_by_symbol.find(
             hash(key),
             |i| self.learned[i].next_in_bucket,
@@ -263,7 +277,7 @@ impl Grammars {
 
     /// The innermost open element.
     pub fn open_element(&self) -> Option<NameId> {
-        Some(self.elements[self.innermost()?].element)
+        self.elements[self.innermost()?].element
     }
 
     /// Notes an attribute of the start tag, which must not have had one of this name.
@@ -300,8 +314,7 @@ impl Grammars {
                 return Ok((symbol, Production::Learned));
             }
             if let Some(&terminal) = level.get(part - learned.len()) {
-                let production = initial.productions[terminal as usize];
-                return Ok((terminal.into(), production));
+                return Ok((terminal.into(), initial.production(terminal)));
             }
             learned = &[];
         }
@@ -317,7 +330,7 @@ impl Grammars {
         mut write_part: impl FnMut(usize, usize),
     ) -> Production {
         let initial = self.initial();
-        let production = initial.productions[symbol.terminal as usize];
+        let production = place.production;
         let mut learned = self.learned().len();
         if production == Production::Teaching && learned > 0 {
             if let Some(older) = self.find_learned(symbol) {
@@ -325,14 +338,15 @@ impl Grammars {
                 return Production::Learned;
             }
         }
-        for depth in 0..place.depth {
+        let last = usize::from(place.depth);
+        for depth in 0..last {
             let deeper = learned + initial.levels[depth].len();
             write_part(deeper, learned + initial.choices[depth]);
             learned = 0;
         }
         write_part(
-            learned + place.value,
-            learned + initial.choices[place.depth],
+            learned + usize::from(place.value),
+            learned + initial.choices[last],
         );
         production
     }
@@ -344,7 +358,7 @@ impl Grammars {
                 terminal: Terminal::StartElement,
                 name: Some(name),
             } => {
-                if self.depth == MAX_OPEN {
+                if self.depth == MAX_OPEN + self.around {
                     return Err(Refusal::Limit);
                 }
                 Some(self.element_grammar(name)?)
@@ -369,7 +383,7 @@ impl Grammars {
             Terminal::Attribute => {}
             Terminal::EndElement => {
                 self.depth = self.depth.saturating_sub(1);
-                self.state = if self.depth == 0 {
+                self.state = if self.depth == self.around {
                     self.outside.1
                 } else {
                     State::ElementContent
@@ -389,12 +403,12 @@ impl Grammars {
         if let Some(grammar) = self.by_name[element.index()] {
             return Ok(grammar);
         }
-        if self.elements.len() == MAX_GRAMMARS {
+        if self.elements.len() == MAX_GRAMMARS + self.around {
             return Err(Refusal::Limit);
         }
         let grammar = self.elements.len() as u8;
         self.elements.push(ElementGrammar {
-            element,
+            element: Some(element),
             learned: [Vec::new(), Vec::new()],
         });
         self.by_name[element.index()] = Some(grammar);
@@ -403,16 +417,16 @@ impl Grammars {
 
     /// Puts a production for this symbol before all others of the current state.
     fn learn(&mut self, symbol: Symbol) -> Result<(), Refusal> {
+        let Some(grammar) = self.innermost() else {
+            return Ok(());
+        };
         let count = self.learned.len();
         if count == MAX_LEARNED {
             return Err(Refusal::Limit);
         }
-        let key = symbol.key(self.site());
         let in_content = self.in_content();
-        let here = match self.innermost() {
-            Some(grammar) => &mut self.elements[grammar].learned[in_content],
-            None => &mut self.learned_outside,
-        };
+        let key = symbol.key(2 * grammar + in_content);
+        let here = &mut self.elements[grammar].learned[in_content];
         self.learned.push(Learned {
             key,
             older: here.len() as u16,
