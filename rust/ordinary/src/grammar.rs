@@ -61,8 +61,8 @@ pub enum Production {
 /// one, and the value of the last; and whether one is learned from it.
 #[derive(Clone, Copy)]
 pub struct Place {
-    depth: u8,
-    value: u8,
+    depth: usize,
+    value: usize,
     production: Production,
 }
 
@@ -113,8 +113,8 @@ impl Initial {
             let mut value = 0;
             while value < level.len() {
                 places[level[value] as usize] = Some(Place {
-                    depth: depth as u8,
-                    value: value as u8,
+                    depth,
+                    value,
                     production: if has(teaching, level[value]) {
                         Production::Teaching
                     } else {
@@ -271,8 +271,8 @@ impl Grammars {
     }
 
     /// The place of the initial production for events of this kind, if one can come next.
-    pub fn place(&self, terminal: Terminal) -> Option<Place> {
-        self.initial().places[terminal as usize]
+    pub fn place(&self, terminal: Terminal) -> Option<&'static Place> {
+        self.initial().places[terminal as usize].as_ref()
     }
 
     /// The innermost open element.
@@ -326,7 +326,7 @@ impl Grammars {
     pub fn encode(
         &self,
         symbol: Symbol,
-        place: Place,
+        place: &Place,
         mut write_part: impl FnMut(usize, usize),
     ) -> Production {
         let initial = self.initial();
@@ -338,15 +338,14 @@ impl Grammars {
                 return Production::Learned;
             }
         }
-        let last = usize::from(place.depth);
-        for depth in 0..last {
+        for depth in 0..place.depth {
             let deeper = learned + initial.levels[depth].len();
             write_part(deeper, learned + initial.choices[depth]);
             learned = 0;
         }
         write_part(
-            learned + usize::from(place.value),
-            learned + initial.choices[last],
+            learned + place.value,
+            learned + initial.choices[place.depth],
         );
         production
     }
