@@ -4,8 +4,8 @@ use crate::encode::{
     encode, encode_loosely, unsigned_octets, width, Encoded, Field, Loose, Role, Shape,
 };
 use crate::event::{
-    strings_of, text, unused_cells, Event, Stored, ATTRIBUTE, CELLS, COMMENT, END_DOCUMENT,
-    END_ELEMENT, INSTRUCTION, START_ELEMENT, XSI_URI,
+    strings_of, text, unused_cells, Event, Stored, ATTRIBUTE, CELLS, CHARACTERS, COMMENT,
+    END_DOCUMENT, END_ELEMENT, INSTRUCTION, START_ELEMENT, XSI_URI,
 };
 use crate::generate::NO_CHARS;
 use crate::lent::{
@@ -526,6 +526,7 @@ pub enum ListFault {
     OpenElement,
     OneEndMore,
     LateAttribute,
+    OutsideAnElement,
     SecondRoot,
     DroppedKind,
     OutsideTheStore,
@@ -555,7 +556,7 @@ impl ListFault {
         ListFault::NilOrType,
     ];
 
-    pub const ALL: [ListFault; 21] = [
+    pub const ALL: [ListFault; 22] = [
         ListFault::NoKind,
         ListFault::UnusedCell,
         ListFault::PartOfAnEvent,
@@ -565,6 +566,7 @@ impl ListFault {
         ListFault::OpenElement,
         ListFault::OneEndMore,
         ListFault::LateAttribute,
+        ListFault::OutsideAnElement,
         ListFault::SecondRoot,
         ListFault::DroppedKind,
         ListFault::OutsideTheStore,
@@ -596,7 +598,12 @@ pub struct FaultyList {
 /// If the list has an equal attribute, at index `equal`, and else no fault, there are two faults
 /// then, every other time in the same event. All of the writer's come before SHAPE of the equal
 /// attribute, or are SHAPE, too.
-pub fn faulty_list(rng: &mut Prng, list: &Stored, equal: Option<usize>) -> Option<FaultyList> {
+pub fn faulty_list(
+    rng: &mut Prng,
+    settings: Settings,
+    list: &Stored,
+    equal: Option<usize>,
+) -> Option<FaultyList> {
     let mut list = list.clone();
     let fault = *rng.pick(&ListFault::ALL);
     let count = list.cells.len() / CELLS;
@@ -664,6 +671,15 @@ pub fn faulty_list(rng: &mut Prng, list: &Stored, equal: Option<usize>) -> Optio
             list.insert(at + 1, ATTRIBUTE, &[&[], &[97], &[98]]);
             (SHAPE, at + 1)
         }
+        ListFault::OutsideAnElement => {
+            let index = *rng.pick(&list.outside());
+            let (kind, strings) = *rng.pick(&[(END_ELEMENT, 0), (CHARACTERS, 1), (ATTRIBUTE, 3)]);
+            let texts: [&[u32]; 3] = [&[97], &[97], &[98]];
+            list.insert(index, kind, &texts[..strings]);
+            (SHAPE, index)
+        }
+        // In a fragment it is one element more.
+        ListFault::SecondRoot if settings.fragment == 1 => return None,
         ListFault::SecondRoot => {
             let root_ends = list.root_ends()?;
             list.insert(root_ends + 1, START_ELEMENT, &[&[], &[97]]);
@@ -779,6 +795,23 @@ impl Stored {
         self.cells
             .chunks(CELLS)
             .rposition(|event| event[0] == END_ELEMENT)
+    }
+
+    /// The indices from the first event's on at which no element is open, but for that behind all.
+    fn outside(&self) -> Vec<usize> {
+        let mut open = 0;
+        let mut all = Vec::new();
+        for (k, kind) in self.cells.iter().step_by(CELLS).enumerate() {
+            if open == 0 && k > 0 {
+                all.push(k);
+            }
+            match *kind {
+                START_ELEMENT => open += 1,
+                END_ELEMENT => open -= 1,
+                _ => {}
+            }
+        }
+        all
     }
 
     /// The index of an event of this kind.

@@ -58,19 +58,22 @@ pub enum Loose {
     /// A global number where a local entry exists.
     ValueGlobal,
     StartElementProduction,
+    /// In fragment content.
+    TopElementProduction,
     AttributeProduction,
     EndElementProduction,
     CharactersProduction,
 }
 
 impl Loose {
-    pub const ALL: [Loose; 9] = [
+    pub const ALL: [Loose; 10] = [
         Loose::UriLiteral,
         Loose::NameLiteral,
         Loose::ValueLiteralLocal,
         Loose::ValueLiteralGlobal,
         Loose::ValueGlobal,
         Loose::StartElementProduction,
+        Loose::TopElementProduction,
         Loose::AttributeProduction,
         Loose::EndElementProduction,
         Loose::CharactersProduction,
@@ -105,12 +108,18 @@ pub enum Form {
     InstructionInStartTag,
     InstructionInContent,
     InstructionAfterRoot,
+    LearnedTopElement,
+    AnyTopElement,
+    CommentInFragment,
+    InstructionInFragment,
+    /// A fragment without elements.
+    NoElement,
     /// A choice of two octets when byte-aligned.
     WideChoice,
 }
 
 impl Form {
-    pub const ALL: [Form; 26] = [
+    pub const ALL: [Form; 31] = [
         Form::UriHit,
         Form::UriMiss,
         Form::NameHit,
@@ -136,6 +145,11 @@ impl Form {
         Form::InstructionInStartTag,
         Form::InstructionInContent,
         Form::InstructionAfterRoot,
+        Form::LearnedTopElement,
+        Form::AnyTopElement,
+        Form::CommentInFragment,
+        Form::InstructionInFragment,
+        Form::NoElement,
         Form::WideChoice,
     ];
 }
@@ -201,6 +215,7 @@ enum State {
     StartTag,
     Content,
     AfterRoot,
+    Fragment,
 }
 
 #[derive(Clone, Copy, PartialEq, Eq)]
@@ -222,6 +237,8 @@ struct Encoder {
     values: Vec<(usize, Text)>,
     /// By element name: learned productions of the start tag and of the content, the newest last.
     grammars: HashMap<usize, [Vec<Production>; 2]>,
+    /// Learned productions of fragment content, the newest last.
+    fragment: Vec<Production>,
     state: State,
     open: Vec<usize>,
     taken: Vec<usize>,
@@ -240,7 +257,11 @@ impl Encoder {
             names: Vec::new(),
             values: Vec::new(),
             grammars: HashMap::new(),
-            state: State::Document,
+            fragment: Vec::new(),
+            state: match settings.fragment {
+                0 => State::Document,
+                _ => State::Fragment,
+            },
             open: Vec::new(),
             taken,
             loose: Vec::new(),
@@ -314,6 +335,12 @@ impl Encoder {
     fn event(&mut self, event: &Event) {
         match event {
             Event::StartDocument => {}
+            Event::EndDocument if self.state == State::Fragment => {
+                if self.grammars.is_empty() {
+                    self.forms.push(Form::NoElement);
+                }
+                self.fragment_part(1);
+            }
             Event::EndDocument => self.document_part(0),
             Event::StartElement { uri, name } => self.start_element(uri, name),
             Event::Attribute { uri, name, value } => {
@@ -345,10 +372,12 @@ impl Encoder {
                     self.learn(production);
                 }
                 self.open.pop();
-                self.state = if self.open.is_empty() {
+                self.state = if !self.open.is_empty() {
+                    State::Content
+                } else if self.settings.fragment == 0 {
                     State::AfterRoot
                 } else {
-                    State::Content
+                    State::Fragment
                 };
             }
             Event::Characters(value) => {
@@ -375,6 +404,7 @@ impl Encoder {
                     State::StartTag => Form::CommentInStartTag,
                     State::Content => Form::CommentInContent,
                     State::AfterRoot => Form::CommentAfterRoot,
+                    State::Fragment => Form::CommentInFragment,
                 });
                 self.kept_part(0);
                 self.string(Role::TextLength, comment);
@@ -385,6 +415,7 @@ impl Encoder {
                     State::StartTag => Form::InstructionInStartTag,
                     State::Content => Form::InstructionInContent,
                     State::AfterRoot => Form::InstructionAfterRoot,
+                    State::Fragment => Form::InstructionInFragment,
                 });
                 self.kept_part(self.settings.comments as usize);
                 self.string(Role::TargetLength, target);
@@ -400,15 +431,29 @@ impl Encoder {
         } else {
             let known = self.known_name(uri, name);
             let production = known.map(Production::StartElement);
-            if self.learned(production, Loose::StartElementProduction) {
-                self.forms.push(Form::LearnedStartElement);
+            let is_top = self.state == State::Fragment;
+            let (loose, learned, any) = if is_top {
+                (
+                    Loose::TopElementProduction,
+                    Form::LearnedTopElement,
+                    Form::AnyTopElement,
+                )
+            } else {
+                (
+                    Loose::StartElementProduction,
+                    Form::LearnedStartElement,
+                    Form::AnyElement,
+                )
+            };
+            if self.learned(production, loose) {
+                self.forms.push(learned);
                 known.expect("a learned name is known")
             } else {
-                self.forms.push(Form::AnyElement);
-                if self.state == State::StartTag {
-                    self.start_tag_part(2);
-                } else {
-                    self.content_part(0);
+                self.forms.push(any);
+                match self.state {
+                    State::Fragment => self.fragment_part(0),
+                    State::StartTag => self.start_tag_part(2),
+                    _ => self.content_part(0),
                 }
                 let number = self.name(uri, name);
                 self.learn(Production::StartElement(number));
@@ -425,6 +470,12 @@ impl Encoder {
     fn document_part(&mut self, value: usize) {
         let among = if self.settings.kept() > 0 { 2 } else { 1 };
         self.choice(Role::Code, value, among);
+    }
+
+    /// SE(*) of fragment content as 0, ED as 1, all that is kept as 2, behind what was learned.
+    fn fragment_part(&mut self, value: usize) {
+        let (learned, among) = (self.learned_count(), self.codes());
+        self.choice(Role::Code, learned + value, among);
     }
 
     fn start_tag_part(&mut self, value: usize) {
@@ -444,6 +495,7 @@ impl Encoder {
     fn kept_part(&mut self, value: usize) {
         match self.state {
             State::Document | State::AfterRoot => self.document_part(1),
+            State::Fragment => self.fragment_part(2),
             State::StartTag => {
                 self.start_tag_part(4);
                 self.state = State::Content;
@@ -458,6 +510,9 @@ impl Encoder {
     }
 
     fn productions(&mut self) -> &mut Vec<Production> {
+        if self.state == State::Fragment {
+            return &mut self.fragment;
+        }
         let element = self.element();
         let state = usize::from(self.state == State::Content);
         &mut self.grammars.entry(element).or_default()[state]
@@ -465,6 +520,16 @@ impl Encoder {
 
     fn learned_count(&mut self) -> usize {
         self.productions().len()
+    }
+
+    /// How many values the first part of a code has in a state that learns.
+    fn codes(&mut self) -> usize {
+        let others = match self.state {
+            State::Fragment => 2 + usize::from(self.settings.kept() > 0),
+            State::Content => 2,
+            _ => 1,
+        };
+        self.learned_count() + others
     }
 
     /// Writes the code of a learned production if there is one and it is to be used.
@@ -480,11 +545,7 @@ impl Encoder {
         if self.loosely(loose) {
             return false;
         }
-        let among = if self.state == State::Content {
-            count + 2
-        } else {
-            count + 1
-        };
+        let among = self.codes();
         self.choice(Role::Code, count - 1 - at, among);
         true
     }

@@ -1,4 +1,4 @@
-//! Random well-formed event lists.
+//! Random well-formed event lists; with the setting, fragments.
 
 use crate::encode::encode;
 use crate::event::{tag_has, text, Event, Text, XML_URI, XSI_URI};
@@ -44,18 +44,29 @@ impl Profile {
 
 /// Settings that have a meaning. What has not landed stays as it is in the base.
 pub fn settings(rng: &mut Prng) -> Settings {
-    let bits = rng.below(16) as u32;
+    let bits = rng.below(32) as u32;
     Settings {
         alignment: bits & 1,
         cookie: bits >> 1 & 1,
         comments: bits >> 2 & 1,
-        instructions: bits >> 3,
+        instructions: bits >> 3 & 1,
+        fragment: bits >> 4,
         ..Settings::BIT_PACKED
     }
 }
 
 pub fn list(rng: &mut Prng, settings: Settings, profile: Profile) -> Vec<Event> {
+    let list = document(rng, settings, profile);
+    if settings.fragment == 1 && profile != Profile::Small {
+        return as_fragment(rng, list);
+    }
+    list
+}
+
+/// A list with one root; a small one is a fragment where the settings say so.
+fn document(rng: &mut Prng, settings: Settings, profile: Profile) -> Vec<Event> {
     match profile {
+        Profile::Small if settings.fragment == 1 => fragment(rng, settings),
         Profile::Small => small(rng, settings),
         Profile::Open => open(rng),
         Profile::StringLength => string_length(rng, settings),
@@ -167,6 +178,86 @@ fn small(rng: &mut Prng, settings: Settings) -> Vec<Event> {
     let mut all = vec![Event::StartDocument];
     misc(rng, settings, &pools, &mut all);
     element(rng, &pools, &mut all);
+    inside(rng, settings, &pools, (budget, depth), &mut all);
+    misc(rng, settings, &pools, &mut all);
+    all.push(Event::EndDocument);
+    all
+}
+
+/// The most top elements of a fragment, and what else goes into small ones: so that with every
+/// event a production they are no more than may be.
+const MOST_TOPS: usize = MAX_GRAMMARS;
+const SMALL_FRAGMENT: usize = 300;
+
+/// Up to 64 elements beside each other, most of them small, with comments and instructions between.
+/// Every other fragment has few names, which come again; in the others each has one of its own, and
+/// these are also the names inside of them.
+fn fragment(rng: &mut Prng, settings: Settings) -> Vec<Event> {
+    let mut pools = pools(rng);
+    let names_again = rng.one_in(2);
+    let tops = match rng.below(8) {
+        0 => 0,
+        1..=5 => rng.between(1, 8),
+        _ => rng.between(9, MOST_TOPS),
+    };
+    if !names_again {
+        pools.uris.truncate(1);
+        pools.names = (0..tops).map(|k| numbered("t", k)).collect();
+    }
+    let mut all = vec![Event::StartDocument];
+    misc(rng, settings, &pools, &mut all);
+    for k in 0..tops {
+        if names_again {
+            element(rng, &pools, &mut all);
+        } else {
+            let (uri, name) = (text(""), pools.names[k].clone());
+            all.push(Event::StartElement { uri, name });
+        }
+        let events = match rng.below(4) {
+            _ if all.len() > SMALL_FRAGMENT - 2 * MOST_TOPS => 0,
+            0 => rng.between(4, 24),
+            _ => rng.below(4),
+        };
+        let bounds = (all.len() + events, rng.between(1, 5));
+        inside(rng, settings, &pools, bounds, &mut all);
+        misc(rng, settings, &pools, &mut all);
+    }
+    all.push(Event::EndDocument);
+    all
+}
+
+/// A list with a root as it is, or what is in the root in its place, if that is elements only, or
+/// all twice.
+fn as_fragment(rng: &mut Prng, list: Vec<Event>) -> Vec<Event> {
+    let inner = &list[2..list.len() - 2];
+    let mut open = 0;
+    let elements_only = inner.iter().all(|event| {
+        match event {
+            Event::StartElement { .. } => open += 1,
+            Event::EndElement => open -= 1,
+            _ => return open > 0,
+        }
+        true
+    });
+    match rng.below(4) {
+        0 | 1 if elements_only => crate::event::document(inner.to_vec()),
+        2 => {
+            let whole = &list[1..list.len() - 1];
+            crate::event::document([whole, whole].concat())
+        }
+        _ => list,
+    }
+}
+
+/// What is in the element with which `all` ends, and its end: until there are so many events, and
+/// with so many open at once.
+fn inside(
+    rng: &mut Prng,
+    settings: Settings,
+    pools: &Pools,
+    (budget, depth): (usize, usize),
+    all: &mut Vec<Event>,
+) {
     let mut open = vec![all.len() - 1];
     let mut in_tag = true;
     let mut closed: Option<(usize, usize)> = None;
@@ -177,9 +268,9 @@ fn small(rng: &mut Prng, settings: Settings) -> Vec<Event> {
             continue;
         }
         match rng.below(12) {
-            0..=2 if in_tag => attribute(rng, &pools, &mut all),
+            0..=2 if in_tag => attribute(rng, pools, all),
             0..=3 if open.len() < depth => {
-                element(rng, &pools, &mut all);
+                element(rng, pools, all);
                 open.push(all.len() - 1);
                 in_tag = true;
             }
@@ -188,7 +279,7 @@ fn small(rng: &mut Prng, settings: Settings) -> Vec<Event> {
                 in_tag = false;
             }
             6 if settings.kept() > 0 => {
-                one_misc(rng, settings, &pools, &mut all);
+                one_misc(rng, settings, pools, all);
                 in_tag = false;
             }
             7..=8 if closed.is_some() => {
@@ -209,9 +300,6 @@ fn small(rng: &mut Prng, settings: Settings) -> Vec<Event> {
             _ => {}
         }
     }
-    misc(rng, settings, &pools, &mut all);
-    all.push(Event::EndDocument);
-    all
 }
 
 fn opened(events: &[Event]) -> usize {
@@ -385,7 +473,7 @@ fn uris(rng: &mut Prng) -> Vec<Event> {
 /// New names, and names again, as attributes: all in one start tag, where those again have no
 /// place, or in nested elements of two names.
 fn names(rng: &mut Prng) -> Vec<Event> {
-    let count = rng.between(MAX_NAMES - 17, MAX_NAMES - 5);
+    let count = rng.between(MAX_NAMES - 17, MAX_NAMES - 2);
     let in_a_tag = *rng.pick(&[3, 20, 1_000]);
     let mut all = vec![Event::StartDocument, start("r")];
     let mut open = 1;

@@ -62,7 +62,7 @@ impl Settings {
     };
 
     /// For each number, the first that has no meaning. What has not landed has no meaning but as 0.
-    pub const FIRST_WITHOUT_MEANING: [u32; 10] = [2, 2, 2, 2, 1, 1, 1, 1, 1, 1];
+    pub const FIRST_WITHOUT_MEANING: [u32; 10] = [2, 2, 2, 2, 2, 1, 1, 1, 1, 1];
 
     /// The ten numbers in their order.
     pub const fn from_numbers(numbers: [u32; 10]) -> Settings {

@@ -164,10 +164,10 @@ fn settings_by_words() {
         "18446744073709551615",
     ];
     for word in words {
-        let first = if word.starts_with('v') || word == "cap" {
-            "0"
-        } else {
-            "1"
+        let first = match word {
+            "fragment" => "2",
+            "vmax" | "vcap" | "cap" => "0",
+            _ => "1",
         };
         for number in [first, "2", "2049"].into_iter().chain(numbers) {
             for stream in ["8001026100", &long, "-"] {

@@ -225,7 +225,7 @@ impl Run {
                     .map_err(|error| format!("{:?}: {error}", faulty.fault))?;
                 count(&mut self.seen.stream_faults, faulty.fault);
             }
-            if let Some(faulty) = faulty_list(&mut self.rng, list, None) {
+            if let Some(faulty) = faulty_list(&mut self.rng, settings, list, None) {
                 let answer = (faulty.number, faulty.index);
                 self.write_has(settings, &faulty.list, answer)
                     .map_err(|error| format!("{:?}: {error}", faulty.fault))?;
@@ -289,7 +289,7 @@ impl Run {
                     count(&mut self.seen.stream_pairs, faulty.fault);
                 }
             }
-            if let Some(faulty) = faulty_list(&mut self.rng, list, index) {
+            if let Some(faulty) = faulty_list(&mut self.rng, settings, list, index) {
                 let answer = (faulty.number, faulty.index);
                 self.write_has(settings, &faulty.list, answer)
                     .map_err(|error| format!("{:?}, equal {index:?}: {error}", faulty.fault))?;

@@ -550,7 +550,7 @@ fn readings_in_streams() {
 #[test]
 fn refusals_in_their_order() {
     let mut both = ReadingsComparison::new();
-    let bad = Settings::BIT_PACKED.with(4, 1);
+    let bad = Settings::BIT_PACKED.with(4, 2);
     let (all, faulty) = ([(1, 2), (3, 4)], [(1, 2), (1, 4)]);
     let usual = (ListSizes::usual(), WriterSizes::usual());
     let written = both.to_stream(Settings::BIT_PACKED, &all, usual).unwrap();

@@ -12,6 +12,9 @@ const EDGES: &str = include_str!("../vectors/edges.txt");
 const RANDOM: &str = include_str!("../vectors/random.txt");
 const ROOM: &str = include_str!("../vectors/room.txt");
 const CROSS: &str = include_str!("../vectors/cross.txt");
+const P1_ALL: &str = include_str!("../vectors/p1-all.txt");
+const P1_EDGES: &str = include_str!("../vectors/p1-edges.txt");
+const P1_RANDOM: &str = include_str!("../vectors/p1-random.txt");
 const P2_ALL: &str = include_str!("../vectors/p2-all.txt");
 const P2_BASE: &str = include_str!("../vectors/p2-base.txt");
 const P2_EDGES: &str = include_str!("../vectors/p2-edges.txt");
@@ -33,7 +36,7 @@ const P12_RANDOM: &str = include_str!("../vectors/p12-random.txt");
 const CHANGED: [&str; 3] = [P2_BASE, P3_BASE, P6_BASE];
 
 /// The requests of document 02 that have landed, by their numbers. Each landing adds its own.
-const LANDED: [u32; 5] = [2, 3, 6, 8, 12];
+const LANDED: [u32; 6] = [1, 2, 3, 6, 8, 12];
 
 /// The lines of a file, each as a request and its answer.
 fn lines(file: &str) -> impl Iterator<Item = (&str, &str)> {
@@ -79,6 +82,14 @@ fn random_lists_and_streams() {
     let (all, changed) = base(RANDOM);
     assert_eq!(changed, 235);
     run(all.into_iter(), 1_500);
+}
+
+/// P1: fragments.
+#[test]
+fn fragments() {
+    run(lines(P1_EDGES), 160);
+    run(lines(P1_RANDOM), 600);
+    run(lines(P1_ALL), 41);
 }
 
 /// P2: strings of 4,096 code points and 2,048 values.
@@ -158,19 +169,23 @@ fn asks_for(request: &str) -> Vec<u32> {
     all
 }
 
+/// Whether all that a line of `cross.txt` asks for has landed.
+fn has_landed(request: &str) -> bool {
+    asks_for(request).iter().all(|it| LANDED.contains(it))
+}
+
 /// Settings of several requests in one line: each line is put once all that it names has landed.
 /// ROOM and SETTINGS are the answers before that, too.
 #[test]
 fn settings_of_several_requests() {
-    let landed = |request: &str| asks_for(request).iter().all(|it| LANDED.contains(it));
     let at_once = |request: &str, answer: &str| {
         Request::parse(request).is_ok()
             && (answer.starts_with("1 0 ") || answer.starts_with("2 0 "))
     };
     let (now, later): (Vec<_>, Vec<_>) =
-        lines(CROSS).partition(|(request, answer)| at_once(request, answer) || landed(request));
-    assert_eq!((now.len(), later.len()), (13, 777));
-    run(now.into_iter(), 13);
+        lines(CROSS).partition(|(request, answer)| at_once(request, answer) || has_landed(request));
+    assert_eq!((now.len(), later.len()), (21, 769));
+    run(now.into_iter(), 21);
 }
 
 /// The requests of `cross.txt` that are understood, whatever settings they name: those to read,
@@ -185,8 +200,8 @@ const MOST: &str = "18446744073709551615";
 #[test]
 fn requests_are_printed_as_they_stand() {
     let files = [
-        EDGES, RANDOM, ROOM, P2_EDGES, P2_RANDOM, P2_ALL, P3_EDGES, P3_RANDOM, P3_ALL, P6_EDGES,
-        P6_RANDOM, P6_ALL, P8_EDGES, P8_RANDOM, P12_EDGES, P12_RANDOM,
+        EDGES, RANDOM, ROOM, P1_EDGES, P1_RANDOM, P1_ALL, P2_EDGES, P2_RANDOM, P2_ALL, P3_EDGES,
+        P3_RANDOM, P3_ALL, P6_EDGES, P6_RANDOM, P6_ALL, P8_EDGES, P8_RANDOM, P12_EDGES, P12_RANDOM,
     ];
     let all = files.into_iter().flat_map(lines);
     let mut printed = 0;
@@ -200,7 +215,7 @@ fn requests_are_printed_as_they_stand() {
             printed += 1;
         }
     }
-    assert_eq!(printed, 6_402);
+    assert_eq!(printed, 7_203);
 }
 
 /// What a setting asks for that has not landed is SETTINGS before anything else; but ROOM comes
@@ -209,7 +224,7 @@ fn requests_are_printed_as_they_stand() {
 fn settings_that_have_not_landed() {
     let mut askers = BOTH.map(Asker::new);
     let mut asked = 0;
-    for request in understood() {
+    for request in understood().filter(|it| !has_landed(it)) {
         let number = if request.contains("short=") { 1 } else { 2 };
         let answer = match Request::parse(request) {
             Ok(Request::Packets { calls, .. }) => {
@@ -224,5 +239,5 @@ fn settings_that_have_not_landed() {
         }
         asked += 1;
     }
-    assert_eq!(asked, 617);
+    assert_eq!(asked, 609);
 }

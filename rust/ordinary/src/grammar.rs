@@ -1,4 +1,5 @@
-//! The built-in document grammar and the built-in element grammars, which learn (EXI 8.4.1, 8.4.3).
+//! The built-in document grammar, the built-in fragment grammar and the built-in element grammars;
+//! the last two learn (EXI 8.4.1 to 8.4.3).
 
 use crate::buckets::{Buckets, Link};
 use crate::refusal::Refusal;
@@ -51,17 +52,18 @@ impl From<Terminal> for Symbol {
 #[derive(Clone, Copy, Debug, PartialEq, Eq)]
 pub enum Production {
     Learned,
-    /// One with two parts, inside an element: it gets one of one part.
+    /// One that puts a learned one before all others of its state.
     Teaching,
     Initial,
 }
 
 /// Where an initial production of the current state stands: how many parts its event code has but
-/// one, and the value of the last.
+/// one, and the value of the last; and whether one is learned from it.
 #[derive(Clone, Copy)]
 pub struct Place {
     depth: usize,
     value: usize,
+    production: Production,
 }
 
 #[derive(Clone, Copy, PartialEq, Eq)]
@@ -72,7 +74,11 @@ enum State {
     ElementContent,
     DocEnd,
     Finished,
+    FragmentContent,
 }
+
+/// How many states there are.
+const STATES: usize = 7;
 
 /// The initial productions of a state.
 #[derive(Clone, Copy)]
@@ -83,12 +89,22 @@ struct Initial {
     places: [Option<Place>; 8],
     /// How many values they give to each part of an event code.
     choices: [usize; 3],
-    /// Whether those of two parts teach one of one part.
-    learns: bool,
+}
+
+const fn has(terminals: &[Terminal], terminal: Terminal) -> bool {
+    let mut k = 0;
+    while k < terminals.len() {
+        if terminals[k] as usize == terminal as usize {
+            return true;
+        }
+        k += 1;
+    }
+    false
 }
 
 impl Initial {
-    const fn new(levels: [&'static [Terminal]; 3], learns: bool) -> Initial {
+    /// Productions with these terminals teach.
+    const fn new(levels: [&'static [Terminal]; 3], teaching: &[Terminal]) -> Initial {
         let mut places = [None; 8];
         let mut choices = [0; 3];
         let mut depth = 0;
@@ -96,7 +112,15 @@ impl Initial {
             let level = levels[depth];
             let mut value = 0;
             while value < level.len() {
-                places[level[value] as usize] = Some(Place { depth, value });
+                places[level[value] as usize] = Some(Place {
+                    depth,
+                    value,
+                    production: if has(teaching, level[value]) {
+                        Production::Teaching
+                    } else {
+                        Production::Initial
+                    },
+                });
                 value += 1;
             }
             let deeper = depth < 2 && !levels[depth + 1].is_empty();
@@ -107,43 +131,46 @@ impl Initial {
             levels,
             places,
             choices,
-            learns,
         }
     }
 
-    /// One that has this many parts and one.
-    fn production(&self, depth: usize) -> Production {
-        if self.learns && depth == 1 {
-            Production::Teaching
-        } else {
-            Production::Initial
+    fn production(&self, terminal: Terminal) -> Production {
+        match self.places[terminal as usize] {
+            Some(place) => place.production,
+            None => Production::Initial,
         }
     }
 
-    /// All states, by their numbers, with these of comments and instructions kept.
-    const fn all(kept: &'static [Terminal]) -> [Initial; 6] {
+    /// All states, by their numbers, with these of comments and instructions kept. An element
+    /// learns from all that have two parts, a fragment's content from SE(*).
+    const fn all(kept: &'static [Terminal]) -> [Initial; STATES] {
         use Terminal::*;
         let in_tag = &[EndElement, Attribute, StartElement, Characters];
+        let in_content = &[StartElement, Characters];
+        let in_fragment = &[StartElement, EndDocument];
         [
-            Initial::new([&[StartDocument], &[], &[]], false),
-            Initial::new([&[StartElement], kept, &[]], false),
-            Initial::new([&[], in_tag, kept], true),
-            Initial::new([&[EndElement], &[StartElement, Characters], kept], true),
-            Initial::new([&[EndDocument], kept, &[]], false),
-            Initial::new([&[], &[], &[]], false),
+            Initial::new([&[StartDocument], &[], &[]], &[]),
+            Initial::new([&[StartElement], kept, &[]], &[]),
+            Initial::new([&[], in_tag, kept], in_tag),
+            Initial::new([&[EndElement], in_content, kept], in_content),
+            Initial::new([&[EndDocument], kept, &[]], &[]),
+            Initial::new([&[], &[], &[]], &[]),
+            Initial::new([in_fragment, kept, &[]], &[StartElement]),
         ]
     }
 }
 
-static NOTHING_KEPT: [Initial; 6] = Initial::all(&[]);
-static COMMENTS: [Initial; 6] = Initial::all(&[Terminal::Comment]);
-static INSTRUCTIONS: [Initial; 6] = Initial::all(&[Terminal::ProcessingInstruction]);
-static BOTH: [Initial; 6] = Initial::all(&[Terminal::Comment, Terminal::ProcessingInstruction]);
+static NOTHING_KEPT: [Initial; STATES] = Initial::all(&[]);
+static COMMENTS: [Initial; STATES] = Initial::all(&[Terminal::Comment]);
+static INSTRUCTIONS: [Initial; STATES] = Initial::all(&[Terminal::ProcessingInstruction]);
+static BOTH: [Initial; STATES] =
+    Initial::all(&[Terminal::Comment, Terminal::ProcessingInstruction]);
 
 /// What has been learned for one element name, in the start tag and in the content, oldest first.
-/// The newest has event code 0.
+/// The newest has event code 0. A fragment's content has one, too, which is never left.
+#[derive(Default)]
 struct ElementGrammar {
-    element: NameId,
+    element: Option<NameId>,
     learned: [Vec<Symbol>; 2],
 }
 
@@ -158,12 +185,16 @@ struct Learned {
 pub struct Grammars {
     state: State,
     /// The initial productions, by state.
-    initial: &'static [Initial; 6],
+    initial: &'static [Initial; STATES],
+    /// The states before and behind an element that is in no other.
+    outside: (State, State),
+    /// How many grammars are open outside of all elements: a fragment's content.
+    around: usize,
     elements: Vec<ElementGrammar>,
     /// Indices into `elements`.
     by_name: [Option<u8>; MAX_NAMES],
     /// Indices into `elements`, innermost last: so many of these.
-    open: [u8; MAX_OPEN],
+    open: [u8; MAX_OPEN + 1],
     depth: usize,
     /// The attributes that the newest start tag has had: a bit for each name.
     attributes: u128,
@@ -173,6 +204,13 @@ pub struct Grammars {
 
 impl Grammars {
     pub fn new(options: &Options) -> Self {
+        let mut elements = Vec::with_capacity(4);
+        let mut outside = (State::DocContent, State::DocEnd);
+        if options.fragment {
+            elements.push(ElementGrammar::default());
+            outside = (State::FragmentContent, State::FragmentContent);
+        }
+        let around = elements.len();
         Grammars {
             state: State::Document,
             initial: match (options.comments, options.instructions) {
@@ -181,10 +219,12 @@ impl Grammars {
                 (false, true) => &INSTRUCTIONS,
                 (true, true) => &BOTH,
             },
-            elements: Vec::with_capacity(4),
+            outside,
+            around,
+            elements,
             by_name: [None; MAX_NAMES],
-            open: [0; MAX_OPEN],
-            depth: 0,
+            open: [0; MAX_OPEN + 1],
+            depth: around,
             attributes: 0,
             learned: Vec::with_capacity(8),
             learned_by_symbol: Buckets::new(),
@@ -231,13 +271,13 @@ impl Grammars {
     }
 
     /// The place of the initial production for events of this kind, if one can come next.
-    pub fn place(&self, terminal: Terminal) -> Option<Place> {
-        self.initial().places[terminal as usize]
+    pub fn place(&self, terminal: Terminal) -> Option<&'static Place> {
+        self.initial().places[terminal as usize].as_ref()
     }
 
     /// The innermost open element.
     pub fn open_element(&self) -> Option<NameId> {
-        Some(self.elements[self.innermost()?].element)
+        self.elements[self.innermost()?].element
     }
 
     /// Notes an attribute of the start tag, which must not have had one of this name.
@@ -274,7 +314,7 @@ impl Grammars {
                 return Ok((symbol, Production::Learned));
             }
             if let Some(&terminal) = level.get(part - learned.len()) {
-                return Ok((terminal.into(), initial.production(depth)));
+                return Ok((terminal.into(), initial.production(terminal)));
             }
             learned = &[];
         }
@@ -286,11 +326,11 @@ impl Grammars {
     pub fn encode(
         &self,
         symbol: Symbol,
-        place: Place,
+        place: &Place,
         mut write_part: impl FnMut(usize, usize),
     ) -> Production {
         let initial = self.initial();
-        let production = initial.production(place.depth);
+        let production = place.production;
         let mut learned = self.learned().len();
         if production == Production::Teaching && learned > 0 {
             if let Some(older) = self.find_learned(symbol) {
@@ -317,7 +357,7 @@ impl Grammars {
                 terminal: Terminal::StartElement,
                 name: Some(name),
             } => {
-                if self.depth == MAX_OPEN {
+                if self.depth == MAX_OPEN + self.around {
                     return Err(Refusal::Limit);
                 }
                 Some(self.element_grammar(name)?)
@@ -329,7 +369,7 @@ impl Grammars {
         }
 
         match symbol.terminal {
-            Terminal::StartDocument => self.state = State::DocContent,
+            Terminal::StartDocument => self.state = self.outside.0,
             Terminal::EndDocument => self.state = State::Finished,
             Terminal::StartElement => {
                 if let Some(grammar) = entered {
@@ -342,8 +382,8 @@ impl Grammars {
             Terminal::Attribute => {}
             Terminal::EndElement => {
                 self.depth = self.depth.saturating_sub(1);
-                self.state = if self.depth == 0 {
-                    State::DocEnd
+                self.state = if self.depth == self.around {
+                    self.outside.1
                 } else {
                     State::ElementContent
                 };
@@ -362,19 +402,19 @@ impl Grammars {
         if let Some(grammar) = self.by_name[element.index()] {
             return Ok(grammar);
         }
-        if self.elements.len() == MAX_GRAMMARS {
+        if self.elements.len() == MAX_GRAMMARS + self.around {
             return Err(Refusal::Limit);
         }
         let grammar = self.elements.len() as u8;
         self.elements.push(ElementGrammar {
-            element,
+            element: Some(element),
             learned: [Vec::new(), Vec::new()],
         });
         self.by_name[element.index()] = Some(grammar);
         Ok(grammar)
     }
 
-    /// What had an event code of two parts gets one of one part.
+    /// Puts a production for this symbol before all others of the current state.
     fn learn(&mut self, symbol: Symbol) -> Result<(), Refusal> {
         let Some(grammar) = self.innermost() else {
             return Ok(());

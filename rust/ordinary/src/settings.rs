@@ -11,9 +11,10 @@ pub struct Settings {
     pub comments: u32,
     /// 1 if processing instructions are kept.
     pub instructions: u32,
-    /// Fragments; this and all below are not done yet, and have to be 0.
+    /// 1 for fragments: any number of elements, and not one root.
     pub fragment: u32,
-    /// The longest value that joins the tables.
+    /// The longest value that joins the tables; this and all below are not done yet, and have to
+    /// be 0.
     pub value_length: u32,
     /// How many values the tables hold.
     pub value_capacity: u32,
@@ -38,6 +39,7 @@ pub struct Options {
     pub cookie: bool,
     pub comments: bool,
     pub instructions: bool,
+    pub fragment: bool,
 }
 
 impl Options {
@@ -57,14 +59,13 @@ impl TryFrom<Settings> for Options {
 
     fn try_from(s: Settings) -> Result<Self, Refusal> {
         let not_done = [
-            s.fragment,
             s.value_length,
             s.value_capacity,
             s.loose,
             s.prefixes,
             s.grammar_cap,
         ];
-        if not_done != [0; 6] {
+        if not_done != [0; 5] {
             return Err(Refusal::Settings);
         }
         let alignment = if flag(s.alignment)? {
@@ -77,6 +78,7 @@ impl TryFrom<Settings> for Options {
             cookie: flag(s.cookie)?,
             comments: flag(s.comments)?,
             instructions: flag(s.instructions)?,
+            fragment: flag(s.fragment)?,
         })
     }
 }

@@ -3,6 +3,7 @@ use crate::sizes::{
 };
 use crate::{read, write, ReadReply, Refusal, Settings, WriteReply};
 
+mod fragments;
 mod names;
 mod packets;
 mod readings;
@@ -684,10 +685,9 @@ fn room_settings_and_length_in_this_order() {
         settings(0, 0, 0, 3),
     ];
     for number in [1, 2, 2_049, u32::MAX] {
-        for place in 0..6 {
+        for place in 0..5 {
             let mut s = BYTES;
             *[
-                &mut s.fragment,
                 &mut s.value_length,
                 &mut s.value_capacity,
                 &mut s.loose,

@@ -123,7 +123,7 @@ impl<'a> Writer<'a> {
         Ok(texts)
     }
 
-    fn code(&mut self, symbol: Symbol, place: Place) -> Production {
+    fn code(&mut self, symbol: Symbol, place: &Place) -> Production {
         self.grammars
             .encode(symbol, place, |value, m| self.bits.choice(value, m))
     }
@@ -133,7 +133,7 @@ impl<'a> Writer<'a> {
     fn qname(
         &mut self,
         terminal: Terminal,
-        place: Place,
+        place: &Place,
         uri: &[u32],
         name: &[u32],
     ) -> Result<(NameId, Production), Refusal> {

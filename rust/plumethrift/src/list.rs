@@ -11,10 +11,10 @@ const NO_PREFIX: [u32; 2] = [0, 0];
 /// A list of events to be written, in memory of its own.
 ///
 /// A well-formed list is: start document; comments and instructions; one element, balanced;
-/// comments and instructions; end document; nothing after. In a fragment comments, instructions and
-/// balanced elements stand between start and end document, in any order and number, none too.
-/// Attributes come before any other event in their element, and no two of one start tag have the
-/// same URI and local name. Kinds that the settings drop are not allowed.
+/// comments and instructions; end document; nothing after. Attributes come before any other event
+/// in their element, and no two of one start tag have the same URI and local name. Kinds that the
+/// settings drop are not allowed. A [fragment](crate::Settings::fragment) has any number of
+/// elements, none too, with comments and instructions before, between and after them.
 ///
 /// Strings have only XML 1.0 Chars. Local names are NCNames of Namespaces in XML 1.0: no colon; of
 /// ASCII a letter or `_` first, then also digits, `-` and `.`; beyond ASCII most letters and marks

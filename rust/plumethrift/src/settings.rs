@@ -69,7 +69,7 @@ pub struct Settings {
     pub comments: bool,
     /// Processing instructions are kept. Where they are not, no list or stream has any.
     pub instructions: bool,
-    /// A fragment: elements in any number, none too, in the place of one root.
+    /// A fragment: any number of elements, none too, and not one root.
     pub fragment: bool,
     /// Values with more code points than this join no table. Not in this version.
     pub value_length: Option<u32>,

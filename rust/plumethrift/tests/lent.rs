@@ -191,12 +191,12 @@ fn room_is_judged_part_by_part() {
     }
 }
 
-/// Each settings number is judged in its place, before the length of the stream: the first four
+/// Each settings number is judged in its place, before the length of the stream: the first five
 /// are at most 1, the others 0.
 #[test]
 fn settings_without_a_meaning() {
     for place in 0..10 {
-        let first = if place < 4 { 2 } else { 1 };
+        let first = if place < 5 { 2 } else { 1 };
         for bad in [first, 2, 3, 256, 65_536, u32::MAX] {
             let mut numbers = [1, 0, 0, 0, 0, 0, 0, 0, 0, 0];
             numbers[place] = bad;

@@ -72,6 +72,29 @@ fn k3_and_k4_characters() {
     both_ways(BIT_PACKED, &[0x80, 0x40, 0x98, 0x70, 0x36, 0x20], a_with_b);
 }
 
+/// No element, one, and the same once more, which goes by what was learned.
+#[test]
+fn fragments() {
+    let fragment = |settings| Settings {
+        fragment: true,
+        ..settings
+    };
+    let aligned = fragment(BYTE_ALIGNED);
+    both_ways(aligned, &[0x80, 0x01], |_| ());
+    both_ways(fragment(BIT_PACKED), &[0x80, 0x80], |_| ());
+    both_ways(
+        aligned,
+        &[0x80, 0x00, 0x01, 0x02, 0x61, 0x00, 0x02],
+        empty_a,
+    );
+    both_ways(fragment(BIT_PACKED), &[0x80, 0x20, 0x4C, 0x24], empty_a);
+    let twice = [0x80, 0x00, 0x01, 0x02, 0x61, 0x00, 0x00, 0x00, 0x02];
+    both_ways(aligned, &twice, |list| {
+        empty_a(list);
+        empty_a(list);
+    });
+}
+
 #[test]
 fn k5_an_attribute() {
     let stream = [
