@@ -12,7 +12,12 @@ find-learned-requires c κs = search needs
 
 known-end-requires : tie.Need-known-end-requires
 unfolding kindNumber
-known-end-requires c κs = let t = end-tests _ _ (c .before .before .if1 .taken) in (c .before .before .before .before .before .before .before .before .before .pre, record { found = c .before .before .before .find-learned .ensures; some = t .0; inner = t .1 })
+known-end-requires c κs =
+    let then1 = c .before .before in
+    let found = then1 .before .before in
+    let start = found .before .before .before .before .before .before in
+    let t = end-tests _ _ (then1 .if1 .taken) in
+    (start .pre, record { found = found .find-learned .ensures; some = t .0; inner = t .1 })
 
 same-length : tie.Need-same-length
 same-length c = search needs
@@ -25,7 +30,13 @@ unfolding settingsFrom
 returns c = c .before .before .known-end .ensures .steps _ refl refl _ _
 
 end-tag-requires : tie.Need-end-tag-requires
-end-tag-requires c κs = (c .before .before .before .before .before .before .before .before .before .before .before .pre, (c .before .before .if2 .taken, none-found (end-none _ _ (c .before .before .before .before .if1 .left) (c .before .before .if2 .taken)) (c .before .before .before .before .before .find-learned .ensures)))
+end-tag-requires c κs =
+    let then2 = c .before .before in
+    let else1 = then2 .before .before in
+    let found = else1 .before .before in
+    let start = found .before .before .before .before .before .before in
+    let none = end-none _ _ (else1 .if1 .left) (then2 .if2 .taken) in
+    (start .pre, (then2 .if2 .taken, none-found none (found .find-learned .ensures)))
 
 same-length-3 : tie.Need-same-length-3
 same-length-3 c = search needs
