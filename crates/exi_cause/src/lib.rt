@@ -3,14 +3,21 @@ use exi_say::tell;
 use libc::STDERR_FILENO;
 use sizes::MAX_STRING;
 
-fn tell_code_point(p: u32) {
-    if (33 <= p) & (p <= 126) {
-        tell(&[p as u8]);
-        return;
-    }
+fn tell_number(p: u32) {
     tell(b"\\u{");
     io::print_hex(STDERR_FILENO, p as u64, 1);
     tell(b"}");
+}
+
+// As it is where it is printable ASCII and no space.
+fn tell_code_point(p: u32) {
+    if p < 33 {
+        tell_number(p);
+    } else if 126 < p {
+        tell_number(p);
+    } else {
+        tell(&[p as u8]);
+    }
 }
 
 fn tell_code_points(x: &[u32]) {
