@@ -24,6 +24,18 @@ fn put_head(buffer: &mut [u8], o: Out, n: usize) -> Out {
     exi_out::put(buffer, b, b", events complete:")
 }
 
+// Before the first packet.
+fn start(buffer: &mut [u8], o: Out, s: SettingNumbers, n: usize) -> Going {
+    let out = put_head(buffer, o, n);
+    let receiver = receiver_record::started(s);
+    let told = exi_progress::nothing();
+    Going {
+        receiver,
+        told,
+        out,
+    }
+}
+
 // Hands a packet over, after which so many octets of all are over.
 fn feed(
     buffer: &mut [u8],
@@ -79,6 +91,37 @@ fn feed_all(
     g
 }
 
+fn feed_from_start(
+    buffer: &mut [u8],
+    o: Out,
+    s: SettingNumbers,
+    stream: &[u8],
+    n: usize,
+    held: &mut [u8],
+    cells: &mut [u32],
+    store: &mut [u32],
+    work: &mut [u32],
+) -> Going {
+    let first = start(buffer, o, s, n);
+    feed_all(buffer, first, stream, n, held, cells, store, work)
+}
+
+fn close(
+    r: Receiver,
+    held: &mut [u8],
+    cells: &mut [u32],
+    store: &mut [u32],
+    work: &mut [u32],
+) -> ReadReply {
+    let h = receiver::closed(r, held, cells, store, work);
+    h.reply
+}
+
+fn put_end(buffer: &mut [u8], g: Going) -> Out {
+    let a = exi_progress::put_last(buffer, g.out, g.told);
+    exi_out::put_octet(buffer, a, b'\n')
+}
+
 // Reads a stream in packets of n octets; tells, at each quarter, how many events were complete.
 pub fn read(
     buffer: &mut [u8],
@@ -91,18 +134,8 @@ pub fn read(
     store: &mut [u32],
     work: &mut [u32],
 ) -> Ended {
-    let out = put_head(buffer, o, n);
-    let receiver = receiver_record::started(s);
-    let told = exi_progress::nothing();
-    let start = Going {
-        receiver,
-        told,
-        out,
-    };
-    let g = feed_all(buffer, start, stream, n, held, cells, store, work);
-    let a = exi_progress::put_last(buffer, g.out, g.told);
-    let b = exi_out::put_octet(buffer, a, b'\n');
-    let h = receiver::closed(g.receiver, held, cells, store, work);
-    let reply = h.reply;
-    Ended { reply, out: b }
+    let g = feed_from_start(buffer, o, s, stream, n, held, cells, store, work);
+    let out = put_end(buffer, g);
+    let reply = close(g.receiver, held, cells, store, work);
+    Ended { reply, out }
 }

@@ -36,13 +36,17 @@ fn put_file(buffer: &mut [u8], o: Out, file: &[u8]) -> Out {
     exi_out::put(buffer, a, b": ")
 }
 
+// A count that another follows.
+fn put_and(buffer: &mut [u8], o: Out, n: u32, of: &[u8]) -> Out {
+    let a = exi_out::put_count(buffer, o, n as u64, of);
+    exi_out::put(buffer, a, b", ")
+}
+
 fn put_counts(buffer: &mut [u8], o: Out, r: ReadReply, octets: usize) -> Out {
-    let a = exi_out::put_count(buffer, o, r.events as u64, b"event");
-    let b = exi_out::put(buffer, a, b", ");
-    let c = exi_out::put_count(buffer, b, r.code_points as u64, b"code point");
-    let d = exi_out::put(buffer, c, b", ");
-    let e = exi_out::put_count(buffer, d, octets as u64, b"octet");
-    exi_out::put_octet(buffer, e, b'\n')
+    let a = put_and(buffer, o, r.events, b"event");
+    let b = put_and(buffer, a, r.code_points, b"code point");
+    let c = exi_out::put_count(buffer, b, octets as u64, b"octet");
+    exi_out::put_octet(buffer, c, b'\n')
 }
 
 // The first n events, where they are shown.
