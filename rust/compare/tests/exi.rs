@@ -53,7 +53,6 @@ fn samples_that_are_accepted() {
         "check --byte-aligned day-byte-aligned.exi",
         "check day-of-500.exi",
         "check kinds.exi --cookie --comments --instructions",
-        "check --fragment restarted.exi",
     ] {
         let (status, stdout, stderr) = exi(words, b"");
         assert!(stdout.starts_with("accepted: "), "{words}: {stderr}");
@@ -105,28 +104,502 @@ fn samples_that_are_refused() {
     refused(words, hyphen_at_the_end, "8 CHARACTER, event 1: ");
 }
 
-/// No number without a meaning can be asked for: there are no flags but those of the first five
-/// settings, and each stands for one number.
+/// Flags that the library does not take yet are SETTINGS, and flags that there are none of no words.
 #[test]
-fn settings_without_a_meaning_have_no_words() {
-    for word in [
-        "--max-length",
-        "--capacity",
-        "--loose",
-        "--prefixes",
-        "--grammar-cap",
-        "--cookie=2",
-        "2",
-    ] {
+fn settings_without_a_meaning() {
+    for word in ["--loose", "--prefixes", "--grammar-cap", "--cookie=2", "-x"] {
         let words = format!("check --byte-aligned day-byte-aligned.exi {word}");
         let (status, stdout, stderr) = exi(&words, b"");
         let expected = format!("exi: word 4 is not understood: {word};");
         assert!(stderr.starts_with(&expected), "{stderr}");
         assert_eq!((status, stdout.as_str()), (Some(2), ""), "{word}");
     }
+    for words in ["--fragment", "--max-length 0", "--capacity 2048"] {
+        refused(
+            &format!("check {words} day-bit-packed.exi"),
+            b"",
+            "2 SETTINGS, event 0: ",
+        );
+    }
     let (status, _, stderr) = exi("check --bit-packed --byte-aligned -", b"");
     assert!(stderr.contains("exclude each other"), "{stderr}");
     assert_eq!(status, Some(2));
+}
+
+/// Words that do not fit, each with one line that says why.
+#[test]
+fn words_that_do_not_fit() {
+    let day = "day-bit-packed.exi";
+    for (words, says) in [
+        ("".to_string(), "Reads EXI 1.0"),
+        ("sho".to_string(), "exi: word 1 is not understood: sho;"),
+        ("check".to_string(), "exi: no FILE is named;"),
+        (
+            format!("check --packets x {day}"),
+            "exi: word 3 is no number of 1 to 9 digits: x;",
+        ),
+        (
+            format!("check --capacity -1 {day}"),
+            "exi: word 3 is no number of 1 to 9 digits: -1;",
+        ),
+        (
+            format!("check {day} --max-length 1234567890"),
+            "exi: word 4 is no number of 1 to 9 digits: 1234567890;",
+        ),
+        (
+            format!("check {day} --packets"),
+            "exi: no number follows the last flag;",
+        ),
+        (
+            format!("check {day} --packets 0"),
+            "exi: a packet has at least 1 octet;",
+        ),
+        (
+            format!("show {day} --packets 1"),
+            "exi: --packets goes with exi check alone;",
+        ),
+        (
+            format!("check {day} --utf8"),
+            "exi: --utf8 goes with exi show alone;",
+        ),
+        (
+            format!("show {day} --ms"),
+            "exi: --ms goes with exi readings alone;",
+        ),
+        (
+            format!("readings {day} {day}"),
+            "exi: readings wants one FILE;",
+        ),
+        (
+            format!("write-readings {day}"),
+            "exi: write-readings wants CSV and OUT;",
+        ),
+        (
+            "check -- --x".to_string(),
+            "exi: cannot read --x: No such file",
+        ),
+        ("check .".to_string(), "exi: cannot read .: Is a directory"),
+    ] {
+        let (status, stdout, stderr) = exi(&words, b"");
+        assert!(stderr.starts_with(says), "{words}: {stderr}");
+        assert_eq!((status, stdout.as_str()), (Some(2), ""), "{words}");
+    }
+}
+
+#[test]
+fn help_and_version() {
+    for word in ["help", "--help", "-h", "show -h", "check --help day.exi"] {
+        let (status, stdout, stderr) = exi(word, b"");
+        assert!(stdout.starts_with("Reads EXI 1.0 streams"), "{word}");
+        assert!(stdout.contains("Status 0: "), "{word}");
+        assert_eq!((status, stderr.as_str()), (Some(0), ""), "{word}");
+    }
+    let (status, stdout, stderr) = exi("--version", b"");
+    assert!(
+        stdout.starts_with("exi of Plumethrift, commit "),
+        "{stdout}"
+    );
+    assert!(stdout.contains("\nkit: rattle-kit"), "{stdout}");
+    assert_eq!((status, stderr.as_str()), (Some(0), ""));
+}
+
+// ---- verdicts
+
+/// Several files have a verdict each, with their names; the status is that of the worst.
+#[test]
+fn several_files() {
+    let (status, stdout, stderr) = exi("check day-bit-packed.exi day-with-gap.exi", b"");
+    assert_eq!(
+        stdout,
+        "day-bit-packed.exi: accepted: 196 events, 1459 code points, 1515 octets\n\
+         day-with-gap.exi: accepted: 152 events, 1147 code points, 1170 octets\n"
+    );
+    assert_eq!((status, stderr.as_str()), (Some(0), ""));
+    let (status, stdout, stderr) = exi("check refused-tail.exi day-bit-packed.exi", b"");
+    assert!(stdout.starts_with("day-bit-packed.exi: accepted: "));
+    assert!(stderr.starts_with("exi: refused: refused-tail.exi: 13 TAIL, event 196: "));
+    assert_eq!(status, Some(1));
+    let (status, stdout, stderr) = exi("show refused-tail.exi none day-bit-packed.exi", b"");
+    assert!(stdout
+        .ends_with("day-bit-packed.exi: accepted: 196 events, 1459 code points, 1515 octets\n"));
+    assert!(
+        stderr.contains("\nexi: cannot read none: No such file"),
+        "{stderr}"
+    );
+    assert_eq!(status, Some(2));
+}
+
+/// Of a stream that is refused the complete events are shown, with their indexes.
+#[test]
+fn events_before_the_fault() {
+    let (status, stdout, stderr) = exi("show --byte-aligned refused-loose.exi", b"");
+    let lines: Vec<&str> = stdout.lines().collect();
+    assert_eq!(lines.len(), 60);
+    assert_eq!(lines[0], "   0  start document");
+    assert_eq!(lines[1], "   1    start element \"readings\"");
+    assert!(
+        lines[59].starts_with("  59        attribute \"t\" = \"2026-"),
+        "{}",
+        lines[59]
+    );
+    let told = "\n  the event begins at octet 536\n  the fault shows at octet 542\n";
+    assert!(stderr.ends_with(told), "{stderr}");
+    assert_eq!(status, Some(1));
+    let (_, stdout, stderr) = exi("show --byte-aligned refused-ended.exi", b"");
+    assert_eq!(stdout.lines().count(), 95);
+    assert!(
+        stderr.ends_with("\n  the event begins at octet 809\n  octets in all: 834\n"),
+        "{stderr}"
+    );
+    let (_, stdout, stderr) = exi("show refused-tail.exi", b"");
+    assert!(!stdout.contains("accepted"));
+    assert!(
+        stderr.ends_with("\n  the fault shows at octet 1514\n"),
+        "{stderr}"
+    );
+}
+
+/// Where other flags accept the stream, that is said, of two sets of flags at most.
+#[test]
+fn flags_that_would_accept() {
+    for (words, says) in [
+        (
+            "check day-byte-aligned.exi",
+            "\n  accepted with --byte-aligned\n",
+        ),
+        (
+            "check --byte-aligned day-bit-packed.exi",
+            "\n  accepted without flags\n",
+        ),
+        (
+            "readings --cookie day-byte-aligned.exi",
+            "\n  accepted with --byte-aligned\n",
+        ),
+        (
+            "check kinds.exi",
+            "\n  accepted with --cookie --comments --instructions\n",
+        ),
+        (
+            "check --packets 7 day-byte-aligned.exi",
+            "\n  accepted with --byte-aligned\n",
+        ),
+    ] {
+        let (status, _, stderr) = exi(words, b"");
+        assert!(stderr.ends_with(says), "{words}: {stderr}");
+        assert_eq!(status, Some(1), "{words}");
+    }
+    let (_, _, stderr) = exi("check refused-tail.exi", b"");
+    assert!(!stderr.contains("accepted"), "{stderr}");
+}
+
+/// What stands where the header should be.
+#[test]
+fn headers() {
+    for (words, octets, says) in [
+        ("check -", &b"<a/>"[..], "  found: XML text, not EXI\n"),
+        (
+            "check -",
+            b"\xEF\xBB\xBF<a/>",
+            "  found: text with a byte order mark, not EXI\n",
+        ),
+        (
+            "check -",
+            b"$EXI\x80",
+            "  found: the cookie $EXI, which --cookie asks for\n",
+        ),
+        (
+            "check --cookie -",
+            b"\x80\x40\x98\x40",
+            "  found: no cookie $EXI\n  accepted without flags\n",
+        ),
+        (
+            "check --cookie -",
+            b"$EXI\xA0",
+            "  found: options in the header, which are not read\n",
+        ),
+        (
+            "check -",
+            b"\xA0",
+            "  found: options in the header, which are not read\n",
+        ),
+        ("check -", b"\x81", "  found: a version other than 1\n"),
+        (
+            "check -",
+            b"t,um",
+            "  found: no EXI header, which begins with the bits 10\n",
+        ),
+    ] {
+        let (status, _, stderr) = exi(words, octets);
+        assert!(
+            stderr.starts_with("exi: refused: 4 HEADER, event 0: "),
+            "{stderr}"
+        );
+        assert!(stderr.ends_with(says), "{words}: {stderr}");
+        assert_eq!(status, Some(1), "{words}");
+    }
+}
+
+/// LIMIT tells which size is used up.
+#[test]
+fn sizes_that_are_passed() {
+    // elements a in each other, one more than may be open
+    let mut deep = b"\x80\x01\x02a\x02\x01\x00".to_vec();
+    deep.extend([0; 99]);
+    let (status, _, stderr) = exi("check --byte-aligned -", &deep);
+    assert!(
+        stderr.starts_with("exi: refused: 12 LIMIT, event 101: "),
+        "{stderr}"
+    );
+    assert!(stderr.contains("\n  full: 100 open elements\n"), "{stderr}");
+    assert_eq!(status, Some(1));
+}
+
+/// NAME tells the name and why it is none.
+#[test]
+fn names_that_are_refused() {
+    for (words, octets, says) in [
+        (
+            "check --byte-aligned -",
+            &b"\x80\x01\x04a:b\x00"[..],
+            "  the name, by its octets: a:b; it has a colon\n",
+        ),
+        (
+            "check --byte-aligned -",
+            b"\x80\x01\x031a\x00",
+            "  the name, by its octets: 1a; it is no XML name\n",
+        ),
+        (
+            "check --byte-aligned -",
+            b"\x80\x01\x03\xD7\x01a\x00",
+            "  the name, by its octets: \\u{d7}a; it is no XML name\n",
+        ),
+        (
+            "check --byte-aligned -",
+            b"\x80\x01\x02a\x01\x01\x03k \x03x",
+            "  the name, by its octets: k\\u{20}; it is no XML name\n",
+        ),
+        (
+            "check --byte-aligned -",
+            b"\x80\x00\x05urn:x\x04a:b\x00",
+            "  the name, by its octets: a:b; it has a colon\n",
+        ),
+        (
+            "check --byte-aligned --instructions -",
+            b"\x80\x01\x03xMl\x00",
+            "  the name, by its octets: xMl; no target is xml, in any case\n",
+        ),
+        // <1a/>, bit-packed
+        (
+            "check -",
+            b"\x80\x40\xCC\x58\x40",
+            "  the name, by its octets: 1a; it is no XML name\n",
+        ),
+    ] {
+        let (status, _, stderr) = exi(words, octets);
+        assert!(
+            stderr.starts_with("exi: refused: 11 NAME, event "),
+            "{words}: {stderr}"
+        );
+        assert!(stderr.contains(says), "{words}: {stderr}");
+        assert_eq!(status, Some(1), "{words}");
+    }
+    let (_, _, stderr) = exi("check --byte-aligned refused-name.exi", b"");
+    assert!(
+        stderr.ends_with("  the name, by its octets: reading:; it has a colon\n"),
+        "{stderr}"
+    );
+}
+
+/// In packets the verdict is that of the whole stream, and events are told on the way.
+#[test]
+fn packets() {
+    for size in ["1", "24", "240", "99999"] {
+        for (flags, stream) in [
+            ("", "day-bit-packed.exi"),
+            ("--byte-aligned", "day-byte-aligned.exi"),
+            ("--cookie --comments --instructions", "kinds.exi"),
+            ("", "refused-tail.exi"),
+            ("--byte-aligned", "refused-header.exi"),
+            ("--byte-aligned", "refused-ended.exi"),
+            ("--byte-aligned", "refused-loose.exi"),
+        ] {
+            let whole = exi(&format!("check {flags} {stream}"), b"");
+            let (status, stdout, stderr) =
+                exi(&format!("check --packets {size} {flags} {stream}"), b"");
+            let (told, verdict) = stdout.split_once('\n').expect("a line");
+            assert!(
+                told.starts_with(&format!("packets of {size} octet")),
+                "{told}"
+            );
+            assert_eq!(
+                (status, verdict, stderr.as_str()),
+                (whole.0, whole.1.as_str(), whole.2.as_str())
+            );
+        }
+    }
+    let (_, stdout, _) = exi("check --packets 24 day-bit-packed.exi", b"");
+    let told = "packets of 24 octets, events complete: 47 after 16, 99 after 32, 147 after 48, 196 after 64\n";
+    assert!(stdout.starts_with(told), "{stdout}");
+    let (_, stdout, _) = exi("check --packets 24 refused-tail.exi", b"");
+    assert!(
+        stdout.ends_with(", 147 after 48, refused with packet 64\n"),
+        "{stdout}"
+    );
+    let (_, stdout, _) = exi("check --packets 1000 -", &[0x80; 16_385]);
+    assert!(
+        stdout.starts_with("packets of 1000 octets, events complete: refused with packet "),
+        "{stdout}"
+    );
+}
+
+#[test]
+fn code_points_in_utf8() {
+    let flags = "--cookie --comments --instructions kinds.exi";
+    let (_, escaped, _) = exi(&format!("show {flags}"), b"");
+    let (_, plain, _) = exi(&format!("show --utf8 {flags}"), b"");
+    assert!(escaped.contains("7\\u{b5}m") && escaped.contains("\\u{1f309}") && escaped.is_ascii());
+    assert!(plain.contains("7\u{b5}m") && plain.contains('\u{1f309}'));
+    assert!(plain.contains("\\\"closed\\\"\\tby"));
+}
+
+/// Output that cannot be written is said in one line.
+#[test]
+fn output_that_is_closed_or_full() {
+    let folder = root().join("samples");
+    for (words, says) in [
+        (
+            "show day-bit-packed.exi >&-",
+            "exi: standard output is closed",
+        ),
+        (
+            "show day-bit-packed.exi >/dev/full",
+            "exi: cannot write standard output: No space left",
+        ),
+        (
+            "readings day-bit-packed.exi >/dev/full",
+            "exi: cannot write standard output: No space left",
+        ),
+        (
+            "write-readings day.csv - >/dev/full",
+            "exi: cannot write -: No space left",
+        ),
+        (
+            "write-readings day.csv no/such/folder",
+            "exi: cannot write no/such/folder: No such file",
+        ),
+    ] {
+        let script = format!("../exi {words}");
+        let output = Command::new("sh")
+            .args(["-c", &script])
+            .current_dir(&folder)
+            .output()
+            .unwrap();
+        let stderr = String::from_utf8(output.stderr).unwrap();
+        assert!(stderr.starts_with(says), "{words}: {stderr}");
+        assert_eq!(
+            (output.status.code(), stderr.lines().count()),
+            (Some(2), 1),
+            "{words}"
+        );
+    }
+}
+
+/// A repository of its own with the script and a kit that proves nothing: `rt check` says of two
+/// crates that they are proved, and makes a program that prints its words.
+fn scripted(test: &str) -> PathBuf {
+    let folder = folder(test);
+    for inner in ["bin", ".ci", "crates/exi/src"] {
+        fs::create_dir_all(folder.join(inner)).unwrap();
+    }
+    fs::copy(root().join("exi"), folder.join("exi")).unwrap();
+    fs::write(folder.join(".ci/kit"), "kit 1\n").unwrap();
+    fs::write(
+        folder.join("crates.txt"),
+        "# NAME: ..\ntext:\nexi: text io\nother: text\n",
+    )
+    .unwrap();
+    fs::write(folder.join("crates/exi/src/main.rt"), "").unwrap();
+    let rt = folder.join("bin/rt");
+    let made = "#!/bin/sh\nif [ $1 = version ]; then cat kit; exit; fi\n\
+                echo 'rt: text proved (unchanged since it was last proved)'\n\
+                [ ! -e fails ] || { echo 'rt: exi NOT PROVED (exit 1, 2 s)'; exit 1; }\n\
+                mkdir -p target/bin\nprintf '#!/bin/sh\\necho \"$@\"\\n' >target/bin/exi\n\
+                chmod +x target/bin/exi\necho 'rt: exi proved (3 s)'\n";
+    fs::write(&rt, made).unwrap();
+    fs::set_permissions(&rt, std::os::unix::fs::PermissionsExt::from_mode(0o755)).unwrap();
+    fs::write(folder.join("kit"), "kit 1\n").unwrap();
+    folder
+}
+
+fn run_scripted(folder: &Path, word: &str) -> (Option<i32>, String, String) {
+    let path = format!(
+        "{}:{}",
+        folder.join("bin").display(),
+        std::env::var("PATH").unwrap()
+    );
+    let output = Command::new(folder.join("exi"))
+        .arg(word)
+        .current_dir(folder)
+        .env("PATH", path)
+        .output()
+        .expect("the script");
+    let text = |octets: Vec<u8>| String::from_utf8(octets).expect("text");
+    (
+        output.status.code(),
+        text(output.stdout),
+        text(output.stderr),
+    )
+}
+
+/// The first use shows each crate as it is proved; the kit is told where it is another.
+#[test]
+fn first_use() {
+    let folder = scripted("first");
+    fs::write(folder.join("fails"), "").unwrap();
+    let (status, _, stderr) = run_scripted(&folder, "show");
+    assert!(stderr.contains("rt: exi NOT PROVED"), "{stderr}");
+    assert!(
+        stderr.ends_with("exi: the program was not built\n"),
+        "{stderr}"
+    );
+    assert_eq!(status, Some(2));
+    fs::remove_file(folder.join("fails")).unwrap();
+    fs::write(folder.join("kit"), "kit 2\n").unwrap();
+    let (status, stdout, stderr) = run_scripted(&folder, "show");
+    assert_eq!(
+        stderr,
+        "exi: note: this kit is 'kit 2'; the repository is proved with 'kit 1'\n\
+         exi: proving and building the program, once\n\
+         exi: crate 1 of 2: text, unchanged since it was last proved\n\
+         exi: crate 2 of 2: exi, 3 s\n"
+    );
+    assert_eq!((status, stdout.as_str()), (Some(0), "show\n"));
+    let (status, _, stderr) = run_scripted(&folder, "show");
+    assert_eq!((status, stderr.as_str()), (Some(0), ""));
+}
+
+/// A program that is older than a source says so, and is built again where that is asked for.
+#[test]
+fn a_program_that_is_stale() {
+    let folder = scripted("stale");
+    run_scripted(&folder, "show");
+    let source = fs::File::options()
+        .append(true)
+        .open(folder.join("crates/exi/src/main.rt"))
+        .unwrap();
+    let later = std::time::SystemTime::now() + std::time::Duration::from_secs(60);
+    source.set_modified(later).unwrap();
+    let (status, stdout, stderr) = run_scripted(&folder, "show");
+    assert!(
+        stderr.starts_with("exi: note: the program is older than crates/exi/src/main.rt;"),
+        "{stderr}"
+    );
+    assert_eq!((status, stdout.as_str()), (Some(0), "show\n"));
+    source
+        .set_modified(later - std::time::Duration::from_secs(120))
+        .unwrap();
+    assert_eq!(run_scripted(&folder, "--build").0, Some(0));
+    assert_eq!(run_scripted(&folder, "show").2, "");
 }
 
 // ---- readings
@@ -189,6 +662,30 @@ fn a_day_of_500() {
     let words = ["write-readings", "500.csv", "500.exi"];
     assert_eq!(exi_in(&folder, &words, b"").0, Some(0));
     assert!(fs::read(folder.join("500.exi")).unwrap() == sample("day-of-500.exi"));
+}
+
+/// A table is never written over, and may begin with a byte order mark.
+#[test]
+fn tables_in_files() {
+    let folder = folder("files");
+    let table = "\u{feff}t,um\n2026-03-01T00:00:00.000Z,1\n";
+    fs::write(folder.join("a.csv"), table).unwrap();
+    fs::hard_link(folder.join("a.csv"), folder.join("b.csv")).unwrap();
+    for out in ["a.csv", "./a.csv", "b.csv"] {
+        let (status, stdout, stderr) = exi_in(&folder, &["write-readings", "a.csv", out], b"");
+        assert!(
+            stderr.starts_with("exi: CSV and OUT are one file"),
+            "{stderr}"
+        );
+        assert_eq!((status, stdout.as_str()), (Some(2), ""));
+        assert_eq!(fs::read_to_string(folder.join("a.csv")).unwrap(), table);
+    }
+    let (status, stdout, stderr) = exi_in(&folder, &["write-readings", "a.csv", "a.exi"], b"");
+    assert!(
+        stdout.starts_with("written: 1 reading, "),
+        "{stdout}{stderr}"
+    );
+    assert_eq!(status, Some(0));
 }
 
 #[test]
@@ -341,7 +838,11 @@ fn plots_that_are_not_made() {
             "plot: cannot write ",
         ),
         (vec!["plot", "no file"], 2, "exi: cannot read "),
-        (vec!["plot", &day, "--loose"], 2, "exi: word "),
+        (
+            vec!["plot", &day, "a.svg", "--loose"],
+            2,
+            "exi: word 4 is not understood: --loose;",
+        ),
         (vec!["plot", &tail], 1, "exi: refused: 13 TAIL, event 196: "),
         (vec!["plot", &day, "--byte-aligned"], 1, "exi: refused: "),
     ] {

@@ -1,2 +1,0 @@
-mod Place
-mod Shows
