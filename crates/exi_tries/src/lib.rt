@@ -3,8 +3,8 @@ ghost use Prim.Native.Nat.{_≤_};
 use exi_say::tell;
 use settings::SettingNumbers;
 
-// How many settings are tried: one for each set of the first four flags. (With fragments, 32.)
-const TRIED: u32 = 16;
+// How many settings are tried: one for each set of the flags for a stream.
+const TRIED: u32 = 32;
 
 // The settings with this number, the base first.
 fn settings_at(k: u32) -> SettingNumbers {

@@ -49,8 +49,7 @@ pub fn wrong_word(at: usize, fault: u32) {
 }
 
 // What help prints. A flag that the library does not take yet gets its line here once it does:
-// --fragment, several elements without a root; --max-length N, no longer value joins the tables;
-// --capacity N, so many values stay in them.
+// --max-length N, no longer value joins the tables; --capacity N, so many values stay in them.
 pub fn usage(fd: i32) {
     io::write_all(
         fd,
@@ -78,6 +77,7 @@ before or after them, but not after --, and say how the stream is written:
   --cookie          the stream begins with $EXI
   --comments        comments are kept
   --instructions    processing instructions are kept
+  --fragment        elements in any number stand in the place of one root
 
 and how it is shown:
 

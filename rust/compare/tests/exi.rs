@@ -114,7 +114,7 @@ fn settings_without_a_meaning() {
         assert!(stderr.starts_with(&expected), "{stderr}");
         assert_eq!((status, stdout.as_str()), (Some(2), ""), "{word}");
     }
-    for words in ["--fragment", "--max-length 0", "--capacity 2048"] {
+    for words in ["--max-length 0", "--capacity 2048"] {
         refused(
             &format!("check {words} day-bit-packed.exi"),
             b"",

@@ -12,7 +12,7 @@ Inv-loop stream cells₀ store₀ work₀ found₀ k₀ cells store work found k
     × (length work ≡ length work₀) × (found ≤ k)
 
 abbrev μ-loop : tie.MeasureT-loop
-μ-loop stream cells₀ store₀ work₀ found₀ k₀ cells store work found k = 16 - k
+μ-loop stream cells₀ store₀ work₀ found₀ k₀ cells store work found k = 32 - k
 
 loop-holds : tie.Need-loop-holds Inv-loop μ-loop
 loop-holds c = search needs
