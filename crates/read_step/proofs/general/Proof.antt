@@ -2,6 +2,7 @@ use Rattle.read_event.proofs.Steps.{event-asks, step-refused, join-asks, grow-a
 use Rattle.read_event.proofs.Steps.{step-read}
 use mathlib.Core.Path.{_∙_}
 use native.Mathlib.Omega.{arith}
+use Rattle.settings.specs.Meant.{settingsFrom}
 use borrow.Author.Needs.{needs}
 use Rattle.read_step.proofs.general.Statement.{statement}
 use Rattle.read_step.proofs.general.Tie as tie
@@ -83,6 +84,7 @@ same-length-5 : tie.Need-same-length-5
 same-length-5 c = search needs
 
 returns-2 : tie.Need-returns-2
+unfolding settingsFrom
 returns-2 c =
     let pre = c .before .before .before .before .before .before .before .before .before .before
     .before .before .before .before .before .before .before .before .before .before .before .before

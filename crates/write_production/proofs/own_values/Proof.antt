@@ -5,11 +5,11 @@ use Rattle.write_production.proofs.own_values.Tie as tie
 
 returns : tie.Need-returns
 unfolding ownValues
-returns c = rw (eq-eqb _ 5 (c .if1 .taken))
+returns c = rw (eq-eqb _ _ (c .if1 .taken))
 
 returns-2 : tie.Need-returns-2
 unfolding ownValues
-returns-2 c = rw (ne-eqb _ 5 (c .if1 .left))
+returns-2 c = rw (ne-eqb _ _ (c .if1 .left))
 
 pub own-values-spec : {M : Type 1} → statement M
 own-values-spec = tie.close (tie.spec returns returns-2)
