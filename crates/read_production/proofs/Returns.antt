@@ -13,7 +13,7 @@ use Rattle.text.specs.Text.{Text}
 use Rattle.spec_exi.specs.Event.{Kind}
 use Rattle.spec_exi.specs.Sizes.{maxStream}
 use Rattle.spec_exi.specs.Settings.{Settings}
-use Rattle.spec_exi.specs.Grammar.{Production, Code}
+use Rattle.spec_exi.specs.Grammar.{Production, Code, atLevel, learnedIn}
 use Rattle.spec_exi.specs.Context.{levelsIn}
 use Rattle.spec_exi.specs.Reader.{readCode}
 use Rattle.grammar_codes.specs.Table.{tableOf, valuesOf, leveled, withLearned, FixedCode}
@@ -21,8 +21,8 @@ use Rattle.grammar_codes.specs.Table.{afterLearned, Stands}
 use Rattle.grammar_codes.proofs.Fixed.{fixed-outer, fixed-inner, own-count, own-values, own-kind}
 use Rattle.read_field.specs.View.{NumberIn}
 use Rattle.mem_learned.specs.Learned.{Sited, CountedAt}
-use Rattle.mem_rows.specs.Rows.{Rows, contextOf}
-use Rattle.mem_rows.specs.Valid.{SiteFits, Valid}
+use Rattle.mem_rows.specs.Rows.{Learnt, Rows, contextOf, siteAt, productionOf, learnedOf}
+use Rattle.mem_rows.specs.Valid.{SiteFits, LearntFits, Valid}
 use Rattle.read_contract.specs.Outcome.{Outcome}
 use Rattle.read_contract.proofs.Outcome.{refused-outcome}
 use Rattle.grammar_match.specs.Here.{siteIn, CodeRows, learnedHere}
@@ -38,6 +38,7 @@ use Rattle.read_production.specs.Production.{ProductionPre, ProductionBo
 use Rattle.read_production.specs.Production.{ProductionPost}
 use Rattle.read_production.proofs.Levels.{after-none, FirstRead, table-refused, table-fixed}
 use Rattle.read_production.proofs.Levels.{table-learned, table-below, unlearned}
+use Rattle.read_production.proofs.Rows.{learned-row}
 use Rattle.read_production.proofs.Codes.{fixed-is, learned-is}
 
 -- ---- what the functions that are called ask
@@ -230,6 +231,28 @@ module _ (s : Settings) (mode : ℕ) {stream : List ℕ} {at top learned : ℕ} 
           (d .next) (FixedCode ls (d .kind))) (fixed-inner (s .comments) (s .instructions) inner)
           (f .outcome))
           (λ _. fixed-is valid rows s store (d .kind) (d .next))))
+
+      -- A learned production, whichever it is.
+      pub inner-taught : value < count → (w : Rows) (store : Text) (opened : List ℕ) → Valid w
+          → CodeRows work learned mode top w opened
+          → (row : Learnt) × LearntFits (length (w .names)) row
+          × Outcome (readCode (s .alignment) (levelsIn s (contextOf w store mode opened))) stream at
+          0 next (λ x. x .production ≡ productionOf w row)
+      unfolding atLevel
+      inner-taught b w store opened valid rows =
+          let learns : inFragment ≤ mode = omega arith in
+          let (row, fit, there) = learned-row valid site
+          (subst (SiteFits (length (w .names))) (sym e) (site-fits rows learns)) (rows .hold)
+          counted b in (
+            row,
+            fit,
+            rw (levels-here rows s store)
+                (table-learned (learnedHere w mode opened) z t
+                (table-empty rows (s .comments) (s .instructions)) (first valid rows)
+                (ap (λ ps. getElem? ps value) (inner-here rows learns)
+                ∙ ap (λ n. getElem? (learnedIn (siteAt w n) (learnedOf w)) value) (sym e) ∙ there)
+                refl),
+          )
 
       -- A learned production.
       module _ (b : value < count) {d : ProductionRead}

@@ -18,9 +18,9 @@ use Rattle.mem_learned.specs.Learned.{LearnedHold, CountedAt, NthLearned, IsPro
 use Rattle.mem_learned.specs.Learned.{ProductionAt, Sited, LearnedRow}
 use Rattle.mem_learned.specs.declared.Production as cell
 use Rattle.mem_learned.proofs.Sites.{learned-nth, learned-there}
-use Rattle.mem_rows.specs.Rows.{Rows, siteAt}
+use Rattle.mem_rows.specs.Rows.{Learnt, Rows, siteAt}
 use Rattle.mem_rows.specs.Rows.{productionOf, learnedOf}
-use Rattle.mem_rows.specs.Valid.{learntAt, SiteFits, Valid}
+use Rattle.mem_rows.specs.Valid.{learntAt, SiteFits, LearntFits, Valid}
 use Rattle.mem_state.specs.Holds.{taughtOf, taughtIn}
 use Rattle.mem_state.proofs.Taught.{keys-of, site-same}
 use Rattle.mem_state.proofs.Taught.{taught-count, taught-row, learns-of}
@@ -41,7 +41,7 @@ module _ {w : Rows} (valid : Valid w) where
   module _ (site : ℕ) (there : SiteFits (length (w .names)) site) where
     module _ {work : List ℕ} {learned : ℕ} (hold : LearnedHold work learned rs) {count v : ℕ}
         (counted : CountedAt work site count) (l : v < count) {r : ℕ}
-        (nth : NthLearned work site count v learned r) where
+        (nth : r ≡ lastThat (isNumbered (siteOfRow rs) site (count - 1 - v)) learned) where
       abbrev all : ℕ
       all = tally (hasKey (siteOfRow rs) site) (length rs)
 
@@ -52,7 +52,7 @@ module _ {w : Rows} (valid : Valid w) where
 
       last-is-row : r ≡ lastThat (isNumbered (siteOfRow rs) site (all - 1 - v)) (length rs)
       last-is-row =
-          nth .means rs hold l
+          nth
           ∙ ap (λ n. lastThat (isNumbered (siteOfRow rs) site (n - 1 - v)) learned) all-is
           ∙ ap (lastThat (isNumbered (siteOfRow rs) site (all - 1 - v))) (sym (hold .count))
 
@@ -138,6 +138,18 @@ module _ {w : Rows} (valid : Valid w) where
                     ∙ ap (λ n. some (n, productionOf w (learntAt (w .learned) (r - 1)))) v-is;
               }
 
+    -- The row of each of them.
+    pub learned-row : {work : List ℕ} {learned : ℕ} → LearnedHold work learned rs → {count v : ℕ}
+        → CountedAt work site count → v < count
+        → (row : Learnt) × LearntFits (length (w .names)) row
+        × (getElem? (learnedIn (siteAt w site) (learnedOf w)) v ≡ some (productionOf w row))
+    learned-row hold counted l =
+        let n = row-there hold counted l refl in (
+          learntAt (w .learned) (_ - 1),
+          valid .refers .learned (_ - 1) (low hold counted l refl n),
+          there-is hold counted l refl n,
+        )
+
 -- ---- what the reader of a learned production leaves
 
 module _ {work : List ℕ} {site learned : ℕ} (h : LearnedPre work site learned) where
@@ -167,7 +179,8 @@ module _ {work : List ℕ} {site count v learned r : ℕ}
   pub learned-none : r ≡ 0 → LearnedRead work site count v learned at next (refusedAs numberCode at)
   learned-none z =
       refused-as
-      (λ w x hold there counted l. row-there x site there hold counted l nth z)
+      (λ w x hold there counted l.
+      row-there x site there hold counted l (nth .means (taughtIn w) hold l) z)
 
   module _ (n : r ≡ 0 → ⊥) {p : cell.Production} (g : ProductionAt work (r - 1) p) where
     -- No learned production has such a kind.
@@ -176,8 +189,9 @@ module _ {work : List ℕ} {site count v learned r : ℕ}
         refused-as (λ w x hold there counted l.
         omega (
           arith,
-          kind-read x site there hold counted l nth n g,
-          x .refers .learned (r - 1) (low x site there hold counted l nth n) .from,
+          kind-read x site there hold counted l (nth .means (taughtIn w) hold l) n g,
+          x .refers .learned (r - 1)
+              (low x site there hold counted l (nth .means (taughtIn w) hold l) n) .from,
         ))
 
     pub learned-high : numberCH < p .kind → LearnedRead work site count v learned at next (refusedAs numberCode at)
@@ -185,8 +199,9 @@ module _ {work : List ℕ} {site count v learned r : ℕ}
         refused-as (λ w x hold there counted l.
         omega (
           arith,
-          kind-read x site there hold counted l nth n g,
-          x .refers .learned (r - 1) (low x site there hold counted l nth n) .upTo,
+          kind-read x site there hold counted l (nth .means (taughtIn w) hold l) n g,
+          x .refers .learned (r - 1)
+              (low x site there hold counted l (nth .means (taughtIn w) hold l) n) .upTo,
         ))
 
     pub learned-found : numberSE ≤ p .kind → p .kind ≤ numberCH
@@ -212,7 +227,8 @@ module _ {work : List ℕ} {site count v learned r : ℕ}
                 uri = g .uriRowLow;
                 local = g .nameRowLow;
               };
-          means = λ w x hold there counted l. is-learned x site there hold counted l nth n g next;
+          means = λ w x hold there counted l.
+              is-learned x site there hold counted l (nth .means (taughtIn w) hold l) n g next;
         }
 
 -- ---- in a fragment's content

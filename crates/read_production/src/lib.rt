@@ -37,10 +37,10 @@ pub struct ProductionRead {
 }
 
 // The number of a refusal or 0, the value of a part and the position after it.
-struct Part {
-    number: u32,
-    value: u32,
-    next: usize,
+pub struct Part {
+    pub number: u32,
+    pub value: u32,
+    pub next: usize,
 }
 
 fn refused(number: u32, at: usize) -> ProductionRead
@@ -73,7 +73,7 @@ fn fixed(kind: u32, next: usize) -> ProductionRead
 }
 
 // A value among so many.
-fn read_part(aligned: bool, stream: &[u8], at: usize, among: u32) -> Part
+pub fn read_part(aligned: bool, stream: &[u8], at: usize, among: u32) -> Part
     requires { ⌜ NumberIn (now stream) at among 65536 ⌝ }
     ensures { λ r. ⌜
         PartRead (alignmentOf aligned) (now (stream .entry)) at among (r .number) (r .value)
@@ -118,7 +118,7 @@ fn read_kept(o: Settings, stream: &[u8], next: usize, at: usize) -> ProductionRe
 
 // A production that is not learned, by the part of the main level: outside an element the code's
 // first, in an element its second.
-fn read_fixed(o: Settings, stream: &[u8], next: usize, at: usize, mode: u32) -> ProductionRead
+pub fn read_fixed(o: Settings, stream: &[u8], next: usize, at: usize, mode: u32) -> ProductionRead
     requires { ⌜ FixedPre (now stream) next at ⌝ }
     ensures { λ r. ⌜ FixedAt (settingsFrom o) mode (now (stream .entry)) next at r ⌝ }
 {
@@ -189,13 +189,7 @@ fn read_child(
 }
 
 // Reads an event code in a fragment's content (EXI 8.4.2).
-fn read_between(
-    o: Settings,
-    stream: &[u8],
-    at: usize,
-    learned: u32,
-    work: &[u32],
-) -> ProductionRead
+fn read_between(o: Settings, stream: &[u8], at: usize, learned: u32, work: &[u32]) -> ProductionRead
     requires { ⌜ ProductionPre (now stream) at 0 learned (now work) ⌝ }
     ensures { λ r. ⌜
         ((top : ℕ) → top < nameRows → ProductionPost (settingsFrom o) (now (stream .entry)) at
@@ -219,7 +213,7 @@ fn read_between(
 }
 
 // Reads an event code outside of every element.
-fn read_outer(
+pub fn read_outer(
     o: Settings,
     stream: &[u8],
     at: usize,
@@ -240,7 +234,7 @@ fn read_outer(
 }
 
 // Productions of an element's first level that are not learned: in its content, the end tag.
-fn own_count(mode: u32) -> u32
+pub fn own_count(mode: u32) -> u32
     ensures { λ r. ⌜ r ≡ ownCount mode ⌝ }
 {
     if mode == IN_ELEMENT {

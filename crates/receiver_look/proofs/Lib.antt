@@ -1,3 +1,4 @@
 pub mod Steady
 pub mod Names
 pub mod Events
+pub mod Steps

@@ -1,11 +1,12 @@
 -- What looking at an event asks and leaves.
-use Prim.Native.Nat.{ℕ, _≤_, _<_}
+use Prim.Native.Nat.{ℕ, _*_, _≤_, _<_}
 use mathlib.Core.Path.{_≡_}
 use mathlib.Core.Bool.{Bool, true, false}
 use mathlib.Core.List.{List}
 use mathlib.Core.Option.{Option, none, some}
 use lib.ListN.{length, drop}
 use Rattle.spec_fields.specs.Bits.{unpack}
+use Rattle.spec_fields.specs.Refusal.{numberOf, ended}
 use Rattle.spec_fields.specs.Field.{Alignment}
 use Rattle.text.specs.Text.{Text}
 use Rattle.spec_exi.specs.Settings.{Settings}
@@ -14,14 +15,18 @@ use Rattle.spec_exi.specs.Event.{QName, AT, PI}
 use Rattle.spec_exi.specs.Tables.{Placed, Tables, uri, value}
 use Rattle.spec_exi.specs.Grammar.{State}
 use Rattle.spec_exi.specs.Context.{characterRole}
-use Rattle.spec_exi.specs.Reader.{readString, readName, readContent, step}
+use Rattle.spec_exi.specs.Reader.{readCharacter, readString, readName, readContent, step}
 use Rattle.mem_layout.specs.Layout.{workCells}
 use Rattle.mem_rows.specs.Rows.{Rows, kindAt}
 use Rattle.mem_state.specs.declared.Core.{Core}
 use Rattle.mem_state.specs.Holds.{inStore, Bounded, Topped, Represents, contextAt}
 use Rattle.event_code.specs.Numbers.{numberAT, numberCH}
+use Rattle.read_contract.specs.Outcome.{Declined}
+use Rattle.read_literal.specs.Awaits.{Awaits}
+use Rattle.read_production.specs.declared.ProductionRead.{ProductionRead}
+use Rattle.read_production.specs.Levels.{FixedAt}
 use Rattle.receiver_strings.specs.declared.Looked.{Looked}
-use Rattle.receiver_strings.specs.Cuts.{CutAt, Sees}
+use Rattle.receiver_strings.specs.Cuts.{Sees}
 use Rattle.receiver_strings.specs.Strings.{SpotIn, LookBounds, StringSeen}
 
 pub record UriPre (stream : List ℕ) (at uris : ℕ) : Type 0 where
@@ -87,11 +92,32 @@ pub record LookPre (stream work : List ℕ) (c : Core) : Type 0 where
   pub rows : workCells ≤ length work
   pub bounded : Bounded c
 
--- Where code points are left, the definitions' step is cut there, or refused by another number than
--- ENDED: whatever rows memory represents.
+-- The rest of a code in an element that names no learned production, and the content.
+pub record FixedAsks (stream : List ℕ) (next : ℕ) (c : Core) : Type 0 where
+  pub spot : SpotIn stream (c .at)
+  pub place : next ≤ 8 * length stream
+  pub bounded : Bounded c
+
+-- The rest is read to this production, and its content is looked at.
+pub record FixedFound (s : Settings) (stream : List ℕ) (next : ℕ) (c : Core) (r : Looked) : Type 0
+  where
+    pub production : ProductionRead
+    pub read : FixedAt s (c .mode) stream next (c .at) production
+    pub good : production .number ≡ 0
+    pub seen : ContentSeen (s .alignment) stream (production .next) (production .kind)
+        (production .learned) (c .uris) r
+
+pub record FixedSeen (s : Settings) (stream : List ℕ) (next : ℕ) (c : Core) (r : Looked) : Type 0
+  where
+    pub bounds : LookBounds stream r
+    pub found : 0 < r .left → FixedFound s stream next c r
+
+-- Where code points are left and octets end in the definitions' step, it is cut there: whatever
+-- rows memory represents.
 pub record LookPost (s : Settings) (stream work : List ℕ) (c : Core) (r : Looked) : Type 0 where
   pub bounds : LookBounds stream r
   pub cut : 0 < r .left → (text : List ℕ) (w : Rows) (opened : List ℕ)
       → Represents work (inStore text (c .stored)) c w opened → Topped c opened
-      → CutAt (step sizes s (contextAt text c w opened)) (drop (c .at) (unpack stream)) s
-      (drop (r .at) (unpack stream)) (r .left)
+      → Declined (step sizes s (contextAt text c w opened)) stream (c .at) (numberOf ended)
+      → Awaits (readCharacter s) (step sizes s (contextAt text c w opened))
+      (drop (c .at) (unpack stream)) (drop (r .at) (unpack stream)) (r .left)

@@ -1,17 +1,20 @@
 // Where octets end inside an event (02, P8): among the code points of which string, if any. The
 // event is looked at from its first bit on, and nothing is laid. What the functions ask and leave is
 // in specs/Look.antt.
+ghost use Prim.Native.Nat.{_≤_, _<_};
 ghost use mathlib.Core.Path.{_≡_};
 ghost use mathlib.Core.Bool.{false};
 ghost use Rattle.read_field.specs.View.{alignmentOf};
 ghost use Rattle.settings.specs.Meant.{settingsFrom};
+ghost use Rattle.event_code.specs.Numbers.{inTag};
 ghost use Rattle.receiver_strings.specs.Strings.{SpotIn};
 ghost use Rattle.receiver_look.specs.Look.{UriPre, UriSeen, ThenPre, ThenSeen, NameSeen};
 ghost use Rattle.receiver_look.specs.Look.{AttributeSeen, InstructionSeen, ContentSeen};
-ghost use Rattle.receiver_look.specs.Look.{LookPre, LookPost};
+ghost use Rattle.receiver_look.specs.Look.{FixedAsks, FixedSeen, LookPre, LookPost};
 use event_code::AT;
 use event_code::CH;
 use event_code::CM;
+use event_code::IN_TAG;
 use event_code::PI;
 use event_code::SE;
 use mem_state::Core;
@@ -113,14 +116,63 @@ fn content(aligned: bool, stream: &[u8], at: usize, kind: u32, learned: bool, ur
     }
 }
 
-// Looks at the event after the core's position.
-pub fn look(o: Settings, stream: &[u8], c: Core, work: &[u32]) -> Looked
-    requires { ⌜ LookPre (now stream) (now work) c ⌝ }
-    ensures { λ r. ⌜ LookPost (settingsFrom o) (now (stream .entry)) (now (work .entry)) c r ⌝ }
+// An event whose code names no learned production: its rest, from the code's second part on, which
+// stands at a position, and the content.
+fn fixed(o: Settings, stream: &[u8], next: usize, c: Core) -> Looked
+    requires { ⌜ FixedAsks (now stream) next c ⌝ }
+    ensures { λ r. ⌜ FixedSeen (settingsFrom o) (now (stream .entry)) next c r ⌝ }
 {
-    let p = read_production::read_production(o, stream, c.at, c.mode, c.top, c.learned, work);
+    let p = read_production::read_fixed(o, stream, next, c.at, c.mode);
     if p.number != 0 {
         return nothing(c.at);
     }
     content(o.aligned, stream, p.next, p.kind, p.learned, c.uris)
+}
+
+// An event in an element. Of learned productions AT and CH alone have a content, and both a value,
+// so that they are not told apart: at the others octets do not end.
+fn inside(o: Settings, stream: &[u8], c: Core, work: &[u32]) -> Looked
+    requires { ⌜ LookPre (now stream) (now work) c ⌝ }
+    requires { ⌜ inTag ≤ c .mode ⌝ }
+    ensures { λ r. ⌜ LookPost (settingsFrom o) (now (stream .entry)) (now (work .entry)) c r ⌝ }
+{
+    let site = grammar_match::site_in(c.mode, c.top);
+    let count = mem_learned::count_at(work, site);
+    let last = count + read_production::own_count(c.mode);
+    let p = read_production::read_part(o.aligned, stream, c.at, last + 1);
+    if p.number != 0 {
+        return nothing(c.at);
+    }
+    if p.value < count {
+        return receiver_strings::string(stream, p.next, 2);
+    }
+    if p.value < last {
+        return nothing(c.at);
+    }
+    fixed(o, stream, p.next, c)
+}
+
+// An event outside of every element.
+fn outside(o: Settings, stream: &[u8], c: Core, work: &[u32]) -> Looked
+    requires { ⌜ LookPre (now stream) (now work) c ⌝ }
+    requires { ⌜ c .mode < inTag ⌝ }
+    ensures { λ r. ⌜ LookPost (settingsFrom o) (now (stream .entry)) (now (work .entry)) c r ⌝ }
+{
+    let p = read_production::read_outer(o, stream, c.at, c.mode, c.learned, work);
+    if p.number != 0 {
+        return nothing(c.at);
+    }
+    content(o.aligned, stream, p.next, p.kind, p.learned, c.uris)
+}
+
+// Looks at the event after the core's position. The whole reader's `read_production` is not called:
+// it has one caller, and is compiled into it.
+pub fn look(o: Settings, stream: &[u8], c: Core, work: &[u32]) -> Looked
+    requires { ⌜ LookPre (now stream) (now work) c ⌝ }
+    ensures { λ r. ⌜ LookPost (settingsFrom o) (now (stream .entry)) (now (work .entry)) c r ⌝ }
+{
+    if c.mode < IN_TAG {
+        return outside(o, stream, c, work);
+    }
+    inside(o, stream, c, work)
 }

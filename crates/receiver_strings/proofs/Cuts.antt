@@ -7,12 +7,14 @@ use native.Mathlib.Omega.{arith}
 use lib.ListN.{drop}
 use Rattle.spec_fields.specs.Bits.{Bits, unpack}
 use Rattle.spec_fields.specs.Refusal.{Refusal, numberOf, ended}
-use Rattle.spec_fields.specs.Parser.{got, Parser, return, fail, need, andThen, _>>=_}
+use Rattle.spec_fields.specs.Parser.{Result, bad, got, Parser, return, fail, need, andThen, _>>=_}
 use Rattle.spec_fields.specs.Parser.{_>>_}
 use Rattle.spec_fields.proofs.Steady.{Steady}
 use Rattle.spec_exi.specs.Settings.{Settings}
-use Rattle.read_contract.specs.Outcome.{Gotten}
+use Rattle.spec_exi.specs.Reader.{readCharacter}
+use Rattle.read_contract.specs.Outcome.{Declined, Gotten}
 use Rattle.read_contract.proofs.Outcome.{need-true}
+use Rattle.read_literal.specs.Awaits.{Awaits}
 use Rattle.read_literal.proofs.Awaits.{awaits-then, awaits-behind, awaits-need}
 use Rattle.receiver_strings.specs.declared.Looked.{Looked}
 use Rattle.receiver_strings.specs.Cuts.{Faulty, Passes, faulty, reads, CutAt, cut, Sees}
@@ -141,3 +143,28 @@ sees-field s p f stream at steady {q} g h =
       past = λ z. passes-behind p f here (g .value) there (g .result) (h .past z);
       cut = λ z. cut-behind p f here (g .value) there (g .result) steady (h .cut z);
     }
+
+-- ---- where the bits end
+
+abbrev isGot : {A : Type 0} → Result A → Bool
+isGot (got a bs) = true
+isGot (bad k) = false
+
+module _ {A : Type 0} {p : Parser A} {stream : List ℕ} {at : ℕ}
+    (d : Declined p stream at (numberOf ended)) where
+  same-refusal : {j k : Refusal} → _≡_ {A = Result A} (bad j) (bad k) → j ≡ k
+  same-refusal e = cc
+
+  not-faulty : Faulty p (drop at (unpack stream)) → ⊥
+  not-faulty f =
+      let e : f .refusal ≡ d .refusal = same-refusal (sym (f .result) ∙ d .result) in
+      f .other (ap numberOf e ∙ sym (d .is))
+
+  pub not-passed : {rest : Bits} → Passes p (drop at (unpack stream)) rest → ⊥
+  not-passed (faulty f) = not-faulty f
+  not-passed (reads a e) = true≢false (ap isGot (sym e ∙ d .result))
+
+  pub cut-ended : {s : Settings} {mid : Bits} {n : ℕ} → CutAt p (drop at (unpack stream)) s mid n
+      → Awaits (readCharacter s) p (drop at (unpack stream)) mid n
+  cut-ended (cut h) = h
+  cut-ended (faulty f) = absurd (not-faulty f)
