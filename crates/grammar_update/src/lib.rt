@@ -76,11 +76,5 @@ pub fn after(
     let mut d = c;
     d.at = at;
     d.stored = stored;
-    mem_state::turn(
-        fragment,
-        mem_state::count(d, s, g),
-        g.kind,
-        g.name,
-        n,
-    )
+    mem_state::turn(fragment, mem_state::count(d, s, g), g.kind, g.name, n)
 }

@@ -158,4 +158,3 @@ module _ {a : Alignment} {stream : List ℕ} {at : ℕ} (uris : ℕ) where
     unfolding kindAt
     content-instruction k h =
         record { bounds = h .bounds; sees = λ s b t e st v q c. rw k (h .sees s t st q) }
-

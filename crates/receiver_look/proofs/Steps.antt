@@ -58,22 +58,22 @@ module _ {stream : List ℕ} {next : ℕ} {c : Core} (pre : FixedAsks stream nex
       }
 
   module _ {s : Settings} {p : ProductionRead} (read : FixedAt s (c .mode) stream next (c .at) p)
-      where
-    pub fixed-content : UriPre stream (p .next) (c .uris)
-    fixed-content =
-        record {
-          spot = record { size = pre .spot .size; place = read .inside };
-          few = pre .bounded .uris;
-        }
+    where
+      pub fixed-content : UriPre stream (p .next) (c .uris)
+      fixed-content =
+          record {
+            spot = record { size = pre .spot .size; place = read .inside };
+            few = pre .bounded .uris;
+          }
 
-    pub fixed-seen : p .number ≡ 0 → {r : Looked}
-        → ContentSeen (s .alignment) stream (p .next) (p .kind) (p .learned) (c .uris) r
-        → FixedSeen s stream next c r
-    fixed-seen good h =
-        record {
-          bounds = h .bounds;
-          found = λ _. record { production = p; read = read; good = good; seen = h };
-        }
+      pub fixed-seen : p .number ≡ 0 → {r : Looked}
+          → ContentSeen (s .alignment) stream (p .next) (p .kind) (p .learned) (c .uris) r
+          → FixedSeen s stream next c r
+      fixed-seen good h =
+          record {
+            bounds = h .bounds;
+            found = λ _. record { production = p; read = read; good = good; seen = h };
+          }
 
 -- ---- the step
 

@@ -231,14 +231,7 @@ fn put_event(
 // ---- the rows
 
 // Adds what an event leaves to memory, and says the numbers after it; n events have come before it.
-fn commit(
-    fragment: bool,
-    work: &mut [u32],
-    c: Core,
-    at: usize,
-    j: EventJudged,
-    n: usize,
-) -> Core
+fn commit(fragment: bool, work: &mut [u32], c: Core, at: usize, j: EventJudged, n: usize) -> Core
     requires { ⌜ CommitPre (now work) c j n ⌝ }
     ensures { λ d. ⌜ CommitPost fragment (now (work .entry)) c at j n (now (work .exit)) d ⌝ }
 {
