@@ -1,12 +1,10 @@
--- The content of an event, and the event, as a look sees them.
-use Prim.Native.Nat.{ℕ, _*_, _≤_, _<_}
-use mathlib.Core.Path.{_≡_, refl, sym, _∙_, ap}
-use mathlib.Core.Bool.{Bool, true, false, cond}
+-- The content of an event, as a look sees it.
+use Prim.Native.Nat.{ℕ, _*_, _≤_}
+use mathlib.Core.Path.{_≡_, refl}
+use mathlib.Core.Bool.{Bool, true, false}
 use mathlib.Core.List.{List, []}
-use mathlib.Core.Option.{none}
 use native.Mathlib.Omega.{arith}
-use lib.ListN.{length, drop, take}
-use Rattle.spec_fields.specs.Bits.{unpack}
+use lib.ListN.{length}
 use Rattle.spec_fields.specs.Parser.{return}
 use Rattle.spec_fields.specs.Field.{Alignment}
 use Rattle.text.specs.Text.{Text}
@@ -16,26 +14,16 @@ use Rattle.spec_exi.specs.Sizes.{sizes}
 use Rattle.spec_exi.specs.Event.{QName}
 use Rattle.spec_exi.specs.Tables.{Tables, Role, value, target, commentText}
 use Rattle.spec_exi.specs.Tables.{literals, instructionText, partitionsOf, nameText}
-use Rattle.spec_exi.specs.Grammar.{Production, Code}
-use Rattle.spec_exi.specs.Context.{Context}
-use Rattle.spec_exi.specs.Reader.{readString, readName, readContent, step}
-use Rattle.spec_exi.proofs.Steady.{steady-code}
-use Rattle.mem_rows.specs.Rows.{Rows, kindAt, carries, carriedAt, tablesOf, contextOf, nameAt}
-use Rattle.mem_rows.specs.Rows.{placedAt}
-use Rattle.mem_state.specs.declared.Core.{Core}
-use Rattle.mem_state.specs.Holds.{inStore, Topped, Represents, contextAt}
-use Rattle.event_code.specs.Numbers.{numberCH}
-use Rattle.grammar_update.proofs.Represented.{code-rows, inner-state}
+use Rattle.spec_exi.specs.Reader.{readString, readName, readContent}
+use Rattle.mem_rows.specs.Rows.{kindAt}
 use Rattle.read_contract.proofs.Outcome.{return-gotten}
-use Rattle.read_production.specs.declared.ProductionRead.{ProductionRead}
-use Rattle.read_production.specs.Production.{ProductionPre, ProductionPost}
 use Rattle.receiver_strings.specs.declared.Looked.{Looked}
-use Rattle.receiver_strings.specs.Cuts.{CutAt, Sees}
+use Rattle.receiver_strings.specs.Cuts.{Sees}
 use Rattle.receiver_strings.specs.Strings.{StringSeen}
-use Rattle.receiver_strings.proofs.Cuts.{passes-return, cut-then, cut-behind, sees-then}
+use Rattle.receiver_strings.proofs.Cuts.{passes-return, sees-then}
 use Rattle.receiver_strings.proofs.Cuts.{sees-nothing, sees-field}
-use Rattle.receiver_look.specs.Look.{UriPre, ThenSeen, NameSeen, Carries, AttributeSeen}
-use Rattle.receiver_look.specs.Look.{InstructionSeen, ContentSeen, Valued, LookPre, LookPost}
+use Rattle.receiver_look.specs.Look.{ThenSeen, NameSeen, AttributeSeen}
+use Rattle.receiver_look.specs.Look.{InstructionSeen, ContentSeen}
 use Rattle.receiver_look.proofs.Steady.{steady-string, steady-name}
 use Rattle.receiver_look.proofs.Names.{sees-string, sees-two}
 

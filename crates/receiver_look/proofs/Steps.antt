@@ -18,18 +18,17 @@ use Rattle.spec_exi.specs.Event.{Event, QName, SE, EE}
 use Rattle.spec_exi.specs.Tables.{Placed, Tables}
 use Rattle.spec_exi.specs.Grammar.{State, Production, Code}
 use Rattle.spec_exi.specs.Context.{Context, levelsIn}
-use Rattle.spec_exi.specs.Reader.{readCharacter, readName, readContent, readCode, step}
+use Rattle.spec_exi.specs.Reader.{readName, readContent, readCode, step}
 use Rattle.spec_exi.proofs.Steady.{steady-code}
 use Rattle.mem_rows.specs.Rows.{Learnt, Rows, kindAt, carries, carriedAt, tablesOf, contextOf}
 use Rattle.mem_rows.specs.Rows.{nameAt, placedAt, productionOf}
 use Rattle.mem_rows.specs.Valid.{LearntFits, Valid}
 use Rattle.mem_state.specs.declared.Core.{Core}
 use Rattle.mem_state.specs.Holds.{inStore, Topped, Represents, contextAt}
-use Rattle.event_code.specs.Numbers.{numberCH, inTag}
+use Rattle.event_code.specs.Numbers.{inTag}
 use Rattle.grammar_update.proofs.Represented.{code-rows, inner-state}
 use Rattle.grammar_match.specs.Here.{CodeRows}
 use Rattle.read_contract.specs.Outcome.{Declined, Gotten, Outcome}
-use Rattle.read_literal.specs.Awaits.{Awaits}
 use Rattle.read_production.specs.declared.ProductionRead.{ProductionRead}
 use Rattle.read_production.specs.Levels.{FixedPre, FixedAt}
 use Rattle.read_production.specs.Production.{ProductionPre, ProductionPost}

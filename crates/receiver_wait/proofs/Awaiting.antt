@@ -1,15 +1,13 @@
 -- A literal that is cut, as more octets come.
-use Prim.Native.Nat.{ℕ, suc, _+_, _*_, _-_, _≤_}
-use mathlib.Core.Path.{_≡_, sym, _∙_, ap}
+use Prim.Native.Nat.{ℕ, suc, _*_, _-_, _≤_}
+use mathlib.Core.Path.{_≡_, _∙_, ap}
 use mathlib.Core.List.{List, _++_}
 use native.Mathlib.Omega.{arith}
-use lib.ListN.{length, drop, length-append}
+use lib.ListN.{length, length-append}
 use Rattle.spec_fields.specs.Bits.{Bits, unpack}
-use Rattle.spec_fields.specs.Refusal.{Refusal, numberOf, ended}
-use Rattle.spec_fields.specs.Parser.{Result, bad, Parser, andThen, _>>=_, times}
+use Rattle.spec_fields.specs.Parser.{Parser, andThen, _>>=_, times}
 use Rattle.spec_exi.specs.Settings.{Settings}
 use Rattle.spec_exi.specs.Sizes.{sizes}
-use Rattle.spec_exi.specs.Context.{Context}
 use Rattle.spec_exi.specs.Reader.{readCharacter, step}
 use Rattle.open_elements.specs.declared.State.{State}
 use Rattle.open_elements.specs.Opened.{openedIn}
@@ -18,7 +16,6 @@ use Rattle.read_literal.specs.Awaits.{Awaits}
 use Rattle.read_literal.specs.Literal.{Cut}
 use Rattle.read_literal.proofs.Awaits.{then-then, awaits-more, awaits-refused}
 use Rattle.receiver_record.specs.declared.Wait.{Wait}
-use Rattle.receiver_strings.specs.Cuts.{CutAt, faulty, cut}
 use Rattle.receiver_read.specs.On.{InContext, Ends, Awaiting}
 use Rattle.receiver_read.proofs.Longer.{drop-longer}
 use Rattle.receiver_wait.specs.Wait.{CutIn}
@@ -37,20 +34,7 @@ awaits-through {q = q} {rest = rest} n {m} h g =
           ∙ then-then (times m q (rest ++ more)) (g .onward) (h .onward);
     }
 
-same-refusal : {A : Type 0} {j k : Refusal} → _≡_ {A = Result A} (bad j) (bad k) → j ≡ k
-same-refusal e = cc
-
 -- ---- a look
-
--- Where the octets end in the event, it is cut.
-cut-ended : {s : Settings} (c : Context) {stream : List ℕ} {at : ℕ} {mid : Bits} {n : ℕ}
-    → Declined (step sizes s c) stream at (numberOf ended)
-    → CutAt (step sizes s c) (drop at (unpack stream)) s mid n
-    → Awaits (readCharacter s) (step sizes s c) (drop at (unpack stream)) mid n
-cut-ended c d (cut h) = h
-cut-ended c d (faulty f) =
-    let e : f .refusal ≡ d .refusal = same-refusal (sym (f .result) ∙ d .result) in
-    absurd (f .other (ap numberOf e ∙ sym (d .is)))
 
 pub awaiting-looked : {s : Settings} {stream text work : List ℕ} {st : State} {n number : ℕ} {r : Wait}
     → Ends s stream text work st n → st .core .at ≤ 8 * length stream → r .at ≤ 8 * length stream
@@ -62,7 +46,7 @@ awaiting-looked {text = text} {st = st} h place inside g =
       begun = h .begun;
       place = place;
       inside = inside;
-      next = λ w a b d. cut-ended _ (h .next w a b d) (g .cut text w (openedIn st) a b);
+      next = λ w a b d. g .cut text w (openedIn st) a b (h .next w a b d);
     }
 
 -- ---- more octets
