@@ -1,5 +1,5 @@
 -- The answers of the steps of events without a name.
-use Prim.Native.Nat.{ℕ, _<_}
+use Prim.Native.Nat.{ℕ}
 use native.Mathlib.Omega.{arith}
 use mathlib.Core.Path.{_≡_, refl, sym, ap, subst, _∙_}
 use mathlib.Core.Bool.{Bool, true, false, not}
@@ -48,7 +48,7 @@ use Rattle.write_event.proofs.Places.{place-stands}
 use Rattle.write_event.proofs.Puts.{content-asks, event-put}
 use Rattle.write_first.specs.First.{Accepted, ValueAccepted}
 use Rattle.write_first.proofs.First.{content-pre, first-accepted, growth-pre, first-limit, put-pre}
-use Rattle.write_first.proofs.First.{code-pre, join-pre, after-pre, grow-pre, first-written}
+use Rattle.write_first.proofs.First.{code-pre, after-pre, grow-pre, first-written}
 
 -- ---- characters
 

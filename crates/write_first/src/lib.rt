@@ -39,8 +39,8 @@ fn add_characters(
 ) -> Stepped
     requires { ⌜ StepPre (now stream) (now work) c n ⌝ }
     requires { ⌜
-        ValueAccepted (settingsFrom o) (now opening) (now text) (Characters value) (now work) c place
-        noStrings (c .top) value v ⌝ }
+        ValueAccepted (settingsFrom o) (now opening) (now text) (Characters value) (now work) c
+        place noStrings (c .top) value v ⌝ }
     ensures { λ r. ⌜
         StepPost (settingsFrom o) (now (opening .entry)) (now (text .entry))
         (meaning (Characters value)) (now (stream .entry)) (now (work .entry)) c n

@@ -1,10 +1,9 @@
 -- The answers of the steps of start elements and attributes.
-use Prim.Native.Nat.{ℕ, _<_}
-use native.Mathlib.Omega.{arith}
-use mathlib.Core.Path.{_≡_, refl, sym, ap, subst, _∙_}
+use Prim.Native.Nat.{ℕ}
+use mathlib.Core.Path.{_≡_, refl, sym, subst, _∙_}
 use mathlib.Core.Bool.{Bool, true, false, _&&_, not}
 use mathlib.Core.List.{List}
-use borrow.Author.Tests.{not-true, not-false}
+use borrow.Author.Tests.{not-false}
 use Rattle.text.specs.Text.{Text, inside, part}
 use Rattle.spec_fields.specs.Refusal.{numberOf, limit, shape}
 use Rattle.spec_exi.specs.Settings.{Settings}

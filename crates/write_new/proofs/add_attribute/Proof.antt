@@ -8,112 +8,75 @@ use Rattle.settings.specs.Meant.{settingsFrom}
 use borrow.Author.Needs.{needs}
 use Rattle.write_new.proofs.add_attribute.Statement.{statement}
 use Rattle.write_new.proofs.add_attribute.Tie as tie
-use Rattle.write_new.proofs.add_attribute.Reads as reads
-use Rattle.write_new.proofs.add_attribute.Lts as lts
-use Rattle.grammar_update.proofs.after.Reads as after-reads
-use Rattle.grammar_update.proofs.allows.Reads as allows-reads
-use Rattle.grammar_update.proofs.fits.Reads as fits-reads
-use Rattle.grammar_update.proofs.growth.Reads as growth-reads
-use Rattle.mem_state.proofs.grow.Reads as grow-reads
-use Rattle.mem_state.proofs.join_strings.Reads as join-strings-reads
-use Rattle.mem_state.proofs.with_value.Reads as with-value-reads
-use Rattle.stepped.proofs.answer.Reads as answer-reads
-use Rattle.text.proofs.look_up.Reads as look-up-reads
-use Rattle.write_content.proofs.put_name.Reads as put-name-reads
-use Rattle.write_event.proofs.code_here.Reads as code-here-reads
-use Rattle.write_production.proofs.put_code.Reads as put-code-reads
-use Rattle.write_values.proofs.put_value.Reads as put-value-reads
 
--- src/lib.rt:135:9
 with-value-requires : tie.Need-with-value-requires
 with-value-requires c κs = search needs
 
--- src/lib.rt:136:9
 code-here-requires : tie.Need-code-here-requires
 code-here-requires c κs = attribute-here (c .before .before .before .before .before .before .pre .0) (c .before .before .before .before .before .before .pre .1) (c .before .with-value .ensures)
 
--- src/lib.rt:137:9
 growth-requires : tie.Need-growth-requires
 growth-requires c κs = attribute-growth (c .before .before .before .before .before .before .before .before .pre .0) (c .before .before .before .before .before .before .before .before .pre .1) (c .before .before .before .with-value .ensures)
 
--- src/lib.rt:138:9
 allows-requires : tie.Need-allows-requires
 allows-requires c κs = record { room = (c .before .before .before .before .before .before .before .before .before .before .pre .0) .rows; low = attribute-here (c .before .before .before .before .before .before .before .before .before .before .pre .0) (c .before .before .before .before .before .before .before .before .before .before .pre .1) (c .before .before .before .before .before .with-value .ensures) .name-low }
 
--- src/lib.rt:139:9
 answer-requires : tie.Need-answer-requires
 answer-requires c κs = search needs
 
--- src/lib.rt:139:9
 same-length : tie.Need-same-length
 same-length c = search needs
 
--- src/lib.rt:139:9
 returns : tie.Need-returns
 unfolding settingsFrom numberOf
 returns c = rw (c .answer .ensures) (attribute-equal (c .before .before .before .before .before .before .before .before .before .before .before .before .before .pre .0) (c .before .before .before .before .before .before .before .before .before .before .before .before .before .pre .1) (c .before .before .before .before .before .before .before .before .with-value .ensures) (c .before .before .before .before .before .before .code-here .ensures) (c .before .before .allows .ensures) (c .before .if1 .taken))
 
--- src/lib.rt:141:9
 fits-requires : tie.Need-fits-requires
 fits-requires c κs = search needs
 
--- src/lib.rt:142:9
 answer-requires-2 : tie.Need-answer-requires-2
 answer-requires-2 c κs = search needs
 
--- src/lib.rt:142:9
 same-length-2 : tie.Need-same-length-2
 same-length-2 c = search needs
 
--- src/lib.rt:142:9
 returns-2 : tie.Need-returns-2
 unfolding settingsFrom numberOf
 returns-2 c = rw (c .answer2 .ensures) (attribute-limit (c .before .before .before .before .before .before .before .before .before .before .before .before .before .before .before .pre .0) (c .before .before .before .before .before .before .before .before .before .before .before .before .before .before .before .pre .1) (c .before .before .before .before .before .before .before .before .before .before .with-value .ensures) (c .before .before .before .before .before .before .before .before .code-here .ensures) (c .before .before .before .before .allows .ensures) (c .before .before .before .if1 .left) (c .before .before .before .before .before .before .growth .ensures) (c .before .before .fits2 .ensures) (c .before .if2 .taken))
 
--- src/lib.rt:144:9
 look-up-requires : tie.Need-look-up-requires
 look-up-requires c κs = search needs
 
--- src/lib.rt:146:9
 put-code-requires : tie.Need-put-code-requires
 unfolding settingsFrom
 put-code-requires c κs = attribute-code (c .before .before .before .before .before .before .before .before .before .before .before .before .before .before .before .before .pre .0) (c .before .before .before .before .before .before .before .before .before .before .before .before .before .before .before .before .pre .1) (c .before .before .before .before .before .before .before .before .before .before .before .with-value .ensures) (c .before .before .before .before .before .before .before .before .before .code-here .ensures) (c .before .before .before .before .before .allows .ensures) (c .before .before .before .before .if1 .left) (c .before .before .before .before .before .before .before .growth .ensures) (c .before .before .before .fits2 .ensures) (c .before .before .if2 .left)
 
--- src/lib.rt:147:9
 put-name-requires : tie.Need-put-name-requires
 unfolding settingsFrom
 put-name-requires c κs = attribute-name (c .before .before .before .before .before .before .before .before .before .before .before .before .before .before .before .before .before .before .before .before .before .pre .0) (c .before .before .before .before .before .before .before .before .before .before .before .before .before .before .before .before .before .before .before .before .before .pre .1) (c .before .before .before .before .before .before .before .before .before .before .before .before .before .before .before .before .with-value .ensures) (c .before .before .before .before .before .before .before .before .before .before .before .before .before .before .code-here .ensures) (c .before .before .before .before .before .before .before .before .before .before .allows .ensures) (c .before .before .before .before .before .before .before .before .before .if1 .left) (c .before .before .before .before .before .before .before .before .before .before .before .before .growth .ensures) (c .before .before .before .before .before .before .before .before .fits2 .ensures) (c .before .before .before .before .before .before .before .if2 .left) (c .before .before .before .before .put-code .ensures)
 
--- src/lib.rt:159:9
 put-value-requires : tie.Need-put-value-requires
 unfolding settingsFrom
 put-value-requires c κs = attribute-value (c .before .before .before .before .before .before .before .before .before .before .before .before .before .before .before .before .before .before .before .before .before .before .before .before .before .before .pre .0) (c .before .before .before .before .before .before .before .before .before .before .before .before .before .before .before .before .before .before .before .before .before .before .before .before .before .before .pre .1) (c .before .before .before .before .before .before .before .before .before .before .before .before .before .before .before .before .before .before .before .before .before .with-value .ensures) (c .before .before .before .before .before .before .before .before .before .before .before .before .before .before .before .before .before .before .before .code-here .ensures) (c .before .before .before .before .before .before .before .before .before .before .before .before .before .before .before .allows .ensures) (c .before .before .before .before .before .before .before .before .before .before .before .before .before .before .if1 .left) (c .before .before .before .before .before .before .before .before .before .before .before .before .before .before .before .before .before .growth .ensures) (c .before .before .before .before .before .before .before .before .before .before .before .before .before .fits2 .ensures) (c .before .before .before .before .before .before .before .before .before .before .before .before .if2 .left) (c .before .before .before .before .before .before .before .before .before .put-code .ensures) (c .before .before .before .before .put-name .ensures) (c .before .before .before .before .before .before .before .before .before .before .before .look-up .ensures .0)
 
--- src/lib.rt:170:5
 join-strings-requires : tie.Need-join-strings-requires
 join-strings-requires c κs = attribute-join (c .before .before .before .before .before .before .before .before .before .before .before .before .before .before .before .before .before .before .before .before .before .before .before .before .before .before .before .before .before .before .pre .0) (c .before .before .before .before .before .before .before .before .before .before .before .before .before .before .before .before .before .before .before .before .before .before .before .before .before .before .before .before .before .before .pre .1) (c .before .before .before .before .before .before .before .before .before .before .before .before .before .before .before .before .before .before .before .before .before .before .before .before .before .with-value .ensures) (c .before .before .before .before .before .before .before .before .before .before .before .before .before .before .before .before .before .before .before .before .before .before .before .code-here .ensures) (c .before .before .before .before .before .before .before .before .before .before .before .before .before .before .before .before .before .before .before .allows .ensures) (c .before .before .before .before .before .before .before .before .before .before .before .before .before .before .before .before .before .before .if1 .left) (c .before .before .before .before .before .before .before .before .before .before .before .before .before .before .before .before .before .before .before .before .before .growth .ensures) (c .before .before .before .before .before .before .before .before .before .before .before .before .before .before .before .before .before .fits2 .ensures) (c .before .before .before .before .before .before .before .before .before .before .before .before .before .before .before .before .if2 .left)
 
--- src/lib.rt:171:5
 grow-requires : tie.Need-grow-requires
 grow-requires c κs = attribute-grow (c .before .before .before .before .before .before .before .before .before .before .before .before .before .before .before .before .before .before .before .before .before .before .before .before .before .before .before .before .before .before .before .before .before .before .pre .0) (c .before .before .before .before .before .before .before .before .before .before .before .before .before .before .before .before .before .before .before .before .before .before .before .before .before .before .before .before .before .before .before .before .before .before .pre .1) (c .before .before .before .before .before .before .before .before .before .before .before .before .before .before .before .before .before .before .before .before .before .before .before .before .before .before .before .before .before .with-value .ensures) (c .before .before .before .before .before .before .before .before .before .before .before .before .before .before .before .before .before .before .before .before .before .before .before .before .before .before .before .code-here .ensures) (c .before .before .before .before .before .before .before .before .before .before .before .before .before .before .before .before .before .before .before .before .before .before .before .allows .ensures) (c .before .before .before .before .before .before .before .before .before .before .before .before .before .before .before .before .before .before .before .before .before .before .if1 .left) (c .before .before .before .before .before .before .before .before .before .before .before .before .before .before .before .before .before .before .before .before .before .before .before .before .before .growth .ensures) (c .before .before .before .before .before .before .before .before .before .before .before .before .before .before .before .before .before .before .before .before .before .fits2 .ensures) (c .before .before .before .before .before .before .before .before .before .before .before .before .before .before .before .before .before .before .before .before .if2 .left) (c .before .before .before .join-strings .ensures)
 
--- src/lib.rt:172:9
 after-requires : tie.Need-after-requires
 after-requires c κs = attribute-after (c .before .before .before .before .before .before .before .before .before .before .before .before .before .before .before .before .before .before .before .before .before .before .before .before .before .before .before .before .before .before .before .before .before .before .before .before .before .pre .0) (c .before .before .before .before .before .before .before .before .before .before .before .before .before .before .before .before .before .before .before .before .before .before .before .before .before .before .before .before .before .before .before .before .before .before .before .before .before .pre .1) (c .before .before .before .before .before .before .before .before .before .before .before .before .before .before .before .before .before .before .before .before .before .before .before .before .before .before .before .before .before .before .before .before .with-value .ensures) (c .before .before .before .before .before .before .before .before .before .before .before .before .before .before .before .before .before .before .before .before .before .before .before .before .before .before .before .before .before .before .code-here .ensures) (c .before .before .before .before .before .before .before .before .before .before .before .before .before .before .before .before .before .before .before .before .before .before .before .before .before .before .allows .ensures) (c .before .before .before .before .before .before .before .before .before .before .before .before .before .before .before .before .before .before .before .before .before .before .before .before .before .if1 .left) (c .before .before .before .before .before .before .before .before .before .before .before .before .before .before .before .before .before .before .before .before .before .before .before .before .before .before .before .before .growth .ensures) (c .before .before .before .before .before .before .before .before .before .before .before .before .before .before .before .before .before .before .before .before .before .before .before .before .fits2 .ensures) (c .before .before .before .before .before .before .before .before .before .before .before .before .before .before .before .before .before .before .before .before .before .before .before .if2 .left)
 
--- src/lib.rt:173:5
 answer-requires-3 : tie.Need-answer-requires-3
 answer-requires-3 c κs = search needs
 
--- src/lib.rt:111:1
 same-length-3 : tie.Need-same-length-3
 same-length-3 c = c .before .before .before .before .before .before .before .before .before .before .before .stream3 .given ∙ c .before .before .before .before .before .before .before .before .before .before .before .before .before .before .before .before .stream2 .given ∙ c .before .before .before .before .before .before .before .before .before .before .before .before .before .before .before .before .before .before .before .before .before .stream .given
 
--- src/lib.rt:111:1
 same-length-4 : tie.Need-same-length-4
 same-length-4 c = search needs
 
--- src/lib.rt:111:1
 returns-3 : tie.Need-returns-3
 unfolding settingsFrom
 returns-3 c = rw (c .answer3 .ensures) (attribute-written (c .before .before .before .before .before .before .before .before .before .before .before .before .before .before .before .before .before .before .before .before .before .before .before .before .before .before .before .before .before .before .before .before .before .before .before .before .before .before .before .pre .0) (c .before .before .before .before .before .before .before .before .before .before .before .before .before .before .before .before .before .before .before .before .before .before .before .before .before .before .before .before .before .before .before .before .before .before .before .before .before .before .before .pre .1) (c .before .before .before .before .before .before .before .before .before .before .before .before .before .before .before .before .before .before .before .before .before .before .before .before .before .before .before .before .before .before .before .before .before .before .with-value .ensures) (c .before .before .before .before .before .before .before .before .before .before .before .before .before .before .before .before .before .before .before .before .before .before .before .before .before .before .before .before .before .before .before .before .code-here .ensures) (c .before .before .before .before .before .before .before .before .before .before .before .before .before .before .before .before .before .before .before .before .before .before .before .before .before .before .before .before .allows .ensures) (c .before .before .before .before .before .before .before .before .before .before .before .before .before .before .before .before .before .before .before .before .before .before .before .before .before .before .before .if1 .left) (c .before .before .before .before .before .before .before .before .before .before .before .before .before .before .before .before .before .before .before .before .before .before .before .before .before .before .before .before .before .before .growth .ensures) (c .before .before .before .before .before .before .before .before .before .before .before .before .before .before .before .before .before .before .before .before .before .before .before .before .before .before .fits2 .ensures) (c .before .before .before .before .before .before .before .before .before .before .before .before .before .before .before .before .before .before .before .before .before .before .before .before .before .if2 .left) (c .before .before .before .before .before .before .before .before .before .before .before .before .before .before .before .before .before .before .before .before .before .before .put-code .ensures) (c .before .before .before .before .before .before .before .before .before .before .before .before .before .before .before .before .before .put-name .ensures) (c .before .before .before .before .before .before .before .before .before .before .before .before .before .before .before .before .before .before .before .before .before .before .before .before .look-up .ensures .0) (c .before .before .before .before .before .before .before .before .before .before .before .before .put-value .ensures) (c .before .before .before .before .before .before .before .before .join-strings .ensures) (c .before .before .before .before .grow .ensures) (c .before .after .ensures))

@@ -7,78 +7,52 @@ use Rattle.settings.specs.Meant.{settingsFrom}
 use borrow.Author.Needs.{needs}
 use Rattle.write_new.proofs.add_element.Statement.{statement}
 use Rattle.write_new.proofs.add_element.Tie as tie
-use Rattle.write_new.proofs.add_element.Reads as reads
-use Rattle.write_new.proofs.add_element.Lts as lts
-use Rattle.grammar_update.proofs.after.Reads as after-reads
-use Rattle.grammar_update.proofs.fits.Reads as fits-reads
-use Rattle.grammar_update.proofs.growth.Reads as growth-reads
-use Rattle.mem_state.proofs.grow.Reads as grow-reads
-use Rattle.mem_state.proofs.join_strings.Reads as join-strings-reads
-use Rattle.stepped.proofs.answer.Reads as answer-reads
-use Rattle.write_content.proofs.put_name.Reads as put-name-reads
-use Rattle.write_event.proofs.code_here.Reads as code-here-reads
-use Rattle.write_production.proofs.put_code.Reads as put-code-reads
 
--- src/lib.rt:50:9
 code-here-requires : tie.Need-code-here-requires
 code-here-requires c κs = element-here (c .before .before .before .before .before .pre .0) (c .before .before .before .before .before .pre .1)
 
--- src/lib.rt:51:9
 growth-requires : tie.Need-growth-requires
 growth-requires c κs = element-growth (c .before .before .before .before .before .before .before .pre .0) (c .before .before .before .before .before .before .before .pre .1)
 
--- src/lib.rt:52:9
 fits-requires : tie.Need-fits-requires
 fits-requires c κs = search needs
 
--- src/lib.rt:53:9
 answer-requires : tie.Need-answer-requires
 answer-requires c κs = search needs
 
--- src/lib.rt:53:9
 same-length : tie.Need-same-length
 same-length c = search needs
 
--- src/lib.rt:53:9
 returns : tie.Need-returns
 unfolding settingsFrom numberOf
 returns c = rw (c .answer .ensures) (element-limit (c .before .before .before .before .before .before .before .before .before .before .before .pre .0) (c .before .before .before .before .before .before .before .before .before .before .before .pre .1) (c .before .before .before .before .before .code-here .ensures) (c .before .before .before .growth .ensures) (c .before .before .fits2 .ensures) (c .before .if1 .taken))
 
--- src/lib.rt:56:9
 put-code-requires : tie.Need-put-code-requires
 unfolding settingsFrom
 put-code-requires c κs = element-code (c .before .before .before .before .before .before .before .before .before .before .before .pre .0) (c .before .before .before .before .before .before .before .before .before .before .before .pre .1) (c .before .before .before .before .before .code-here .ensures) (c .before .before .before .growth .ensures) (c .before .before .fits2 .ensures) (c .before .if1 .left)
 
--- src/lib.rt:57:9
 put-name-requires : tie.Need-put-name-requires
 unfolding settingsFrom
 put-name-requires c κs = element-name (c .before .before .before .before .before .before .before .before .before .before .before .before .before .before .before .before .pre .0) (c .before .before .before .before .before .before .before .before .before .before .before .before .before .before .before .before .pre .1) (c .before .before .before .before .before .before .before .before .before .before .code-here .ensures) (c .before .before .before .before .before .before .before .before .growth .ensures) (c .before .before .before .before .before .before .before .fits2 .ensures) (c .before .before .before .before .before .before .if1 .left) (c .before .before .before .before .put-code .ensures)
 
--- src/lib.rt:69:5
 join-strings-requires : tie.Need-join-strings-requires
 join-strings-requires c κs = element-join (c .before .before .before .before .before .before .before .before .before .before .before .before .before .before .before .before .before .before .before .before .pre .0) (c .before .before .before .before .before .before .before .before .before .before .before .before .before .before .before .before .before .before .before .before .pre .1) (c .before .before .before .before .before .before .before .before .before .before .before .before .before .before .code-here .ensures) (c .before .before .before .before .before .before .before .before .before .before .before .before .growth .ensures) (c .before .before .before .before .before .before .before .before .before .before .before .fits2 .ensures) (c .before .before .before .before .before .before .before .before .before .before .if1 .left)
 
--- src/lib.rt:70:5
 grow-requires : tie.Need-grow-requires
 grow-requires c κs = element-grow (c .before .before .before .before .before .before .before .before .before .before .before .before .before .before .before .before .before .before .before .before .before .before .before .before .pre .0) (c .before .before .before .before .before .before .before .before .before .before .before .before .before .before .before .before .before .before .before .before .before .before .before .before .pre .1) (c .before .before .before .before .before .before .before .before .before .before .before .before .before .before .before .before .before .before .code-here .ensures) (c .before .before .before .before .before .before .before .before .before .before .before .before .before .before .before .before .growth .ensures) (c .before .before .before .before .before .before .before .before .before .before .before .before .before .before .before .fits2 .ensures) (c .before .before .before .before .before .before .before .before .before .before .before .before .before .before .if1 .left) (c .before .before .before .join-strings .ensures)
 
--- src/lib.rt:71:9
 after-requires : tie.Need-after-requires
 after-requires c κs = element-after (c .before .before .before .before .before .before .before .before .before .before .before .before .before .before .before .before .before .before .before .before .before .before .before .before .before .before .before .pre .0) (c .before .before .before .before .before .before .before .before .before .before .before .before .before .before .before .before .before .before .before .before .before .before .before .before .before .before .before .pre .1) (c .before .before .before .before .before .before .before .before .before .before .before .before .before .before .before .before .before .before .before .before .before .code-here .ensures) (c .before .before .before .before .before .before .before .before .before .before .before .before .before .before .before .before .before .before .before .growth .ensures) (c .before .before .before .before .before .before .before .before .before .before .before .before .before .before .before .before .before .before .fits2 .ensures) (c .before .before .before .before .before .before .before .before .before .before .before .before .before .before .before .before .before .if1 .left)
 
--- src/lib.rt:72:5
 answer-requires-2 : tie.Need-answer-requires-2
 answer-requires-2 c κs = search needs
 
--- src/lib.rt:27:1
 same-length-2 : tie.Need-same-length-2
 same-length-2 c = c .before .before .before .before .before .before .before .before .before .before .before .stream2 .given ∙ c .before .before .before .before .before .before .before .before .before .before .before .before .before .before .before .before .stream .given
 
--- src/lib.rt:27:1
 same-length-3 : tie.Need-same-length-3
 same-length-3 c = search needs
 
--- src/lib.rt:27:1
 returns-2 : tie.Need-returns-2
 unfolding settingsFrom
 returns-2 c = rw (c .answer2 .ensures) (element-written (c .before .before .before .before .before .before .before .before .before .before .before .before .before .before .before .before .before .before .before .before .before .before .before .before .before .before .before .before .before .pre .0) (c .before .before .before .before .before .before .before .before .before .before .before .before .before .before .before .before .before .before .before .before .before .before .before .before .before .before .before .before .before .pre .1) (c .before .before .before .before .before .before .before .before .before .before .before .before .before .before .before .before .before .before .before .before .before .before .before .code-here .ensures) (c .before .before .before .before .before .before .before .before .before .before .before .before .before .before .before .before .before .before .before .before .before .growth .ensures) (c .before .before .before .before .before .before .before .before .before .before .before .before .before .before .before .before .before .before .before .before .fits2 .ensures) (c .before .before .before .before .before .before .before .before .before .before .before .before .before .before .before .before .before .before .before .if1 .left) (c .before .before .before .before .before .before .before .before .before .before .before .before .before .before .before .before .before .put-code .ensures) (c .before .before .before .before .before .before .before .before .before .before .before .before .put-name .ensures) (c .before .before .before .before .before .before .before .before .join-strings .ensures) (c .before .before .before .before .grow .ensures) (c .before .after .ensures))

@@ -13,102 +13,72 @@ use Rattle.spec_exi.specs.Event.{kindOf}
 use borrow.Author.Needs.{needs}
 use Rattle.write_new.proofs.new_attribute.Statement.{statement}
 use Rattle.write_new.proofs.new_attribute.Tie as tie
-use Rattle.write_new.proofs.new_attribute.Reads as reads
-use Rattle.write_new.proofs.new_attribute.Lts as lts
-use Rattle.grammar_codes.proofs.place_of.Reads as place-of-reads
-use Rattle.stepped.proofs.answer.Reads as answer-reads
-use Rattle.text.proofs.look_up.Reads as look-up-reads
-use Rattle.write_event.proofs.is_inside.Reads as is-inside-reads
-use Rattle.write_new.proofs.add_attribute.Reads as add-attribute-reads
-use Rattle.write_qname.proofs.judge_name.Reads as judge-name-reads
-use Rattle.write_values.proofs.judge_value.Reads as judge-value-reads
 
--- src/lib.rt:195:9
 place-of-requires : tie.Need-place-of-requires
 place-of-requires c κs = search needs
 
--- src/lib.rt:197:9
 answer-requires : tie.Need-answer-requires
 answer-requires c κs = search needs
 
--- src/lib.rt:197:9
 returns : tie.Need-returns
 unfolding settingsFrom kindOf meaning kindNumber numberOf
 returns c = rw (c .answer .ensures) (first-shape (c .before .before .before .before .before .before .before .before .pre) _ _ _ (Attribute _ _ _) refl (c .before .before .before .place-of .ensures) (c .before .if1 .taken))
 
--- src/lib.rt:199:16
 is-inside-requires : tie.Need-is-inside-requires
 is-inside-requires c κs = search needs
 
--- src/lib.rt:199:52
 is-inside-requires-2 : tie.Need-is-inside-requires-2
 is-inside-requires-2 c κs = search needs
 
--- src/lib.rt:200:17
 is-inside-requires-3 : tie.Need-is-inside-requires-3
 is-inside-requires-3 c κs = search needs
 
--- src/lib.rt:201:9
 answer-requires-2 : tie.Need-answer-requires-2
 answer-requires-2 c κs = search needs
 
--- src/lib.rt:201:9
 returns-2 : tie.Need-returns-2
 unfolding settingsFrom kindOf meaning kindNumber numberOf
 returns-2 c = rw (c .answer2 .ensures) (first-outside (c .before .before .before .before .before .before .before .before .before .before .before .before .pre) _ _ _ (Attribute _ _ _) refl (c .before .before .before .before .before .before .before .place-of .ensures) (c .before .before .before .before .before .if1 .left) (attribute-lies _ _ _ _ (c .before .before .before .before .is-inside .ensures) (c .before .before .before .is-inside2 .ensures) (c .before .before .is-inside3 .ensures)) (c .before .if2 .taken))
 
--- src/lib.rt:203:9
 judge-name-requires : tie.Need-judge-name-requires
 judge-name-requires c κs = search needs
 
--- src/lib.rt:205:9
 answer-requires-3 : tie.Need-answer-requires-3
 answer-requires-3 c κs = search needs
 
--- src/lib.rt:205:9
 same-length : tie.Need-same-length
 same-length c = search needs
 
--- src/lib.rt:205:9
 returns-3 : tie.Need-returns-3
 unfolding settingsFrom kindOf meaning kindNumber
 returns-3 c = rw (c .answer3 .ensures) (first-stopped (c .before .before .before .before .before .before .before .before .before .before .before .before .before .before .before .before .pre) _ _ _ (Attribute _ _ _) refl (c .before .before .before .before .before .before .before .before .before .before .before .place-of .ensures) (c .before .before .before .before .before .before .before .before .before .if1 .left) (attribute-lies _ _ _ _ (c .before .before .before .before .before .before .before .before .is-inside .ensures) (c .before .before .before .before .before .before .before .is-inside2 .ensures) (c .before .before .before .before .before .before .is-inside3 .ensures)) (c .before .before .before .before .before .if2 .left) (attribute-refused (content-pre (c .before .before .before .before .before .before .before .before .before .before .before .before .before .before .before .before .pre)) (c .before .before .before .judge-name .ensures) _ (omega (arith, c .before .if3 .taken))) (omega (arith, c .before .if3 .taken)))
 
--- src/lib.rt:208:9
 look-up-requires : tie.Need-look-up-requires
 look-up-requires c κs = search needs
 
--- src/lib.rt:209:9
 judge-value-requires : tie.Need-judge-value-requires
 judge-value-requires c κs = value-asks (content-pre (c .before .before .before .before .before .before .before .before .before .before .before .before .before .before .before .before .before .before .pre)) (c .before .before .before .before .before .judge-name .ensures) (c .before .before .before .if3 .left)
 
--- src/lib.rt:211:9
 answer-requires-4 : tie.Need-answer-requires-4
 answer-requires-4 c κs = search needs
 
--- src/lib.rt:211:9
 same-length-2 : tie.Need-same-length-2
 same-length-2 c = search needs
 
--- src/lib.rt:211:9
 returns-4 : tie.Need-returns-4
 unfolding settingsFrom kindOf meaning kindNumber
 returns-4 c = rw (c .answer4 .ensures) (first-stopped (c .before .before .before .before .before .before .before .before .before .before .before .before .before .before .before .before .before .before .before .before .before .before .pre) _ _ _ (Attribute _ _ _) refl (c .before .before .before .before .before .before .before .before .before .before .before .before .before .before .before .before .before .place-of .ensures) (c .before .before .before .before .before .before .before .before .before .before .before .before .before .before .before .if1 .left) (attribute-lies _ _ _ _ (c .before .before .before .before .before .before .before .before .before .before .before .before .before .before .is-inside .ensures) (c .before .before .before .before .before .before .before .before .before .before .before .before .before .is-inside2 .ensures) (c .before .before .before .before .before .before .before .before .before .before .before .before .is-inside3 .ensures)) (c .before .before .before .before .before .before .before .before .before .before .before .if2 .left) (attribute-value-refused (content-pre (c .before .before .before .before .before .before .before .before .before .before .before .before .before .before .before .before .before .before .before .before .before .before .pre)) (c .before .before .before .before .before .before .before .before .before .judge-name .ensures) _ (c .before .before .before .before .before .before .before .if3 .left) (c .before .before .before .before .before .look-up .ensures .0) (c .before .before .before .judge-value .ensures) (omega (arith, c .before .if4 .taken))) (omega (arith, c .before .if4 .taken)))
 
--- src/lib.rt:213:5
 add-attribute-requires : tie.Need-add-attribute-requires
 unfolding settingsFrom kindOf meaning kindNumber
 add-attribute-requires c κs = (c .before .before .before .before .before .before .before .before .before .before .before .before .before .before .before .before .before .before .before .before .before .before .before .pre, record { accepted = first-accepted (c .before .before .before .before .before .before .before .before .before .before .before .before .before .before .before .before .before .before .before .before .before .before .before .pre) _ _ _ (Attribute _ _ _) refl (c .before .before .before .before .before .before .before .before .before .before .before .before .before .before .before .before .before .before .place-of .ensures) (c .before .before .before .before .before .before .before .before .before .before .before .before .before .before .before .before .if1 .left) (attribute-lies _ _ _ _ (c .before .before .before .before .before .before .before .before .before .before .before .before .before .before .before .is-inside .ensures) (c .before .before .before .before .before .before .before .before .before .before .before .before .before .before .is-inside2 .ensures) (c .before .before .before .before .before .before .before .before .before .before .before .before .before .is-inside3 .ensures)) (c .before .before .before .before .before .before .before .before .before .before .before .before .if2 .left) (attribute-judged (content-pre (c .before .before .before .before .before .before .before .before .before .before .before .before .before .before .before .before .before .before .before .before .before .before .before .pre)) (c .before .before .before .before .before .before .before .before .before .before .judge-name .ensures) _ (c .before .before .before .before .before .before .before .before .if3 .left) (c .before .before .before .before .before .before .look-up .ensures .0) (c .before .before .before .before .judge-value .ensures) (c .before .before .if4 .left)) })
 
--- src/lib.rt:177:1
 same-length-3 : tie.Need-same-length-3
 same-length-3 c = search needs
 
--- src/lib.rt:177:1
 same-length-4 : tie.Need-same-length-4
 same-length-4 c = search needs
 
--- src/lib.rt:177:1
 returns-5 : tie.Need-returns-5
 returns-5 c = search needs
 
