@@ -14,8 +14,8 @@ learned-name-requires c κs = search needs
 is-marked-requires : tie.Need-is-marked-requires
 is-marked-requires c κs = search needs
 
-write-event-requires : tie.Need-write-event-requires
-write-event-requires c κs = search needs
+new-attribute-requires : tie.Need-new-attribute-requires
+new-attribute-requires c κs = search needs
 
 same-length : tie.Need-same-length
 same-length c = search needs
@@ -46,7 +46,7 @@ attribute-spec =
     (tie.spec
     learned-name-requires
     is-marked-requires
-    write-event-requires
+    new-attribute-requires
     same-length
     same-length-2
     returns

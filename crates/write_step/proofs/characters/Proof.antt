@@ -10,8 +10,8 @@ use Rattle.write_step.proofs.characters.Tie as tie
 find-learned-requires : tie.Need-find-learned-requires
 find-learned-requires c κs = search needs
 
-write-event-requires : tie.Need-write-event-requires
-write-event-requires c κs = search needs
+first-characters-requires : tie.Need-first-characters-requires
+first-characters-requires c κs = search needs
 
 same-length : tie.Need-same-length
 same-length c = search needs
@@ -41,7 +41,7 @@ characters-spec =
     tie.close
     (tie.spec
     find-learned-requires
-    write-event-requires
+    first-characters-requires
     same-length
     same-length-2
     returns

@@ -37,8 +37,8 @@ returns-2 : tie.Need-returns-2
 unfolding settingsFrom
 returns-2 c = c .before .before .end-tag .ensures .steps _ refl refl _ _
 
-write-event-requires : tie.Need-write-event-requires
-write-event-requires c κs = search needs
+first-end-requires : tie.Need-first-end-requires
+first-end-requires c κs = search needs
 
 same-length-5 : tie.Need-same-length-5
 same-length-5 c = search needs
@@ -62,7 +62,7 @@ end-element-spec =
     same-length-3
     same-length-4
     returns-2
-    write-event-requires
+    first-end-requires
     same-length-5
     same-length-6
     returns-3)

@@ -14,8 +14,8 @@ learned-name-requires c κs = search needs
 has-grammar-requires : tie.Need-has-grammar-requires
 has-grammar-requires c κs = search needs
 
-write-event-requires : tie.Need-write-event-requires
-write-event-requires c κs = search needs
+new-element-requires : tie.Need-new-element-requires
+new-element-requires c κs = search needs
 
 same-length : tie.Need-same-length
 same-length c = search needs
@@ -46,7 +46,7 @@ start-element-spec =
     (tie.spec
     learned-name-requires
     has-grammar-requires
-    write-event-requires
+    new-element-requires
     same-length
     same-length-2
     returns
