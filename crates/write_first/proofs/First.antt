@@ -180,11 +180,11 @@ module _ {stream work : List ℕ} {c : Core} {n : ℕ} (pre : StepPre stream wor
           pub first-written : {stream′ : List ℕ} {at : ℕ}
               → Put stream (c .at) (judgedBits s text e work c (judgedAs p code x g)) stream′ at
               → {work′ : List ℕ} → work′ ≡ grown c g work₁
-              → {d : Core} → d ≡ coreAfter c at (x .stored) st g n
+              → {d : Core} → d ≡ coreAfter (s .fragment) c at (x .stored) st g n
               → StepPost s opening text (meaning e) stream work c n stream′ work′ (steppedAs 0 d)
           first-written {at = at} q w i =
               step-done pre accepted refl q
               (record {
                 work-is = w ∙ ap (grown c g) joined-same;
-                core-is = i ∙ ap (λ (t : Strings). coreAfter c at (x .stored) t g n) same;
+                core-is = i ∙ ap (λ (t : Strings). coreAfter (s .fragment) c at (x .stored) t g n) same;
               })

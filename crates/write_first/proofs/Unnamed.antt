@@ -128,7 +128,7 @@ module _ {stream work : List ℕ} {c : Core} {n : ℕ} (pre : StepPre stream wor
               (valueBits work (v .partition) (v .id) (c .top) (c .values) y (s .alignment)) stream′ at
               → {work₁ work′ : List ℕ}
               → work₁ ≡ joinedValue (c .values) (c .top) (joiningOf value (v .joins) (v .hash)) work
-              → work′ ≡ grown c g work₁ → {d : Core} → d ≡ coreAfter c at (v .stored) st g n
+              → work′ ≡ grown c g work₁ → {d : Core} → d ≡ coreAfter (s .fragment) c at (v .stored) st g n
               → StepPost s opening text (meaning (Characters value)) stream work c n stream′ work′
               (steppedAs 0 d)
           unfolding kindOf meaning kindNumber contentBits
@@ -221,7 +221,7 @@ module _ {stream work : List ℕ} {c : Core} {n : ℕ} (pre : StepPre stream wor
         pub end-written : {stream′ : List ℕ} {at : ℕ}
             → Put stream (c .at) (codeBitsAs s (c .mode) p code) stream′ at
             → {work′ : List ℕ} → work′ ≡ grown c g work
-            → {d : Core} → d ≡ coreAfter c at (c .stored) st g n → (opening text : List ℕ)
+            → {d : Core} → d ≡ coreAfter (s .fragment) c at (c .stored) st g n → (opening text : List ℕ)
             → StepPost s opening text (meaning EndElement) stream work c n stream′ work′
             (steppedAs 0 d)
         unfolding kindOf meaning kindNumber contentBits judgedBits

@@ -76,7 +76,7 @@ fn add_characters(
         v.hash,
     );
     mem_state::grow(work, c, g);
-    let core = grammar_update::after(c, at, v.stored, s, g, n);
+    let core = grammar_update::after(o.fragment, c, at, v.stored, s, g, n);
     stepped::answer(0, core)
 }
 
@@ -133,6 +133,6 @@ pub fn first_end(o: Settings, stream: &mut [u8], n: usize, c: Core, work: &mut [
     }
     let at = write_production::put_code(o, stream, c.at, c.mode, place, code);
     mem_state::grow(work, c, g);
-    let core = grammar_update::after(c, at, c.stored, s, g, n);
+    let core = grammar_update::after(o.fragment, c, at, c.stored, s, g, n);
     stepped::answer(0, core)
 }

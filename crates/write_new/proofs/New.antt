@@ -111,7 +111,7 @@ module _ {stream work : List ℕ} {c : Core} {n : ℕ} (pre : StepPre stream wor
               (namedBits work (code .learned) c st (partAt text uri) (partAt text local)
               (s .alignment)) stream′ at
               → {work₁ work′ : List ℕ} → work₁ ≡ joinedStrings c st work → work′ ≡ grown c g work₁
-              → {d : Core} → d ≡ coreAfter c at stored st g n
+              → {d : Core} → d ≡ coreAfter (s .fragment) c at stored st g n
               → StepPost s opening text (meaning (StartElement uri local)) stream work c n stream′
               work′ (steppedAs 0 d)
           unfolding kindOf meaning kindNumber contentBits
@@ -217,7 +217,7 @@ module _ {stream work : List ℕ} {c : Core} {n : ℕ} (pre : StepPre stream wor
                   (valueBits work (v .partition) (v .id) (old .«name_row») (c .values) y
                   (s .alignment)) stream′ at
                   → {work₁ work′ : List ℕ} → work₁ ≡ joinedStrings c st work
-                  → work′ ≡ grown c g work₁ → {d : Core} → d ≡ coreAfter c at (v .stored) st g n
+                  → work′ ≡ grown c g work₁ → {d : Core} → d ≡ coreAfter (s .fragment) c at (v .stored) st g n
                   → StepPost s opening text (meaning (Attribute uri local value)) stream work c n
                   stream′ work′ (steppedAs 0 d)
               unfolding kindOf meaning kindNumber

@@ -68,7 +68,7 @@ fn add_element(
     );
     mem_state::join_strings(work, c, s);
     mem_state::grow(work, c, g);
-    let core = grammar_update::after(c, at, stored, s, g, n);
+    let core = grammar_update::after(o.fragment, c, at, stored, s, g, n);
     stepped::answer(0, core)
 }
 
@@ -182,7 +182,7 @@ fn add_attribute(
     );
     mem_state::join_strings(work, c, t);
     mem_state::grow(work, c, g);
-    let core = grammar_update::after(c, at, v.stored, t, g, n);
+    let core = grammar_update::after(o.fragment, c, at, v.stored, t, g, n);
     stepped::answer(0, core)
 }
 
