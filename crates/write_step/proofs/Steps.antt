@@ -79,6 +79,9 @@ attribute-tests row mode marked e =
     let (some, mark) = or-false (eqb row 0) marked first in
     (omega (arith, eqb-false row 0 some), mark, eqb-true mode inTag (not-false (eqb mode inTag) tag))
 
+pub tag-inner : {mode : ℕ} → mode ≡ inTag → inTag ≤ mode
+tag-inner e = omega (arith, e)
+
 -- The same, were it the first event.
 pub as-first : {stream work : List ℕ} {c : Core} {n : ℕ} → StepPre stream work c n
     → StepPre stream work c 0

@@ -1,9 +1,8 @@
-use native.Mathlib.Omega.{arith}
 use Rattle.write_step.proofs.Steps.{attribute-step}
 use mathlib.Core.Path.{refl, sym, _∙_}
 use Rattle.spec_exi.specs.Grammar.{kindNumber}
 use Rattle.settings.specs.Meant.{settingsFrom}
-use Rattle.write_step.proofs.Steps.{attribute-tests, as-first}
+use Rattle.write_step.proofs.Steps.{attribute-tests, tag-inner, as-first}
 use borrow.Author.Needs.{needs}
 use Rattle.write_step.proofs.attribute.Statement.{statement}
 use Rattle.write_step.proofs.attribute.Tie as tie
@@ -28,7 +27,7 @@ returns c = search needs
 
 known-attribute-requires : tie.Need-known-attribute-requires
 unfolding kindNumber
-known-attribute-requires c κs = let t = attribute-tests _ _ _ (c .before .before .if1 .left) in (as-first (c .before .before .before .before .before .before .before .before .before .before .before .before .before .pre), (record { found = (c .before .before .before .before .before .before .before .learned-name .ensures) .found (t .0); some = t .0; inner = omega (arith, t .2) }, (t .2, ((c .before .before .before .before .before .before .before .learned-name .ensures) .low, sym (c .before .before .before .before .before .is-marked .ensures) ∙ t .1))))
+known-attribute-requires c κs = let t = attribute-tests _ _ _ (c .before .before .if1 .left) in (as-first (c .before .before .before .before .before .before .before .before .before .before .before .before .before .pre), (record { found = (c .before .before .before .before .before .before .before .learned-name .ensures) .found (t .0); some = t .0; inner = tag-inner (t .2) }, (t .2, ((c .before .before .before .before .before .before .before .learned-name .ensures) .low, sym (c .before .before .before .before .before .is-marked .ensures) ∙ t .1))))
 
 same-length-3 : tie.Need-same-length-3
 same-length-3 c = search needs

@@ -24,7 +24,7 @@ returns c = search needs
 
 known-characters-requires : tie.Need-known-characters-requires
 unfolding kindNumber
-known-characters-requires c κs = let t = characters-tests _ _ (c .before .before .if1 .left) in (c .before .before .before .before .before .before .before .before .before .pre, record { found = c .before .before .before .find-learned .ensures; some = t .0; inner = t .1 })
+known-characters-requires c κs = let t = characters-tests _ _ (c .before .before .if1 .left) in (c .before .before .before .before .before .before .before .before .before .before .pre, record { found = c .before .before .before .before .find-learned .ensures; some = t .0; inner = t .1 })
 
 same-length-3 : tie.Need-same-length-3
 same-length-3 c = search needs

@@ -12,7 +12,7 @@ find-learned-requires c κs = search needs
 
 known-end-requires : tie.Need-known-end-requires
 unfolding kindNumber
-known-end-requires c κs = let t = end-tests _ _ (c .before .before .if1 .taken) in (c .before .before .before .before .before .before .before .before .before .pre, record { found = c .before .before .before .find-learned .ensures; some = t .0; inner = t .1 })
+known-end-requires c κs = let t = end-tests _ _ (c .before .before .if1 .taken) in (c .before .before .before .before .before .before .before .before .pre, record { found = c .before .before .before .before .find-learned .ensures; some = t .0; inner = t .1 })
 
 same-length : tie.Need-same-length
 same-length c = search needs
@@ -22,10 +22,10 @@ same-length-2 c = search needs
 
 returns : tie.Need-returns
 unfolding settingsFrom
-returns c = c .before .before .known-end .ensures .steps _ refl refl _ _
+returns c = c .before .before .known-end .ensures .steps _ refl refl
 
 end-tag-requires : tie.Need-end-tag-requires
-end-tag-requires c κs = (c .before .before .before .before .before .before .before .before .before .before .before .pre, (c .before .before .if2 .taken, none-found (end-none _ _ (c .before .before .before .before .if1 .left) (c .before .before .if2 .taken)) (c .before .before .before .before .before .find-learned .ensures)))
+end-tag-requires c κs = (c .before .before .before .before .before .before .before .before .before .before .pre, (c .before .before .if2 .taken, none-found (end-none _ _ (c .before .before .before .before .if1 .left) (c .before .before .if2 .taken)) (c .before .before .before .before .before .before .find-learned .ensures)))
 
 same-length-3 : tie.Need-same-length-3
 same-length-3 c = search needs
@@ -35,7 +35,7 @@ same-length-4 c = search needs
 
 returns-2 : tie.Need-returns-2
 unfolding settingsFrom
-returns-2 c = c .before .before .end-tag .ensures .steps _ refl refl _ _
+returns-2 c = c .before .before .end-tag .ensures .steps _ refl refl
 
 first-end-requires : tie.Need-first-end-requires
 first-end-requires c κs = search needs
