@@ -1,6 +1,5 @@
 use Rattle.write_step.proofs.Steps.{none-found, end-tests, end-none}
 use mathlib.Core.Path.{refl}
-use native.Mathlib.Omega.{arith}
 use Rattle.spec_exi.specs.Grammar.{kindNumber}
 use Rattle.settings.specs.Meant.{settingsFrom}
 use borrow.Author.Needs.{needs}
