@@ -207,7 +207,7 @@ pub fn judge_content(opening: &[u32], text: &[u32], e: Event, c: Core, work: &[u
 // ---- the writing
 
 // A name, where no learned production carries it.
-fn put_name(
+pub fn put_name(
     aligned: bool,
     stream: &mut [u8],
     at: usize,

@@ -92,7 +92,7 @@ fn places_fit(text: &[u32], e: Event) -> bool
 
 // The code of an event of this kind, whose name has this row, 0 where it has none: a learned
 // production's where one fits.
-fn code_here(c: Core, kind: u32, name: u32, work: &[u32]) -> Code
+pub fn code_here(c: Core, kind: u32, name: u32, work: &[u32]) -> Code
     requires { ⌜ CodeHerePre (now work) c name ⌝ }
     ensures { λ r. ⌜ CodeHere (now (work .entry)) c kind name r ⌝ }
 {

@@ -44,22 +44,22 @@ pub fn put_events(
         (now (text .entry)) (now (stream .entry)) (now (work .entry)) st (now (stream .exit))
         (now (work .exit)) r ⌝ }
 {
-    let mut t = st;
+    let mut c = st.core;
+    let mut opened = st.opened;
     let mut n: usize = 0;
     let mut cell: usize = 0;
     while cell < events.len() {
         if n == MAX_EVENTS {
-            return stopped(LIMIT, n, t.core.at);
+            return stopped(LIMIT, n, c.at);
         }
         if events.len() - cell < CELLS_PER_EVENT {
-            return stopped(SHAPE, n, t.core.at);
+            return stopped(SHAPE, n, c.at);
         }
         match event::load(events, cell) {
             Loaded::Shape => {
-                return stopped(SHAPE, n, t.core.at);
+                return stopped(SHAPE, n, c.at);
             }
             Loaded::Whole(e) => {
-                let c = t.core;
                 let r = write_step::step(o, stream, opening, text, e, n, c, work);
                 if r.number != 0 {
                     return stopped(r.number, n, c.at);
@@ -67,10 +67,10 @@ pub fn put_events(
                 let before = c.depth;
                 let after = r.depth;
                 if before < after {
-                    t.opened[before] = r.top as u16;
+                    opened[before] = r.top as u16;
                 }
-                let top = open_elements::innermost(&t.opened, after);
-                let d = Core {
+                let top = open_elements::innermost(&opened, after);
+                c = Core {
                     at: r.at,
                     stored: r.stored,
                     uris: r.uris,
@@ -83,14 +83,13 @@ pub fn put_events(
                     depth: after,
                     tag: r.tag,
                 };
-                t.core = d;
             }
         }
         n += 1;
         cell += CELLS_PER_EVENT;
     }
-    if t.core.mode != IS_OVER {
-        return stopped(SHAPE, n, t.core.at);
+    if c.mode != IS_OVER {
+        return stopped(SHAPE, n, c.at);
     }
-    stopped(0, 0, t.core.at)
+    stopped(0, 0, c.at)
 }

@@ -80,7 +80,7 @@ attribute-tests row mode marked e =
     (omega (arith, eqb-false row 0 some), mark, eqb-true mode inTag (not-false (eqb mode inTag) tag))
 
 pub tag-inner : {mode : ℕ} → mode ≡ inTag → inTag ≤ mode
-tag-inner e = omega arith
+tag-inner e = omega (arith, e)
 
 -- The same, were it the first event.
 pub as-first : {stream work : List ℕ} {c : Core} {n : ℕ} → StepPre stream work c n

@@ -1,5 +1,7 @@
-// One event of a list, written: by a quick step where one applies, else by the general path. What a
-// step asks and leaves is in specs of `write_event`.
+// One event of a list, written: by a quick step where one applies, else by the general path, as
+// comments and instructions are. What a step asks and leaves is in specs of `write_event`.
+ghost use Prim.Native.Nat.{ℕ};
+ghost use mathlib.Core.List.{List};
 ghost use Rattle.settings.specs.Meant.{settingsFrom};
 ghost use Rattle.event.specs.Cells.{meaning};
 ghost use Rattle.event.specs.declared.Event.the-variants.{StartDocument, EndDocument};
@@ -91,8 +93,7 @@ fn start_element(
     let f = write_known::learned_name(opening, text, SE, uri, local, c, work);
     let has = mem_learned::has_grammar(work, f.name);
     if (f.row == 0) | !has | (MAX_OPEN <= c.depth) | (c.mode < IN_TAG) {
-        let e = Event::StartElement(uri, local);
-        return write_event::write_event(o, stream, opening, text, e, n, c, work);
+        return write_new::new_element(o, stream, opening, text, uri, local, n, c, work);
     }
     write_tags::known_element(o.aligned, stream, f.name, f.row, n, c, work)
 }
@@ -118,8 +119,7 @@ fn attribute(
     let f = write_known::learned_name(opening, text, AT, uri, local, c, work);
     let marked = mem_marks::is_marked(work, f.name, c.tag);
     if (f.row == 0) | marked | (c.mode != IN_TAG) {
-        let e = Event::Attribute(uri, local, value);
-        return write_event::write_event(o, stream, opening, text, e, n, c, work);
+        return write_new::new_attribute(o, stream, opening, text, uri, local, value, n, c, work);
     }
     write_known::known_attribute(o.aligned, stream, text, value, f.name, f.row, c, work)
 }
@@ -142,25 +142,16 @@ fn characters(
 {
     let row = grammar_match::find_learned(c.mode, c.top, CH, 0, c.learned, work);
     if (row == 0) | (c.mode < IN_TAG) {
-        let e = Event::Characters(value);
-        return write_event::write_event(o, stream, opening, text, e, n, c, work);
+        return write_first::first_characters(o, stream, opening, text, value, n, c, work);
     }
     write_known::known_characters(o.aligned, stream, text, value, row, n, c, work)
 }
 
-fn end_element(
-    o: Settings,
-    stream: &mut [u8],
-    opening: &[u32],
-    text: &[u32],
-    n: usize,
-    c: Core,
-    work: &mut [u32],
-) -> Stepped
+fn end_element(o: Settings, stream: &mut [u8], n: usize, c: Core, work: &mut [u32]) -> Stepped
     requires { ⌜ StepPre (now stream) (now work) c n ⌝ }
     ensures { λ r. ⌜
-        StepPost (settingsFrom o) (now (opening .entry)) (now (text .entry)) (meaning EndElement)
-        (now (stream .entry)) (now (work .entry)) c n (now (stream .exit)) (now (work .exit)) r ⌝ }
+        ((opening text : List ℕ) → StepPost (settingsFrom o) opening text (meaning EndElement)
+        (now (stream .entry)) (now (work .entry)) c n (now (stream .exit)) (now (work .exit)) r) ⌝ }
 {
     let row = grammar_match::find_learned(c.mode, c.top, EE, 0, c.learned, work);
     if (row != 0) & (IN_TAG <= c.mode) {
@@ -169,7 +160,7 @@ fn end_element(
     if c.mode == IN_ELEMENT {
         return write_tags::end_tag(o.aligned, o.fragment, stream, n, c, work);
     }
-    write_event::write_event(o, stream, opening, text, Event::EndElement, n, c, work)
+    write_first::first_end(o, stream, n, c, work)
 }
 
 // Writes one event, before which n have come, after the core's position.
@@ -197,7 +188,7 @@ pub fn step(
         Event::Attribute(uri, local, value) => {
             attribute(o, stream, opening, text, uri, local, value, n, c, work)
         }
-        Event::EndElement => end_element(o, stream, opening, text, n, c, work),
+        Event::EndElement => end_element(o, stream, n, c, work),
         Event::Characters(value) => characters(o, stream, opening, text, value, n, c, work),
         _ => write_event::write_event(o, stream, opening, text, e, n, c, work),
     }

@@ -1,8 +1,8 @@
-use Rattle.write_step.proofs.Steps.{tag-inner, attribute-step}
+use Rattle.write_step.proofs.Steps.{attribute-step}
 use mathlib.Core.Path.{refl, sym, _∙_}
 use Rattle.spec_exi.specs.Grammar.{kindNumber}
 use Rattle.settings.specs.Meant.{settingsFrom}
-use Rattle.write_step.proofs.Steps.{attribute-tests, as-first}
+use Rattle.write_step.proofs.Steps.{attribute-tests, tag-inner, as-first}
 use borrow.Author.Needs.{needs}
 use Rattle.write_step.proofs.attribute.Statement.{statement}
 use Rattle.write_step.proofs.attribute.Tie as tie
@@ -13,8 +13,8 @@ learned-name-requires c κs = search needs
 is-marked-requires : tie.Need-is-marked-requires
 is-marked-requires c κs = search needs
 
-write-event-requires : tie.Need-write-event-requires
-write-event-requires c κs = search needs
+new-attribute-requires : tie.Need-new-attribute-requires
+new-attribute-requires c κs = search needs
 
 same-length : tie.Need-same-length
 same-length c = search needs
@@ -45,7 +45,7 @@ attribute-spec =
     (tie.spec
     learned-name-requires
     is-marked-requires
-    write-event-requires
+    new-attribute-requires
     same-length
     same-length-2
     returns

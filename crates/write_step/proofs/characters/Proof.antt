@@ -1,6 +1,5 @@
 use Rattle.write_step.proofs.Steps.{characters-tests}
 use mathlib.Core.Path.{refl}
-use native.Mathlib.Omega.{arith}
 use Rattle.spec_exi.specs.Grammar.{kindNumber}
 use Rattle.settings.specs.Meant.{settingsFrom}
 use borrow.Author.Needs.{needs}
@@ -10,8 +9,8 @@ use Rattle.write_step.proofs.characters.Tie as tie
 find-learned-requires : tie.Need-find-learned-requires
 find-learned-requires c κs = search needs
 
-write-event-requires : tie.Need-write-event-requires
-write-event-requires c κs = search needs
+first-characters-requires : tie.Need-first-characters-requires
+first-characters-requires c κs = search needs
 
 same-length : tie.Need-same-length
 same-length c = search needs
@@ -24,12 +23,7 @@ returns c = search needs
 
 known-characters-requires : tie.Need-known-characters-requires
 unfolding kindNumber
-known-characters-requires c κs =
-    let else1 = c .before .before in
-    let found = else1 .before .before in
-    let start = found .before .before .before .before .before .before in
-    let t = characters-tests _ _ (else1 .if1 .left) in
-    (start .pre, record { found = found .find-learned .ensures; some = t .0; inner = t .1 })
+known-characters-requires c κs = let t = characters-tests _ _ (c .before .before .if1 .left) in (c .before .before .before .before .before .before .before .before .before .before .pre, record { found = c .before .before .before .before .find-learned .ensures; some = t .0; inner = t .1 })
 
 same-length-3 : tie.Need-same-length-3
 same-length-3 c = search needs
@@ -46,7 +40,7 @@ characters-spec =
     tie.close
     (tie.spec
     find-learned-requires
-    write-event-requires
+    first-characters-requires
     same-length
     same-length-2
     returns

@@ -1,6 +1,5 @@
 use Rattle.write_step.proofs.Steps.{none-found, end-tests, end-none}
 use mathlib.Core.Path.{refl}
-use native.Mathlib.Omega.{arith}
 use Rattle.spec_exi.specs.Grammar.{kindNumber}
 use Rattle.settings.specs.Meant.{settingsFrom}
 use borrow.Author.Needs.{needs}
@@ -12,12 +11,7 @@ find-learned-requires c κs = search needs
 
 known-end-requires : tie.Need-known-end-requires
 unfolding kindNumber
-known-end-requires c κs =
-    let then1 = c .before .before in
-    let found = then1 .before .before in
-    let start = found .before .before .before .before .before .before in
-    let t = end-tests _ _ (then1 .if1 .taken) in
-    (start .pre, record { found = found .find-learned .ensures; some = t .0; inner = t .1 })
+known-end-requires c κs = let t = end-tests _ _ (c .before .before .if1 .taken) in (c .before .before .before .before .before .before .before .before .pre, record { found = c .before .before .before .before .find-learned .ensures; some = t .0; inner = t .1 })
 
 same-length : tie.Need-same-length
 same-length c = search needs
@@ -27,16 +21,10 @@ same-length-2 c = search needs
 
 returns : tie.Need-returns
 unfolding settingsFrom
-returns c = c .before .before .known-end .ensures .steps _ refl refl _ _
+returns c = c .before .before .known-end .ensures .steps _ refl refl
 
 end-tag-requires : tie.Need-end-tag-requires
-end-tag-requires c κs =
-    let then2 = c .before .before in
-    let else1 = then2 .before .before in
-    let found = else1 .before .before in
-    let start = found .before .before .before .before .before .before in
-    let none = end-none _ _ (else1 .if1 .left) (then2 .if2 .taken) in
-    (start .pre, (then2 .if2 .taken, none-found none (found .find-learned .ensures)))
+end-tag-requires c κs = (c .before .before .before .before .before .before .before .before .before .before .pre, (c .before .before .if2 .taken, none-found (end-none _ _ (c .before .before .before .before .if1 .left) (c .before .before .if2 .taken)) (c .before .before .before .before .before .before .find-learned .ensures)))
 
 same-length-3 : tie.Need-same-length-3
 same-length-3 c = search needs
@@ -46,10 +34,10 @@ same-length-4 c = search needs
 
 returns-2 : tie.Need-returns-2
 unfolding settingsFrom
-returns-2 c = c .before .before .end-tag .ensures .steps _ refl refl _ _
+returns-2 c = c .before .before .end-tag .ensures .steps _ refl refl
 
-write-event-requires : tie.Need-write-event-requires
-write-event-requires c κs = search needs
+first-end-requires : tie.Need-first-end-requires
+first-end-requires c κs = search needs
 
 same-length-5 : tie.Need-same-length-5
 same-length-5 c = search needs
@@ -73,7 +61,7 @@ end-element-spec =
     same-length-3
     same-length-4
     returns-2
-    write-event-requires
+    first-end-requires
     same-length-5
     same-length-6
     returns-3)

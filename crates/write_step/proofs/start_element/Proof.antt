@@ -14,8 +14,8 @@ learned-name-requires c κs = search needs
 has-grammar-requires : tie.Need-has-grammar-requires
 has-grammar-requires c κs = search needs
 
-write-event-requires : tie.Need-write-event-requires
-write-event-requires c κs = search needs
+new-element-requires : tie.Need-new-element-requires
+new-element-requires c κs = search needs
 
 same-length : tie.Need-same-length
 same-length c = search needs
@@ -28,18 +28,7 @@ returns c = search needs
 
 known-element-requires : tie.Need-known-element-requires
 unfolding kindNumber maxOpen
-known-element-requires c κs =
-    let else1 = c .before .before in
-    let has = else1 .before .before .before .before in
-    let name = has .before .before in
-    let start = name .before .before .before .before .before .before in
-    let t = element-tests _ _ _ _ (else1 .if1 .left) in (
-      start .pre,
-      (
-        record { found = (name .learned-name .ensures) .found (t .0); some = t .0; inner = t .3 },
-        (sym (has .has-grammar .ensures) ∙ t .1, t .2),
-      ),
-    )
+known-element-requires c κs = let t = element-tests _ _ _ _ (c .before .before .if1 .left) in (c .before .before .before .before .before .before .before .before .before .before .before .before .before .before .pre, (record { found = (c .before .before .before .before .before .before .before .before .learned-name .ensures) .found (t .0); some = t .0; inner = t .3 }, (sym (c .before .before .before .before .before .before .has-grammar .ensures) ∙ t .1, t .2)))
 
 same-length-3 : tie.Need-same-length-3
 same-length-3 c = search needs
@@ -49,12 +38,7 @@ same-length-4 c = search needs
 
 returns-2 : tie.Need-returns-2
 unfolding settingsFrom
-returns-2 c =
-    let element = c .before .before in
-    let else1 = element .before .before .before in
-    let has = else1 .before .before .before .before in
-    element-step (has .before .before .learned-name .ensures) (has .has-grammar .ensures)
-    (else1 .if1 .left) (element .known-element .ensures) _ refl
+returns-2 c = element-step (c .before .before .before .before .before .before .before .before .before .before .before .learned-name .ensures) (c .before .before .before .before .before .before .before .before .before .has-grammar .ensures) (c .before .before .before .before .before .if1 .left) (c .before .before .known-element .ensures) _ refl
 
 pub start-element-spec : {M : Type 1} → statement M
 start-element-spec =
@@ -62,7 +46,7 @@ start-element-spec =
     (tie.spec
     learned-name-requires
     has-grammar-requires
-    write-event-requires
+    new-element-requires
     same-length
     same-length-2
     returns

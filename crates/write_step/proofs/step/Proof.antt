@@ -84,7 +84,7 @@ same-length-10 : tie.Need-same-length-10
 same-length-10 c = search needs
 
 returns-5 : tie.Need-returns-5
-returns-5 c = rw (c .before .before .before .before .before .before .before .enum-told3 .given .1) (c .before .before .before .before .end-element .ensures)
+returns-5 c = rw (c .before .before .before .before .before .before .before .enum-told3 .given .1) (c .before .before .before .before .end-element .ensures _ _)
 
 same-length-11 : tie.Need-same-length-11
 same-length-11 c = search needs
