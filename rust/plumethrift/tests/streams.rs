@@ -72,7 +72,8 @@ fn k3_and_k4_characters() {
     both_ways(BIT_PACKED, &[0x80, 0x40, 0x98, 0x70, 0x36, 0x20], a_with_b);
 }
 
-/// No element, one, and the same once more, which goes by what was learned.
+/// No element, one, and the same once more, which goes by what was learned; `<a/><b/><a/>`, where
+/// SE(b) and SE(a) are learned and the second a is 1.
 #[test]
 fn fragments() {
     let fragment = |settings| Settings {
@@ -92,6 +93,14 @@ fn fragments() {
     both_ways(aligned, &twice, |list| {
         empty_a(list);
         empty_a(list);
+    });
+    let stream = [
+        0x80, 0x00, 0x01, 0x02, 0x61, 0x00, 0x01, 0x01, 0x02, 0x62, 0x00, 0x01, 0x00, 0x03,
+    ];
+    both_ways(aligned, &stream, |list| {
+        for name in ["a", "b", "a"] {
+            list.start_element("", name).end_element();
+        }
     });
 }
 
@@ -166,24 +175,6 @@ fn comments_and_instructions_that_are_kept() {
             .start_element("", "a")
             .end_element()
             .instruction("t", "d");
-    });
-}
-
-/// No element; `<a/><b/><a/>`, where SE(b) and SE(a) are learned and the second a is 1.
-#[test]
-fn fragments() {
-    let settings = Settings {
-        fragment: true,
-        ..BYTE_ALIGNED
-    };
-    both_ways(settings, &[0x80, 0x01], |_| {});
-    let stream = [
-        0x80, 0x00, 0x01, 0x02, 0x61, 0x00, 0x01, 0x01, 0x02, 0x62, 0x00, 0x01, 0x00, 0x03,
-    ];
-    both_ways(settings, &stream, |list| {
-        for name in ["a", "b", "a"] {
-            list.start_element("", name).end_element();
-        }
     });
 }
 
