@@ -1,4 +1,6 @@
 // A command on what the words after it ask for.
+use crate::stream;
+use crate::write;
 use exi_asked::Asked;
 use exi_verdict::Task;
 use exi_words::MS;
@@ -19,11 +21,11 @@ fn answer_file(command: usize, t: Task, in_ms: bool, several: bool, name: &[u8])
     }
     let n = got.octets;
     if command == READINGS {
-        exi_stream::print_readings(t, in_ms, &octets[..n]);
+        stream::print_readings(t, in_ms, &octets[..n]);
     } else if several {
-        exi_stream::judge_stream(t, name, &octets[..n]);
+        stream::judge_stream(t, name, &octets[..n]);
     } else {
-        exi_stream::judge_stream(t, b"", &octets[..n]);
+        stream::judge_stream(t, b"", &octets[..n]);
     }
 }
 
@@ -76,7 +78,7 @@ fn write_readings(a: Asked, marks: &[u8]) {
         exi_usage::unread(b"the name of OUT");
         return;
     }
-    exi_write::write_file(exi_asked::settings_of(a), &csv[..n], &name[..m]);
+    write::write_file(exi_asked::settings_of(a), &csv[..n], &name[..m]);
 }
 
 fn task(command: usize, a: Asked) -> Task {

@@ -1,12 +1,85 @@
 // A stream, judged or turned into a table.
+use crate::fault;
+use crate::pieces;
+use crate::tries;
 use exi_out::Out;
+use exi_verdict::Counts;
 use exi_verdict::Task;
 use reader::ReadReply;
 use readings_from::MAX_READINGS;
+use refusal::LONG;
 use sizes::EVENT_CELLS;
 use sizes::MAX_STORE;
 use sizes::MAX_STREAM;
 use sizes::READER_WORK;
+
+// A stream that is refused for what its octets are: the events before the fault, then the refusal,
+// what can be told of it, and settings that accept the stream.
+fn refuse_octets(
+    buffer: &mut [u8],
+    o: Out,
+    t: Task,
+    file: &[u8],
+    r: ReadReply,
+    stream: &[u8],
+    held: &mut [u8],
+    cells: &mut [u32],
+    store: &mut [u32],
+    work: &mut [u32],
+) {
+    let good = fault::good_events(t.settings, stream, held, cells, store, work);
+    let a = exi_verdict::put_events(buffer, o, t, true, cells, good.events, store);
+    exi_verdict::finish(buffer, a);
+    exi_say::refused(file, r.number, r.index);
+    exi_verdict::explain(t, r.number, stream, good);
+    tries::suggestions(stream, cells, store, work);
+}
+
+// A stream that is refused.
+fn refuse(
+    buffer: &mut [u8],
+    o: Out,
+    t: Task,
+    file: &[u8],
+    r: ReadReply,
+    stream: &[u8],
+    held: &mut [u8],
+    cells: &mut [u32],
+    store: &mut [u32],
+    work: &mut [u32],
+) {
+    if r.number <= LONG {
+        exi_verdict::finish(buffer, o);
+        exi_say::refused(file, r.number, r.index);
+        return;
+    }
+    refuse_octets(buffer, o, t, file, r, stream, held, cells, store, work);
+}
+
+// The verdict that was read.
+fn verdict(
+    buffer: &mut [u8],
+    o: Out,
+    t: Task,
+    file: &[u8],
+    r: ReadReply,
+    stream: &[u8],
+    held: &mut [u8],
+    cells: &mut [u32],
+    store: &mut [u32],
+    work: &mut [u32],
+) {
+    if r.number != 0 {
+        refuse(buffer, o, t, file, r, stream, held, cells, store, work);
+        return;
+    }
+    let n = Counts {
+        events: r.events,
+        code_points: r.code_points,
+        octets: stream.len(),
+    };
+    exi_verdict::accept(buffer, o, t, file, n, cells, store);
+}
 
 // The verdict, of the stream whole or in packets.
 fn judge(
@@ -22,10 +95,10 @@ fn judge(
 ) {
     if t.packet == 0 {
         let r = reader::read(t.settings, stream, cells, store, work);
-        exi_verdict::judge(buffer, o, t, file, r, stream, held, cells, store, work);
+        verdict(buffer, o, t, file, r, stream, held, cells, store, work);
         return;
     }
-    let e = exi_pieces::read(
+    let e = pieces::read(
         buffer,
         o,
         t.settings,
@@ -36,7 +109,7 @@ fn judge(
         store,
         work,
     );
-    exi_verdict::judge(
+    verdict(
         buffer,
         e.out,
         t,
@@ -50,7 +123,7 @@ fn judge(
     );
 }
 
-pub fn judge_stream(t: Task, file: &[u8], stream: &[u8]) {
+pub(crate) fn judge_stream(t: Task, file: &[u8], stream: &[u8]) {
     let mut buffer = io::large_buffer();
     let mut held = [0u8; MAX_STREAM];
     let mut cells = [0u32; EVENT_CELLS];
@@ -70,7 +143,7 @@ pub fn judge_stream(t: Task, file: &[u8], stream: &[u8]) {
 }
 
 // The refusal of a stream that has no readings.
-fn refuse(
+fn refuse_readings(
     buffer: &mut [u8],
     t: Task,
     number: u32,
@@ -92,11 +165,11 @@ fn refuse(
     };
     let mut held = [0u8; MAX_STREAM];
     let o = exi_out::none();
-    exi_verdict::refuse(buffer, o, t, b"", r, stream, &mut held, cells, store, work);
+    refuse(buffer, o, t, b"", r, stream, &mut held, cells, store, work);
 }
 
 // The readings of a stream, as a table.
-pub fn print_readings(t: Task, in_ms: bool, stream: &[u8]) {
+pub(crate) fn print_readings(t: Task, in_ms: bool, stream: &[u8]) {
     let mut stamps = [0u64; MAX_READINGS];
     let mut movements = [0u32; MAX_READINGS];
     let mut buffer = io::large_buffer();
@@ -113,7 +186,7 @@ pub fn print_readings(t: Task, in_ms: bool, stream: &[u8]) {
         &mut work,
     );
     if r.number != 0 {
-        refuse(
+        refuse_readings(
             &mut buffer,
             t,
             r.number,

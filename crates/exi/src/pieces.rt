@@ -123,7 +123,7 @@ fn put_end(buffer: &mut [u8], g: Going) -> Out {
 }
 
 // Reads a stream in packets of n octets; tells, at each quarter, how many events were complete.
-pub fn read(
+pub(crate) fn read(
     buffer: &mut [u8],
     o: Out,
     s: SettingNumbers,

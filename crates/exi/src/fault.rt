@@ -1,16 +1,9 @@
 // A stream that is refused: how far it is good, told by a receiver (02, P8), which keeps the events
 // that are complete.
-use mem_state::Core;
+use exi_verdict::Good;
 use receiver_record::Handed;
 use settings::SettingNumbers;
 use sizes::MAX_STREAM;
-
-// How many octets are good, how many events are complete in them, and the state behind these.
-pub struct Good {
-    pub octets: usize,
-    pub events: u32,
-    pub core: Core,
-}
 
 // The octets from the first on, at most this many, as one piece of a stream.
 fn feed(
@@ -73,7 +66,7 @@ fn good_octets(
 }
 
 // The events that are complete before the fault, in the cells, and their text.
-pub fn good_events(
+pub(crate) fn good_events(
     s: SettingNumbers,
     stream: &[u8],
     held: &mut [u8],

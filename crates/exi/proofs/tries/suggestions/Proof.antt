@@ -3,8 +3,8 @@ use Prim.Native.Nat.{_≤_, _-_}
 use mathlib.Core.Path.{_≡_}
 use lib.ListN.{length}
 use borrow.Author.Needs.{needs}
-use Rattle.exi_tries.proofs.suggestions.Statement.{statement}
-use Rattle.exi_tries.proofs.suggestions.Tie as tie
+use Rattle.exi.proofs.tries.suggestions.Statement.{statement}
+use Rattle.exi.proofs.tries.suggestions.Tie as tie
 
 abbrev Inv-loop : tie.InvT-loop
 Inv-loop stream cells₀ store₀ work₀ found₀ k₀ cells store work found k =

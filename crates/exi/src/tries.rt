@@ -61,7 +61,7 @@ fn accepted(k: u32, stream: &[u8], cells: &mut [u32], store: &mut [u32], work: &
 }
 
 // Says of at most two settings that they accept the stream.
-pub fn suggestions(stream: &[u8], cells: &mut [u32], store: &mut [u32], work: &mut [u32]) {
+pub(crate) fn suggestions(stream: &[u8], cells: &mut [u32], store: &mut [u32], work: &mut [u32]) {
     let mut found = 0;
     let mut k = 0;
     while k < TRIED {

@@ -3,8 +3,8 @@ use Prim.Native.Nat.{_-_}
 use mathlib.Core.Path.{_≡_}
 use lib.ListN.{length}
 use borrow.Author.Needs.{needs}
-use Rattle.exi_pieces.proofs.feed_all.Statement.{statement}
-use Rattle.exi_pieces.proofs.feed_all.Tie as tie
+use Rattle.exi.proofs.pieces.feed_all.Statement.{statement}
+use Rattle.exi.proofs.pieces.feed_all.Tie as tie
 
 abbrev Inv-loop : tie.InvT-loop
 Inv-loop buffer₀ stream n held₀ cells₀ store₀ work₀ all g₀ at₀ buffer held cells store work g at =
