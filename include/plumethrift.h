@@ -21,7 +21,8 @@
  *
  *   All else is safe: any octets as a stream, any cells as a list or as readings, any numbers as
  *   settings, any lengths. A part that is too short is refused (ROOM). What memory lent for writing
- *   holds before a call does not matter.
+ *   holds before a call does not matter. (A receiver's calls are told apart below: between them
+ *   record and memory are to come back as they were left.)
  *
  * What a call leaves
  *
@@ -335,7 +336,8 @@ plumethrift_receiver plumethrift_start(plumethrift_settings settings);
  * in the reply, and zeros past them. Refused is a piece once the octets so far, read whole, are
  * refused by a number other than ENDED. A refusal stays until a receiver is started afresh, but
  * past 16,384 octets, all of them counted, it is LONG, unless it is ROOM or SETTINGS. From a
- * refusal on every call leaves all that is lent zero, but the record. Refusals 1 to 4 and 6 to 14.
+ * refusal on every call leaves all that is lent zero, but the record. Refusals 1 to 4 and 6 to 14;
+ * after a close its own number, 5 too.
  */
 plumethrift_read_reply plumethrift_feed(plumethrift_receiver *receiver,
                                         const uint8_t *piece, size_t piece_octets,

@@ -32,8 +32,8 @@ use crate::settings::Settings;
 /// # Ok::<(), plumethrift::Refused>(())
 /// ```
 ///
-/// A piece is refused once the octets so far are no beginning of a stream that is accepted. A
-/// receiver that has refused stays so until it is [started](Receiver::start) afresh:
+/// A piece is refused once the octets so far, read whole, are refused by another number than ENDED.
+/// A receiver that has refused stays so until it is [started](Receiver::start) afresh:
 ///
 /// ```
 /// use plumethrift::{Receiver, Refusal, Settings};
