@@ -106,7 +106,7 @@ fn the_example_decodes() {
     // each settings number at the first that has no meaning
     for place in 0..10 {
         let mut digits = *b"1000000000";
-        digits[place] = if place < 4 { b'2' } else { b'1' };
+        digits[place] = if place < 5 { b'2' } else { b'1' };
         let output = run(Command::new(&decode).args([text(&digits), "-"]), &STREAM);
         assert_eq!(text(&output.stderr), "refused: 2 SETTINGS at event 0\n");
         assert_eq!(output.status.code(), Some(1));

@@ -75,6 +75,6 @@ fn how_much_is_lent() {
     says("| work memory | reader, writer", READER_WORK_CELLS);
     says("| stamps, movements | readings of", MAX_READINGS);
     let record = format!("{} octets", size_of::<ReceiverRecord>());
-    assert!(document("README.md").contains(&record));
-    assert!(document("README.md").contains(&format!("at most {MAX_READINGS} readings")));
+    assert!(document("docs/PACKETS.md").contains(&record));
+    assert!(document("docs/READINGS.md").contains(&format!("at most {MAX_READINGS} readings")));
 }
