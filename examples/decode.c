@@ -6,9 +6,9 @@
  *   printf '\200\001\002\141\003\003\142\000' | target/decode 1000 -
  *
  * The first argument is at most ten digits, the settings' numbers in the order of the header:
- * alignment (0 bit-packed, 1 byte-aligned), cookie, comments, instructions (0 no, 1 yes), and those
- * that this version refuses; what is left out is 0. The second is a file's name, or - for standard
- * input. Exit status: 0 read, 1 refused, 2 bad usage or no input.
+ * alignment (0 bit-packed, 1 byte-aligned), cookie, comments, instructions, fragment (0 no, 1 yes),
+ * and those that this version refuses; what is left out is 0. The second is a file's name, or - for
+ * standard input. Exit status: 0 read, 1 refused, 2 bad usage or no input.
  */
 #include <inttypes.h>
 #include <stdio.h>

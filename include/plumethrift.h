@@ -84,7 +84,7 @@ typedef struct plumethrift_settings {
   uint32_t cookie;         /* 1: the stream begins with 24 45 58 49 ("$EXI"); 0: it does not */
   uint32_t comments;       /* 1: comments are kept; 0: no list or stream has any */
   uint32_t instructions;   /* 1: processing instructions are kept; 0: no list or stream has any */
-  uint32_t fragment;       /* 1: a fragment, with elements in any number; 0: a document, with one root */
+  uint32_t fragment;       /* 1: a fragment, elements in any number; 0: a document, one root */
   uint32_t value_length;   /* PLUMETHRIFT_UNBOUNDED: values of any length join the tables */
   uint32_t value_capacity; /* PLUMETHRIFT_UNBOUNDED: no value in the tables is replaced */
   uint32_t loose;          /* 0: the reader takes strict forms alone */
