@@ -34,7 +34,7 @@ use Rattle.mem_rows.specs.Rows.{tablesOf}
 use Rattle.mem_rows.proofs.Forms.{own-count}
 use Rattle.receiver_strings.specs.Strings.{SpotIn, LookBounds, StringSeen}
 use Rattle.receiver_strings.proofs.Cuts.{sees-nothing}
-use Rattle.receiver_look.specs.Look.{HitPre, Tabled, ownNames, OwnSeen, LocalSeen, HitSeen}
+use Rattle.receiver_look.specs.Look.{UriPre, HitPre, Tabled, ownNames, OwnSeen, LocalSeen, HitSeen}
 use Rattle.receiver_strings.specs.declared.Looked.{Looked}
 use Rattle.receiver_strings.specs.Cuts.{Faulty, Passes, faulty, reads, Sees}
 use Rattle.receiver_strings.proofs.Cuts.{passes-return, passes-then, faulty-then, sees-field}
@@ -147,6 +147,12 @@ module _ {stream work : List ℕ} {at : ℕ} (pre : HitPre stream work at) where
   pub unseen-bounds : LookBounds stream unseen
   unseen-bounds = record { inside = pre .spot .place; few = omega arith }
 
+  pub name-asks : {uris : ℕ} → uris ≤ maxUris → UriPre stream at uris
+  name-asks l = record { spot = pre .spot; few = l }
+
+  pub value-spot : {l : Looked} → LookBounds stream l → SpotIn stream (l .at)
+  value-spot b = record { size = pre .spot .size; place = b .inside }
+
   pub own-nothing : (a : Alignment) (row : ℕ) → OwnSeen a stream work at row unseen
   own-nothing a row =
       record { bounds = unseen-bounds; sees = λ s b h l. sees-nothing s _ stream at at }
@@ -172,28 +178,28 @@ module _ {stream work : List ℕ} {at : ℕ} (pre : HitPre stream work at) where
 
   module _ (a : Alignment) {row among : ℕ} (c : CountedNames work row among) {f : Field}
       (answer : f ≡ fieldAt (numberField a (width among)) stream at) {v q : ℕ} (z : f ≡ Value v q)
-      where
-    abbrev field : Gotten (numberField a (width among)) stream at q
-    field = number-gotten stream at (pre .spot .place) a (width among) (sym answer ∙ z)
+    where
+      abbrev field : Gotten (numberField a (width among)) stream at q
+      field = number-gotten stream at (pre .spot .place) a (width among) (sym answer ∙ z)
 
-    pub own-found : OwnSeen a stream work at row (record { past = true; at = q; left = 0 })
-    own-found =
-        record {
-          bounds = record { inside = field .inside; few = omega arith };
-          sees = λ s b h l.
-              let es = namesOf (tablesOf (h .rows) (h .store)) (uriText (h .rows .uris) row) in
-              let n : among ≡ length (map (λ (x : Placed). some x) es) =
-              c .count (h .from) _ _ (h .hold) ∙ sym (own-count (h .valid) row l (h .store)) in
-              own-seen s (tablesOf (h .rows) (h .store)) stream es
-              (record {
-                value = v;
-                result =
-                    ap₂ (λ y m. numberField y (width m) (drop at (unpack stream))) b (sym n)
-                    ∙ field .result;
-                after = field .after;
-                inside = field .inside;
-              });
-        }
+      pub own-found : OwnSeen a stream work at row (record { past = true; at = q; left = 0 })
+      own-found =
+          record {
+            bounds = record { inside = field .inside; few = omega arith };
+            sees = λ s b h l.
+                let es = namesOf (tablesOf (h .rows) (h .store)) (uriText (h .rows .uris) row) in
+                let n : among ≡ length (map (λ (x : Placed). some x) es) =
+                c .count (h .from) _ _ (h .hold) ∙ sym (own-count (h .valid) row l (h .store)) in
+                own-seen s (tablesOf (h .rows) (h .store)) stream es
+                (record {
+                  value = v;
+                  result =
+                      ap₂ (λ y m. numberField y (width m) (drop at (unpack stream))) b (sym n)
+                      ∙ field .result;
+                  after = field .after;
+                  inside = field .inside;
+                });
+          }
 
   module _ {f : Field} (answer : f ≡ fieldAt unsigned stream at) {v q : ℕ} (z : f ≡ Value v q) where
     abbrev first : Gotten unsigned stream at q

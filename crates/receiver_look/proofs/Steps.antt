@@ -58,11 +58,11 @@ module _ {stream work : List ℕ} {next : ℕ} {c : Core} (pre : FixedAsks strea
 
   module _ {s : Settings} {p : ProductionRead} (read : FixedAt s (c .mode) stream next (c .at) p)
     where
-      pub fixed-content : UriPre stream (p .next) (c .uris)
+      pub fixed-content : HitPre stream work (p .next)
       fixed-content =
           record {
             spot = record { size = pre .spot .size; place = read .inside };
-            few = pre .bounded .uris;
+            rows = pre .rows;
           }
 
       pub fixed-seen : p .number ≡ 0 → {r : Looked}

@@ -19,7 +19,8 @@ returns c =
 content-requires : tie.Need-content-requires
 content-requires c κs =
     let read = c .before .before in
-    fixed-content (read .before .before .pre) (read .read-fixed .ensures)
+    let pre = read .before .before .pre in
+    (fixed-content pre (read .read-fixed .ensures), pre .bounded .uris)
 
 returns-2 : tie.Need-returns-2
 unfolding settingsFrom

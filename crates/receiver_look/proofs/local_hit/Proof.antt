@@ -1,47 +1,51 @@
+-- `local_hit` meets its contract.
+use Rattle.receiver_strings.proofs.Points.{spot-asks}
+use Rattle.receiver_look.proofs.Hits.{local-nothing, own-pre, local-found}
 use borrow.Author.Needs.{needs}
 use Rattle.receiver_look.proofs.local_hit.Statement.{statement}
 use Rattle.receiver_look.proofs.local_hit.Tie as tie
-use Rattle.receiver_look.proofs.local_hit.Reads as reads
-use Rattle.receiver_look.proofs.local_hit.Lts as lts
-use Rattle.read_field.proofs.unsigned.Reads as unsigned-reads
-use Rattle.receiver_look.proofs.nothing.Reads as nothing-reads
-use Rattle.receiver_look.proofs.own_name.Reads as own-name-reads
 
--- src/lib.rt:104:11
 unsigned-requires : tie.Need-unsigned-requires
-unsigned-requires c κs = ?
+unsigned-requires c κs = spot-asks (c .before .pre .0 .spot)
 
--- src/lib.rt:105:24
 enum-known-number : tie.Need-enum-known-number
 enum-known-number c = search needs
 
--- src/lib.rt:105:35
 nothing-requires : tie.Need-nothing-requires
 nothing-requires c κs = search needs
 
--- src/lib.rt:106:24
 enum-known-value : tie.Need-enum-known-value
 enum-known-value c = search needs
 
--- src/lib.rt:108:17
 nothing-requires-2 : tie.Need-nothing-requires-2
 nothing-requires-2 c κs = search needs
 
--- src/lib.rt:108:17
 returns : tie.Need-returns
-returns c = ?
+returns c =
+    let value = c .before .before .before in
+    let start = value .before .before .before .before in
+    rw (c .nothing2 .ensures) (local-nothing (start .pre .0) _ _)
 
--- src/lib.rt:110:13
 own-name-requires : tie.Need-own-name-requires
-own-name-requires c κs = ?
+own-name-requires c κs =
+    let value = c .before .before in
+    let unsigned = value .before .before in
+    let pre = unsigned .before .before .pre in
+    (own-pre (pre .0) (unsigned .unsigned .ensures) (value .value .given .1), pre .1)
 
--- src/lib.rt:98:1
 returns-2 : tie.Need-returns-2
-returns-2 c = ?
+returns-2 c =
+    let start = c .before .before .before .before .before .before in
+    rw (c .nothing .ensures) (local-nothing (start .pre .0) _ _)
 
--- src/lib.rt:98:1
 returns-3 : tie.Need-returns-3
-returns-3 c = ?
+returns-3 c =
+    let if1 = c .before in
+    let value = if1 .before .before in
+    let unsigned = value .before .before in
+    let pre = unsigned .before .before .pre in
+    local-found (pre .0) (unsigned .unsigned .ensures) (value .value .given .1) (if1 .if1 .left)
+    (c .own-name .ensures)
 
 pub local-hit-spec : {M : Type 1} → statement M
 local-hit-spec =

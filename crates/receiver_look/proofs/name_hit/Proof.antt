@@ -1,63 +1,76 @@
+-- `name_hit` meets its contract.
+use native.Mathlib.Omega.{arith}
+use Rattle.spec_exi.specs.Sizes.{maxUris}
+use Rattle.mem_layout.specs.Layout.{uriRows}
+use Rattle.receiver_look.proofs.Hits.{uri-asks, hit-nothing, local-pre, hit-found}
 use borrow.Author.Needs.{needs}
 use Rattle.receiver_look.proofs.name_hit.Statement.{statement}
 use Rattle.receiver_look.proofs.name_hit.Tie as tie
-use Rattle.receiver_look.proofs.name_hit.Reads as reads
-use Rattle.receiver_look.proofs.name_hit.Lts as lts
-use Rattle.read_field.proofs.choice.Reads as choice-reads
-use Rattle.receiver_look.proofs.local_hit.Reads as local-hit-reads
-use Rattle.receiver_look.proofs.nothing.Reads as nothing-reads
 
--- src/lib.rt:122:51
 add-choice : tie.Need-add-choice
-add-choice c = ?
+unfolding maxUris
+add-choice c = omega (arith, c .before .pre .1)
 
--- src/lib.rt:122:11
 choice-requires : tie.Need-choice-requires
-choice-requires c κs = ?
+choice-requires c κs =
+    let pre = c .before .pre in
+    uri-asks (pre .0) (pre .1)
 
--- src/lib.rt:123:24
 enum-known-number : tie.Need-enum-known-number
 enum-known-number c = search needs
 
--- src/lib.rt:123:35
 nothing-requires : tie.Need-nothing-requires
 nothing-requires c κs = search needs
 
--- src/lib.rt:124:24
 enum-known-value : tie.Need-enum-known-value
 enum-known-value c = search needs
 
--- src/lib.rt:126:17
 nothing-requires-2 : tie.Need-nothing-requires-2
 nothing-requires-2 c κs = search needs
 
--- src/lib.rt:126:17
 returns : tie.Need-returns
-returns c = ?
+returns c =
+    let value = c .before .before .before in
+    let start = value .before .before .before .before in
+    rw (c .nothing2 .ensures) (hit-nothing (start .pre .0) _ _)
 
--- src/lib.rt:129:17
 nothing-requires-3 : tie.Need-nothing-requires-3
 nothing-requires-3 c κs = search needs
 
--- src/lib.rt:129:17
 returns-2 : tie.Need-returns-2
-returns-2 c = ?
+returns-2 c =
+    let value = c .before .before .before .before .before in
+    let start = value .before .before .before .before in
+    rw (c .nothing3 .ensures) (hit-nothing (start .pre .0) _ _)
 
--- src/lib.rt:131:46
 sub-local-hit : tie.Need-sub-local-hit
 sub-local-hit c = search needs
 
--- src/lib.rt:131:13
 local-hit-requires : tie.Need-local-hit-requires
-local-hit-requires c κs = ?
+unfolding maxUris
+local-hit-requires c κs =
+    let if1 = c .before .before in
+    let value = if1 .before .before in
+    let choice = value .before .before in
+    let pre = choice .before .before .pre in (
+      local-pre (pre .0) _ (choice .choice .ensures) (value .value .given .1),
+      omega (arith, pre .1, c .if2 .left, if1 .if1 .left),
+    )
 
--- src/lib.rt:116:1
 returns-3 : tie.Need-returns-3
-returns-3 c = ?
+returns-3 c =
+    let start = c .before .before .before .before .before .before in
+    rw (c .nothing .ensures) (hit-nothing (start .pre .0) _ _)
 
--- src/lib.rt:116:1
 returns-4 : tie.Need-returns-4
-returns-4 c = ?
+returns-4 c =
+    let if2 = c .before in
+    let if1 = if2 .before .before in
+    let value = if1 .before .before in
+    let choice = value .before .before in
+    let pre = choice .before .before .pre in
+    hit-found (pre .0) _ (choice .choice .ensures) (value .value .given .1) (if1 .if1 .left)
+    (omega (arith, if2 .if2 .left)) (c .local-hit .ensures)
 
 pub name-hit-spec : {M : Type 1} → statement M
 name-hit-spec =

@@ -23,8 +23,10 @@ returns c =
 content-requires : tie.Need-content-requires
 content-requires c κs =
     let read = c .before .before in
-    let pre = read .before .before .before .pre .0 in
-    content-asks pre (read .read-outer .ensures _ (pre .bounded .top)) (c .if1 .left)
+    let pre = read .before .before .before .pre .0 in (
+      content-asks pre (read .read-outer .ensures _ (pre .bounded .top)) (c .if1 .left),
+      pre .bounded .uris,
+    )
 
 returns-2 : tie.Need-returns-2
 unfolding settingsFrom
