@@ -225,7 +225,7 @@ module _ {stream work : List ℕ} {at : ℕ} (pre : HitPre stream work at) where
 
 -- ---- the URI before it
 
-module _ {stream work : List ℕ} {at : ℕ} (pre : HitPre stream work at) (a : Alignment) {uris : ℕ}
+module _ {stream work : List ℕ} {at : ℕ} (pre : HitPre stream work at) (a : Alignment) (uris : ℕ)
     {f : Field} (answer : f ≡ fieldAt (numberField a (width (uris + 1))) stream at) {v q : ℕ}
     (z : f ≡ Value v q) where
   abbrev field-uri : Gotten (numberField a (width (uris + 1))) stream at q
@@ -268,7 +268,8 @@ module _ {stream work : List ℕ} {at : ℕ} (pre : HitPre stream work at) (a : 
       unfolding tablesOf uriAt
       uri-there =
           rw (h .is)
-          (member-map some _ _ (member-map some _ _ (member-there (h .rows .uris) _ (v - 1) row-low)))
+          (member-map some (map some (h .rows .uris)) (v - 1)
+          (member-map some (h .rows .uris) (v - 1) (member-there (h .rows .uris) _ (v - 1) row-low)))
 
       hit-passes : r .past ≡ true
           → Passes (readName sizes s t true none) (drop at (unpack stream))

@@ -6,27 +6,27 @@ use Rattle.receiver_look.proofs.attribute.Statement.{statement}
 use Rattle.receiver_look.proofs.attribute.Tie as tie
 
 string-requires : tie.Need-string-requires
-string-requires c κs = c .before .before .pre .0 .spot
+string-requires c κs = c .before .before .before .pre .0 .spot
 
 returns : tie.Need-returns
 returns c =
     let if1 = c .before in
-    let start = if1 .before .before in
+    let start = if1 .before .before .before in
     rw (if1 .if1 .taken) (attribute-known (c .string .ensures) (start .pre .0 .spot .place))
 
 name-hit-requires : tie.Need-name-hit-requires
-name-hit-requires c κs = c .before .before .pre
+name-hit-requires c κs = c .before .before .before .pre
 
 string-requires-2 : tie.Need-string-requires-2
 string-requires-2 c κs =
-    let hit = c .before .before in
-    let start = hit .before .before .before in
+    let hit = c .before in
+    let start = hit .before .before .before .before in
     value-spot (start .pre .0) (hit .name-hit .ensures .bounds)
 
 returns-2 : tie.Need-returns-2
 returns-2 c =
     let if2 = c .before in
-    let hit = if2 .before .before in
+    let hit = if2 .before in
     let if1 = hit .before in
     rw (if1 .if1 .left)
     (attribute-hit (hit .name-hit .ensures) (if2 .if2 .taken) (c .string2 .ensures))
@@ -44,7 +44,7 @@ then-string-requires c κs =
 returns-3 : tie.Need-returns-3
 returns-3 c =
     let name = c .before in
-    let if1 = name .before .before .before .before in
+    let if1 = name .before .before .before in
     rw (if1 .if1 .left) (attribute-new (name .name .ensures) (c .then-string .ensures))
 
 pub attribute-spec : {M : Type 1} → statement M

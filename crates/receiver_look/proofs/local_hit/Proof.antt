@@ -6,7 +6,7 @@ use Rattle.receiver_look.proofs.local_hit.Statement.{statement}
 use Rattle.receiver_look.proofs.local_hit.Tie as tie
 
 unsigned-requires : tie.Need-unsigned-requires
-unsigned-requires c κs = spot-asks (c .before .pre .0 .spot)
+unsigned-requires c κs = spot-asks (c .before .before .pre .0 .spot)
 
 enum-known-number : tie.Need-enum-known-number
 enum-known-number c = search needs
@@ -23,19 +23,19 @@ nothing-requires-2 c κs = search needs
 returns : tie.Need-returns
 returns c =
     let value = c .before .before .before in
-    let start = value .before .before .before .before in
+    let start = value .before .before .before .before .before in
     rw (c .nothing2 .ensures) (local-nothing (start .pre .0) _ _)
 
 own-name-requires : tie.Need-own-name-requires
 own-name-requires c κs =
     let value = c .before .before in
     let unsigned = value .before .before in
-    let pre = unsigned .before .before .pre in
+    let pre = unsigned .before .before .before .pre in
     (own-pre (pre .0) (unsigned .unsigned .ensures) (value .value .given .1), pre .1)
 
 returns-2 : tie.Need-returns-2
 returns-2 c =
-    let start = c .before .before .before .before .before .before in
+    let start = c .before .before .before .before .before .before .before in
     rw (c .nothing .ensures) (local-nothing (start .pre .0) _ _)
 
 returns-3 : tie.Need-returns-3
@@ -43,7 +43,7 @@ returns-3 c =
     let if1 = c .before in
     let value = if1 .before .before in
     let unsigned = value .before .before in
-    let pre = unsigned .before .before .pre in
+    let pre = unsigned .before .before .before .pre in
     local-found (pre .0) (unsigned .unsigned .ensures) (value .value .given .1) (if1 .if1 .left)
     (c .own-name .ensures)
 
