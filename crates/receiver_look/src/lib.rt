@@ -9,6 +9,7 @@ ghost use Rattle.settings.specs.Meant.{settingsFrom};
 ghost use Rattle.spec_exi.specs.Sizes.{maxUris};
 ghost use Rattle.event_code.specs.Numbers.{inTag};
 ghost use Rattle.mem_layout.specs.Layout.{uriRows};
+ghost use Rattle.read_production.specs.Production.{ProductionPost};
 ghost use Rattle.receiver_strings.specs.Strings.{SpotIn};
 ghost use Rattle.receiver_look.specs.Look.{UriPre, UriSeen, ThenPre, ThenSeen, NameSeen};
 ghost use Rattle.receiver_look.specs.Look.{HitPre, OwnSeen, LocalSeen, HitSeen};
@@ -17,11 +18,13 @@ ghost use Rattle.receiver_look.specs.Look.{FixedAsks, FixedSeen, LookPre
 use event_code::AT;
 use event_code::CH;
 use event_code::CM;
+use event_code::IN_FRAGMENT;
 use event_code::IN_TAG;
 use event_code::PI;
 use event_code::SE;
 use mem_state::Core;
 use read_field::Field;
+use read_production::ProductionRead;
 use receiver_strings::Looked;
 use settings::Settings;
 
@@ -236,21 +239,35 @@ fn inside(o: Settings, stream: &[u8], c: Core, work: &[u32]) -> Looked
     fixed(o, stream, p.next, c, work)
 }
 
+// An event's code outside of every element.
+fn outer_code(o: Settings, stream: &[u8], c: Core, work: &[u32]) -> ProductionRead
+    requires { ⌜ LookPre (now stream) (now work) c ⌝ }
+    requires { ⌜ c .mode < inTag ⌝ }
+    ensures { λ r. ⌜
+        ProductionPost (settingsFrom o) (now (stream .entry)) (c .at) (c .mode) (c .top)
+        (c .learned) (now (work .entry)) r ⌝ }
+{
+    if c.mode == IN_FRAGMENT {
+        return read_production::read_between(o, stream, c.at, c.learned, work);
+    }
+    read_production::read_fixed(o, stream, c.at, c.at, c.mode)
+}
+
 // An event outside of every element.
 fn outside(o: Settings, stream: &[u8], c: Core, work: &[u32]) -> Looked
     requires { ⌜ LookPre (now stream) (now work) c ⌝ }
     requires { ⌜ c .mode < inTag ⌝ }
     ensures { λ r. ⌜ LookPost (settingsFrom o) (now (stream .entry)) (now (work .entry)) c r ⌝ }
 {
-    let p = read_production::read_outer(o, stream, c.at, c.mode, c.learned, work);
+    let p = outer_code(o, stream, c, work);
     if p.number != 0 {
         return nothing(c.at);
     }
     content(o.aligned, stream, p.next, p.kind, p.learned, c.uris, work)
 }
 
-// Looks at the event after the core's position. The whole reader's `read_production` is not called:
-// it has one caller, and is compiled into it.
+// Looks at the event after the core's position. The whole reader's `read_production` is not called,
+// nor its `read_outer`: each has one caller, and is compiled into it.
 pub fn look(o: Settings, stream: &[u8], c: Core, work: &[u32]) -> Looked
     requires { ⌜ LookPre (now stream) (now work) c ⌝ }
     ensures { λ r. ⌜ LookPost (settingsFrom o) (now (stream .entry)) (now (work .entry)) c r ⌝ }
