@@ -1,5 +1,5 @@
 -- A name whose URI and local name both come by their numbers.
-use Prim.Native.Nat.{ℕ, zero, suc, _+_, _-_, _*_, _≤_, _<_}
+use Prim.Native.Nat.{ℕ, zero, suc, _+_, _-_, _≤_, _<_}
 use mathlib.Core.Path.{_≡_, refl, sym, _∙_, ap, ap₂}
 use mathlib.Core.Bool.{Bool, true, false, true≢false}
 use mathlib.Core.List.{List, [], _∷_, map}
@@ -9,37 +9,39 @@ use lib.ListN.{length, drop, getD, getElem?}
 use lib.Dec.{leb}
 use borrow.Author.Tests.{leb-true, leb-false}
 use Rattle.spec_fields.specs.Bits.{Bits, unpack}
-use Rattle.spec_fields.specs.Refusal.{Refusal, numberOf, ended, character, reference, loose, name, limit}
-use Rattle.spec_fields.specs.Parser.{Parser, got, return, fail, need, present, andThen, _>>=_, _>>_}
-use Rattle.spec_fields.specs.Field.{Alignment, numberField, width, choice, unsigned}
+use Rattle.spec_fields.specs.Refusal.{Refusal, numberOf, ended, character, reference, loose}
+use Rattle.spec_fields.specs.Refusal.{name, limit}
+use Rattle.spec_fields.specs.Parser.{Parser, got, return, fail, need, present, andThen}
+use Rattle.spec_fields.specs.Parser.{_>>=_, _>>_}
+use Rattle.spec_fields.specs.Field.{Alignment, numberField, width, unsigned}
 use Rattle.spec_fields.proofs.Steady.{steady-choice, steady-unsigned}
 use Rattle.spec_fields.proofs.Tests.{split}
 use Rattle.spec_exi.specs.Settings.{Settings}
-use Rattle.spec_exi.specs.Sizes.{sizes}
-use Rattle.spec_exi.specs.Tables.{Placed, Slot, Tables, Form, hit, uri, local, compact, literals, partitionsOf}
-use Rattle.spec_exi.specs.Tables.{tablesAfter}
-use Rattle.spec_exi.specs.Reader.{readByLiterals, readIn, readHit, readEntry, readForm, readString, readName}
-use Rattle.read_contract.specs.Outcome.{Gotten}
-use Rattle.read_contract.proofs.Outcome.{need-true, choice-gotten, choice-none}
-use Rattle.read_contract.proofs.Outcome.{number-gotten, unsigned-gotten}
+use Rattle.spec_exi.specs.Sizes.{sizes, maxStream, maxUris}
+use Rattle.spec_exi.specs.Tables.{Placed, Slot, Tables, hit, uri, local, compact, literals}
+use Rattle.spec_exi.specs.Tables.{partitionsOf, namesOf, tablesAfter}
+use Rattle.spec_exi.specs.Reader.{readByLiterals, readIn, readHit, readEntry, readForm}
+use Rattle.spec_exi.specs.Reader.{readString, readName}
 use Rattle.read_field.specs.declared.Field.{Field}
 use Rattle.read_field.specs.declared.Field.the-variants.{Value}
 use Rattle.read_field.specs.View.{fieldAt, NumberIn}
-use Rattle.spec_exi.specs.Sizes.{maxStream, maxUris}
-use Rattle.spec_exi.specs.Tables.{namesOf}
 use Rattle.mem_layout.specs.Layout.{uriRows}
 use Rattle.mem_names.specs.Uris.{uriAt, uriText}
 use Rattle.mem_names.specs.Names.{AskableName, CountedNames}
 use Rattle.mem_rows.specs.Rows.{tablesOf}
 use Rattle.mem_rows.proofs.Forms.{own-count}
-use Rattle.receiver_strings.specs.Strings.{SpotIn, LookBounds, StringSeen}
-use Rattle.receiver_strings.proofs.Cuts.{sees-nothing}
-use Rattle.receiver_look.specs.Look.{UriPre, HitPre, Tabled, ownNames, OwnSeen, LocalSeen, HitSeen}
+use Rattle.read_contract.specs.Outcome.{Gotten}
+use Rattle.read_contract.proofs.Outcome.{need-true, choice-gotten, choice-none}
+use Rattle.read_contract.proofs.Outcome.{number-gotten, unsigned-gotten}
 use Rattle.receiver_strings.specs.declared.Looked.{Looked}
-use Rattle.receiver_strings.specs.Cuts.{Faulty, Passes, faulty, reads, Sees}
+use Rattle.receiver_strings.specs.Cuts.{Passes, faulty, reads, Sees}
+use Rattle.receiver_strings.specs.Strings.{SpotIn, LookBounds}
 use Rattle.receiver_strings.proofs.Cuts.{passes-return, passes-then, faulty-then, sees-field}
-use Rattle.receiver_look.proofs.Names.{not-ended, faulty-declined, some-at, length-some, passes-present}
-use Rattle.receiver_look.proofs.Names.{sees-string}
+use Rattle.receiver_strings.proofs.Cuts.{sees-nothing}
+use Rattle.receiver_look.specs.Look.{UriPre, HitPre, Tabled, ownNames, OwnSeen, LocalSeen}
+use Rattle.receiver_look.specs.Look.{HitSeen}
+use Rattle.receiver_look.proofs.Names.{not-ended, faulty-declined, some-at, length-some}
+use Rattle.receiver_look.proofs.Names.{passes-present, sees-string}
 
 -- ---- members
 

@@ -144,18 +144,18 @@ pub record FixedAsks (stream work : List ℕ) (next : ℕ) (c : Core) : Type 0 w
   pub bounded : Bounded c
 
 -- The rest is read to this production, and its content is looked at.
-pub record FixedFound (s : Settings) (stream work : List ℕ) (next : ℕ) (c : Core) (r : Looked) : Type 0
-  where
-    pub production : ProductionRead
-    pub read : FixedAt s (c .mode) stream next (c .at) production
-    pub good : production .number ≡ 0
-    pub seen : ContentSeen (s .alignment) stream work (production .next) (production .kind)
-        (production .learned) (c .uris) r
+pub record FixedFound (s : Settings) (stream work : List ℕ) (next : ℕ) (c : Core) (r : Looked) :
+    Type 0 where
+  pub production : ProductionRead
+  pub read : FixedAt s (c .mode) stream next (c .at) production
+  pub good : production .number ≡ 0
+  pub seen : ContentSeen (s .alignment) stream work (production .next) (production .kind)
+      (production .learned) (c .uris) r
 
-pub record FixedSeen (s : Settings) (stream work : List ℕ) (next : ℕ) (c : Core) (r : Looked) : Type 0
-  where
-    pub bounds : LookBounds stream r
-    pub found : 0 < r .left → FixedFound s stream work next c r
+pub record FixedSeen (s : Settings) (stream work : List ℕ) (next : ℕ) (c : Core) (r : Looked) :
+    Type 0 where
+  pub bounds : LookBounds stream r
+  pub found : 0 < r .left → FixedFound s stream work next c r
 
 -- Where code points are left and octets end in the definitions' step, it is cut there: whatever
 -- rows memory represents.

@@ -1,6 +1,6 @@
 // Where octets end inside an event (02, P8): among the code points of which string, if any. The
-// event is looked at from its first bit on, and nothing is laid. What the functions ask and leave is
-// in specs/Look.antt.
+// event is looked at from its first bit on, and nothing is laid. What the functions ask and leave
+// is in specs/Look.antt.
 ghost use Prim.Native.Nat.{_≤_, _<_};
 ghost use mathlib.Core.Path.{_≡_};
 ghost use mathlib.Core.Bool.{false};
