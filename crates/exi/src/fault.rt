@@ -65,17 +65,7 @@ fn good_octets(
     good
 }
 
-// The events that are complete before the fault, in the cells, and their text.
-pub(crate) fn good_events(
-    s: SettingNumbers,
-    stream: &[u8],
-    held: &mut [u8],
-    cells: &mut [u32],
-    store: &mut [u32],
-    work: &mut [u32],
-) -> Good {
-    let octets = good_octets(s, stream, held, cells, store, work);
-    let h = feed(s, stream, octets, held, cells, store, work);
+fn good_of(octets: usize, h: Handed) -> Good {
     let receiver = h.receiver;
     let state = receiver.state;
     let core = state.core;
@@ -84,4 +74,98 @@ pub(crate) fn good_events(
         events: h.reply.events,
         core,
     }
+}
+
+// What is complete after the good octets.
+fn after_octets(
+    s: SettingNumbers,
+    stream: &[u8],
+    octets: usize,
+    held: &mut [u8],
+    cells: &mut [u32],
+    store: &mut [u32],
+    work: &mut [u32],
+) -> Good {
+    good_of(octets, feed(s, stream, octets, held, cells, store, work))
+}
+
+// What is complete after the good octets and one that stands for the next.
+fn after_another(
+    s: SettingNumbers,
+    stream: &[u8],
+    octets: usize,
+    x: u8,
+    held: &mut [u8],
+    cells: &mut [u32],
+    store: &mut [u32],
+    work: &mut [u32],
+) -> Good {
+    let h = feed(s, stream, octets, held, cells, store, work);
+    let next = receiver::fed(h.receiver, &[x], held, cells, store, work);
+    good_of(octets, next)
+}
+
+fn wide(x: u8) -> u32 {
+    x as u32
+}
+
+fn octet(x: u32) -> u8 {
+    (x % 256) as u8
+}
+
+// What is not there is 0.
+fn octet_at(stream: &[u8], i: usize) -> u32 {
+    if stream.len() <= i {
+        return 0;
+    }
+    wide(stream[i])
+}
+
+// Whether two octets that stand at a place have the same bits up to a bit inside them.
+fn agree(x: u32, y: u32, place: usize, bit: usize) -> bool {
+    (bit / 8 == place) & (x >> (8 - bit % 8) == y >> (8 - bit % 8))
+}
+
+// The events before the one with this index where some of them end inside the octet of the fault:
+// they are complete with another octet that has the bits up to their end, and goes on well. Those
+// of the good octets where there is no such octet.
+fn inside_octet(
+    s: SettingNumbers,
+    stream: &[u8],
+    octets: usize,
+    index: u32,
+    held: &mut [u8],
+    cells: &mut [u32],
+    store: &mut [u32],
+    work: &mut [u32],
+) -> Good {
+    let faulty = octet_at(stream, octets);
+    let mut x: u32 = 0;
+    while x < 256 {
+        let g = after_another(s, stream, octets, octet(x), held, cells, store, work);
+        if (g.events == index) & agree(faulty, x, octets, g.core.at) {
+            return g;
+        }
+        x += 1;
+    }
+    after_octets(s, stream, octets, held, cells, store, work)
+}
+
+// The events that are complete before the fault, in the cells, and their text: all of those before
+// the one with this index, or, where they are fewer, those that end before the octet of the fault.
+pub(crate) fn good_events(
+    s: SettingNumbers,
+    stream: &[u8],
+    index: u32,
+    held: &mut [u8],
+    cells: &mut [u32],
+    store: &mut [u32],
+    work: &mut [u32],
+) -> Good {
+    let octets = good_octets(s, stream, held, cells, store, work);
+    let g = after_octets(s, stream, octets, held, cells, store, work);
+    if g.events == index {
+        return g;
+    }
+    inside_octet(s, stream, octets, index, held, cells, store, work)
 }

@@ -18,8 +18,6 @@ use exi_words::HELP;
 use exi_words::HELP_WORD;
 use exi_words::SHOW;
 use exi_words::WRITE_READINGS;
-use libc::STDERR_FILENO;
-use libc::STDOUT_FILENO;
 
 // Whether the words ask for help.
 fn asks_help(command: usize, a: Asked) -> bool {
@@ -37,9 +35,9 @@ fn main() {
     let mut marks = io::large_buffer();
     let a = exi_asked::read_words(count, &mut marks);
     if count < 2 {
-        exi_usage::usage(STDERR_FILENO);
+        exi_usage::hint();
     } else if asks_help(command, a) {
-        exi_usage::usage(STDOUT_FILENO);
+        exi_usage::usage();
     } else if (SHOW <= command) & (command <= WRITE_READINGS) {
         run::ask(command, a, &marks);
     } else {

@@ -73,7 +73,7 @@ fn put_gap(buffer: &mut [u8], o: Out, first: bool) -> Out {
 fn put_events(buffer: &mut [u8], o: Out, first: bool, t: Told) -> Out {
     let a = put_gap(buffer, o, first);
     let b = exi_out::put_decimal(buffer, a, t.events as u64);
-    let c = exi_out::put(buffer, b, b" after ");
+    let c = exi_out::put(buffer, b, b" after packet ");
     exi_out::put_decimal(buffer, c, t.packets as u64)
 }
 

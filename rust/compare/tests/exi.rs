@@ -131,7 +131,10 @@ fn settings_without_a_meaning() {
 fn words_that_do_not_fit() {
     let day = "day-bit-packed.exi";
     for (words, says) in [
-        ("".to_string(), "Reads EXI 1.0"),
+        (
+            "".to_string(),
+            "exi: no command: it is show, check, readings, write-readings or plot\n",
+        ),
         ("sho".to_string(), "exi: word 1 is not understood: sho;"),
         ("check".to_string(), "exi: no FILE is named;"),
         (
@@ -173,6 +176,14 @@ fn words_that_do_not_fit() {
         (
             format!("write-readings {day}"),
             "exi: write-readings wants CSV and OUT;",
+        ),
+        (
+            format!("check - {day} -"),
+            "exi: FILE is - for standard input once alone;",
+        ),
+        (
+            "show -- - -".to_string(),
+            "exi: FILE is - for standard input once alone;",
         ),
         (
             "check -- --x".to_string(),
@@ -438,11 +449,12 @@ fn packets() {
         }
     }
     let (_, stdout, _) = exi("check --packets 24 day-bit-packed.exi", b"");
-    let told = "packets of 24 octets, events complete: 47 after 16, 99 after 32, 147 after 48, 196 after 64\n";
+    let told = "packets of 24 octets, events complete: 47 after packet 16, 99 after packet 32, \
+                147 after packet 48, 196 after packet 64\n";
     assert!(stdout.starts_with(told), "{stdout}");
     let (_, stdout, _) = exi("check --packets 24 refused-tail.exi", b"");
     assert!(
-        stdout.ends_with(", 147 after 48, refused with packet 64\n"),
+        stdout.ends_with(", 147 after packet 48, refused with packet 64\n"),
         "{stdout}"
     );
     let (_, stdout, _) = exi("check --packets 1000 -", &[0x80; 16_385]);
@@ -484,6 +496,22 @@ fn output_that_is_closed_or_full() {
             "exi: cannot write -: No space left",
         ),
         (
+            "show day-bit-packed.exi day-with-gap.exi >/dev/full",
+            "exi: cannot write standard output: No space left",
+        ),
+        (
+            "--help >/dev/full",
+            "exi: cannot write standard output: No space left",
+        ),
+        (
+            "--version >/dev/full",
+            "exi: cannot write standard output: No space left",
+        ),
+        (
+            "plot --help >/dev/full",
+            "exi: cannot write standard output: No space left",
+        ),
+        (
             "write-readings day.csv no/such/folder",
             "exi: cannot write no/such/folder: No such file",
         ),
@@ -501,6 +529,36 @@ fn output_that_is_closed_or_full() {
             (Some(2), 1),
             "{words}"
         );
+    }
+}
+
+/// A pipe that nothing reads any more is said in one line, too.
+#[test]
+fn output_that_is_a_closed_pipe() {
+    let folder = root().join("samples");
+    for words in [
+        "show day-of-500.exi day-bit-packed.exi",
+        "readings day-bit-packed.exi",
+        "check day-bit-packed.exi",
+        "--help",
+        "--version",
+        "plot --help",
+        "plot day-bit-packed.exi -",
+    ] {
+        // the reader is gone before the script is asked to write
+        let script = format!(
+            "{{ sleep 1; ../exi {words}; echo \"status $?\" >&2; }} | :",
+        );
+        let output = Command::new("sh")
+            .args(["-c", &script])
+            .current_dir(&folder)
+            .output()
+            .unwrap();
+        let stderr = String::from_utf8(output.stderr).unwrap();
+        let lines: Vec<&str> = stderr.lines().collect();
+        assert_eq!(lines.len(), 2, "{words}: {stderr}");
+        assert!(lines[0].contains("Broken pipe"), "{words}: {stderr}");
+        assert_eq!(lines[1], "status 2", "{words}");
     }
 }
 
