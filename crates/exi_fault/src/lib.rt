@@ -2,6 +2,7 @@
 // that are complete.
 use exi_verdict::Good;
 use receiver_record::Handed;
+use receiver_record::Receiver;
 use settings::SettingNumbers;
 use sizes::MAX_STREAM;
 
@@ -20,6 +21,17 @@ fn feed(
         return receiver::fed(r, stream, held, cells, store, work);
     }
     receiver::fed(r, &stream[0..n], held, cells, store, work)
+}
+
+fn feed_octet(
+    r: Receiver,
+    x: u8,
+    held: &mut [u8],
+    cells: &mut [u32],
+    store: &mut [u32],
+    work: &mut [u32],
+) -> Handed {
+    receiver::fed(r, &[x], held, cells, store, work)
 }
 
 // So many octets more than are known to be good, if they are good.
@@ -101,8 +113,7 @@ fn after_another(
     work: &mut [u32],
 ) -> Good {
     let h = feed(s, stream, octets, held, cells, store, work);
-    let next = receiver::fed(h.receiver, &[x], held, cells, store, work);
-    good_of(octets, next)
+    good_of(octets, feed_octet(h.receiver, x, held, cells, store, work))
 }
 
 fn wide(x: u8) -> u32 {
@@ -153,7 +164,7 @@ fn inside_octet(
 
 // The events that are complete before the fault, in the cells, and their text: all of those before
 // the one with this index, or, where they are fewer, those that end before the octet of the fault.
-pub(crate) fn good_events(
+pub fn good_events(
     s: SettingNumbers,
     stream: &[u8],
     index: u32,
