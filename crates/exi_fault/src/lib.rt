@@ -101,7 +101,22 @@ fn after_octets(
     good_of(octets, feed(s, stream, octets, held, cells, store, work))
 }
 
-// What is complete after the good octets and one that stands for the next.
+// The good octets, and then one that stands for the next.
+fn feed_another(
+    s: SettingNumbers,
+    stream: &[u8],
+    octets: usize,
+    x: u8,
+    held: &mut [u8],
+    cells: &mut [u32],
+    store: &mut [u32],
+    work: &mut [u32],
+) -> Handed {
+    let h = feed(s, stream, octets, held, cells, store, work);
+    feed_octet(h.receiver, x, held, cells, store, work)
+}
+
+// What is complete after these.
 fn after_another(
     s: SettingNumbers,
     stream: &[u8],
@@ -112,8 +127,8 @@ fn after_another(
     store: &mut [u32],
     work: &mut [u32],
 ) -> Good {
-    let h = feed(s, stream, octets, held, cells, store, work);
-    good_of(octets, feed_octet(h.receiver, x, held, cells, store, work))
+    let h = feed_another(s, stream, octets, x, held, cells, store, work);
+    good_of(octets, h)
 }
 
 fn wide(x: u8) -> u32 {
@@ -162,6 +177,24 @@ fn inside_octet(
     after_octets(s, stream, octets, held, cells, store, work)
 }
 
+// The events before the one with this index: of the good octets, and of the next.
+fn events_before(
+    s: SettingNumbers,
+    stream: &[u8],
+    octets: usize,
+    index: u32,
+    held: &mut [u8],
+    cells: &mut [u32],
+    store: &mut [u32],
+    work: &mut [u32],
+) -> Good {
+    let g = after_octets(s, stream, octets, held, cells, store, work);
+    if g.events == index {
+        return g;
+    }
+    inside_octet(s, stream, octets, index, held, cells, store, work)
+}
+
 // The events that are complete before the fault, in the cells, and their text: all of those before
 // the one with this index, or, where they are fewer, those that end before the octet of the fault.
 pub fn good_events(
@@ -174,9 +207,5 @@ pub fn good_events(
     work: &mut [u32],
 ) -> Good {
     let octets = good_octets(s, stream, held, cells, store, work);
-    let g = after_octets(s, stream, octets, held, cells, store, work);
-    if g.events == index {
-        return g;
-    }
-    inside_octet(s, stream, octets, index, held, cells, store, work)
+    events_before(s, stream, octets, index, held, cells, store, work)
 }
