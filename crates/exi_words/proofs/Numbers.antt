@@ -61,7 +61,8 @@ module _ (w : Text) where
         let z : None ≡ numberAt (9 - i) w i v = rw (left h, ne-eqb _ _ n, le-leb _ _ l, le-leb _ _ g, lt-leb _ _ e) in
         z ∙ whole
 
-    pub one-read : i < 9 → (getD w i 0 ≡ 0 → ⊥) → 48 ≤ getD w i 0 → getD w i 0 ≤ 57 → v ≤ 99999999 → Unread w (10 * v + (getD w i 0 - 48)) (i + 1)
+    pub one-read : i < 9 → (getD w i 0 ≡ 0 → ⊥) → 48 ≤ getD w i 0 → getD w i 0 ≤ 57 → v ≤ 99999999
+        → Unread w (10 * v + (getD w i 0 - 48)) (i + 1)
     unfolding numberAt
     one-read h n l g e =
         let z : numberAt (9 - i) w i v ≡ numberAt (9 - suc i) w (suc i) (10 * v + (getD w i 0 - 48)) =

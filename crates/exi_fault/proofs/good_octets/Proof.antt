@@ -7,7 +7,8 @@ use Rattle.exi_fault.proofs.good_octets.Tie as tie
 
 abbrev Inv-loop : tie.InvT-loop
 Inv-loop s stream held₀ cells₀ store₀ work₀ good₀ step₀ held cells store work good step =
-    (length held ≡ length held₀) × (length cells ≡ length cells₀) × (length store ≡ length store₀) × (length work ≡ length work₀)
+    (length held ≡ length held₀) × (length cells ≡ length cells₀) × (length store ≡ length store₀)
+    × (length work ≡ length work₀)
 
 abbrev μ-loop : tie.MeasureT-loop
 μ-loop s stream held₀ cells₀ store₀ work₀ good₀ step₀ held cells store work good step = step

@@ -8,7 +8,8 @@ use Rattle.exi_fault.proofs.inside_octet.Tie as tie
 
 abbrev Inv-loop : tie.InvT-loop
 Inv-loop s stream octets index held₀ cells₀ store₀ work₀ faulty x₀ held cells store work x =
-    (length held ≡ length held₀) × (length cells ≡ length cells₀) × (length store ≡ length store₀) × (length work ≡ length work₀)
+    (length held ≡ length held₀) × (length cells ≡ length cells₀) × (length store ≡ length store₀)
+    × (length work ≡ length work₀)
 
 abbrev μ-loop : tie.MeasureT-loop
 μ-loop s stream octets index held₀ cells₀ store₀ work₀ faulty x₀ held cells store work x = 256 - x

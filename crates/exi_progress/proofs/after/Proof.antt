@@ -11,7 +11,12 @@ returns : tie.Need-returns
 returns c = rw (ne-eqb _ _ (c .if1 .taken))
 
 returns-2 : tie.Need-returns-2
-returns-2 c = rw (eq-eqb _ _ (c .before .if1 .left), ne-eqb _ _ (c .if2 .taken), c .before .before .before .wrapping-add-usize .ensures)
+returns-2 c =
+    rw (
+      eq-eqb _ _ (c .before .if1 .left),
+      ne-eqb _ _ (c .if2 .taken),
+      c .before .before .before .wrapping-add-usize .ensures,
+    )
 
 quarters-requires : tie.Need-quarters-requires
 quarters-requires c κs = search needs

@@ -1,6 +1,7 @@
-use Rattle.exi_words.proofs.Numbers.{Unread, too-long, empty, unread, ends, below, above, beyond, one-read, all-read}
 -- `number_of` meets its contract. The loop's invariant: the digits before i mean v.
 use Prim.Native.Nat.{_-_}
+use Rattle.exi_words.proofs.Numbers.{Unread, too-long, empty, unread, ends, below, above}
+use Rattle.exi_words.proofs.Numbers.{beyond, one-read, all-read}
 use borrow.Author.Needs.{needs}
 use Rattle.exi_words.proofs.number_of.Statement.{statement}
 use Rattle.exi_words.proofs.number_of.Tie as tie
@@ -33,13 +34,22 @@ returns-3 : tie.Need-returns-3 Inv-loop μ-loop
 returns-3 c = ends _ (c .before .before .loop .inv) (c .before .loop-test .taken) (c .if3 .taken)
 
 returns-4 : tie.Need-returns-4 Inv-loop μ-loop
-returns-4 c = below _ (c .before .before .before .loop .inv) (c .before .before .loop-test .taken) (c .before .if3 .left) (c .if4 .taken)
+returns-4 c =
+    let h = c .before .before .loop-test .taken in
+    below _ (c .before .before .before .loop .inv) h (c .before .if3 .left) (c .if4 .taken)
 
 returns-5 : tie.Need-returns-5 Inv-loop μ-loop
-returns-5 c = above _ (c .before .before .before .before .loop .inv) (c .before .before .before .loop-test .taken) (c .before .before .if3 .left) (c .before .if4 .left) (c .if5 .taken)
+returns-5 c =
+    let h = c .before .before .before .loop-test .taken in
+    let n = c .before .before .if3 .left in
+    above _ (c .before .before .before .before .loop .inv) h n (c .before .if4 .left) (c .if5 .taken)
 
 returns-6 : tie.Need-returns-6 Inv-loop μ-loop
-returns-6 c = beyond _ (c .before .before .before .before .before .loop .inv) (c .before .before .before .before .loop-test .taken) (c .before .before .before .if3 .left) (c .before .before .if4 .left) (c .before .if5 .left) (c .if6 .taken)
+returns-6 c =
+    let u = c .before .before .before .before .before .loop .inv in
+    let h = c .before .before .before .before .loop-test .taken in
+    let n = c .before .before .before .if3 .left in
+    beyond _ u h n (c .before .before .if4 .left) (c .before .if5 .left) (c .if6 .taken)
 
 mul-v : tie.Need-mul-v Inv-loop μ-loop
 mul-v c = search needs
@@ -57,7 +67,11 @@ loop-less : tie.Need-loop-less Inv-loop μ-loop
 loop-less c = search needs
 
 loop-again : tie.Need-loop-again Inv-loop μ-loop
-loop-again c = one-read _ (c .before .before .before .before .before .loop .inv) (c .before .before .before .before .loop-test .taken) (c .before .before .before .if3 .left) (c .before .before .if4 .left) (c .before .if5 .left) (c .if6 .left)
+loop-again c =
+    let u = c .before .before .before .before .before .loop .inv in
+    let h = c .before .before .before .before .loop-test .taken in
+    let n = c .before .before .before .if3 .left in
+    one-read _ u h n (c .before .before .if4 .left) (c .before .if5 .left) (c .if6 .left)
 
 returns-7 : tie.Need-returns-7 Inv-loop μ-loop
 returns-7 c = all-read _ (c .before .loop .inv) (c .loop-test .left)
