@@ -6,8 +6,9 @@
  *   cc -std=c99 -Wall -Wextra -Werror -Iinclude examples/packets.c target/staticlib/libplumethrift.a -o target/packets
  *   printf '\200\001\002\141\003\003\142\000' | target/packets 3 --byte-aligned
  *
- * The first argument is how many octets a packet has, 1 to 240. Without the second the stream is
- * bit-packed. Exit status: 0 read, 1 refused, 2 bad usage or no input.
+ * The first argument is how many octets a packet has, 1 to 240. The flags behind it say how the
+ * stream was written: --byte-aligned, --cookie, --comments, --instructions, --fragment. Exit status:
+ * 0 read, 1 refused, 2 bad usage or no input.
  */
 #include <inttypes.h>
 #include <stdio.h>
@@ -53,17 +54,42 @@ static size_t packet_size(const char *digits) {
   return size <= MAX_PACKET ? (size_t)size : 0;
 }
 
+/* Takes a flag into the settings; answers 0 where it is none. */
+static int take_flag(plumethrift_settings *settings, const char *flag) {
+  if (strcmp(flag, "--byte-aligned") == 0)
+    settings->alignment = PLUMETHRIFT_BYTE_ALIGNED;
+  else if (strcmp(flag, "--cookie") == 0)
+    settings->cookie = 1;
+  else if (strcmp(flag, "--comments") == 0)
+    settings->comments = 1;
+  else if (strcmp(flag, "--instructions") == 0)
+    settings->instructions = 1;
+  else if (strcmp(flag, "--fragment") == 0)
+    settings->fragment = 1;
+  else
+    return 0;
+  return 1;
+}
+
+/* Takes the flags from the third word on; answers 0 where one of them is none. */
+static int take_flags(plumethrift_settings *settings, int argc, char **argv) {
+  for (int i = 2; i < argc; i++) {
+    if (!take_flag(settings, argv[i]))
+      return 0;
+  }
+  return 1;
+}
+
 int main(int argc, char **argv) {
   const size_t size = argc > 1 ? packet_size(argv[1]) : 0;
-  const int byte_aligned = argc == 3 && strcmp(argv[2], "--byte-aligned") == 0;
-  if (size == 0 || argc > 3 || (argc == 3 && !byte_aligned)) {
-    fputs("usage: packets OCTETS [--byte-aligned] (OCTETS from 1 to 240)\n", stderr);
+  plumethrift_settings settings = {0};
+  if (size == 0 || !take_flags(&settings, argc, argv)) {
+    fputs("usage: packets OCTETS [--byte-aligned] [--cookie] [--comments] [--instructions] "
+          "[--fragment] (OCTETS from 1 to 240)\n", stderr);
     return 2;
   }
 
-  plumethrift_receiver receiver = plumethrift_start((plumethrift_settings){
-    .alignment = byte_aligned ? PLUMETHRIFT_BYTE_ALIGNED : PLUMETHRIFT_BIT_PACKED,
-  });
+  plumethrift_receiver receiver = plumethrift_start(settings);
   uint8_t packet[MAX_PACKET];
   unsigned long packets = 0;
   for (size_t octets; (octets = fread(packet, 1, size, stdin)) > 0;) {

@@ -6,8 +6,10 @@
  *   cc -std=c99 -Wall -Wextra -Werror -Iinclude examples/write.c target/staticlib/libplumethrift.a -o target/write
  *   printf 'eins\nzwei\n' | target/write --byte-aligned >target/lines.exi
  *
- * Lines are UTF-8 of up to 4,095 octets. Without the argument the stream is bit-packed. Exit
- * status: 0 written, 1 refused, 2 bad usage, or no input or output.
+ * Lines are UTF-8 of up to 4,095 octets. The flags are --byte-aligned, --cookie, --comments,
+ * --instructions and --fragment, as the reader has to be given them, too; in a fragment the lines
+ * have no element around them. Exit status: 0 written, 1 refused, 2 bad usage, or no input or
+ * output.
  */
 #include <inttypes.h>
 #include <stdio.h>
@@ -33,10 +35,11 @@ static int add_line(plumethrift_list *list, unsigned long number, const char *li
 }
 
 /* Makes the list of all lines; answers 0 after saying what is wrong with one of them. */
-static int add_lines(plumethrift_list *list) {
+static int add_lines(plumethrift_list *list, int fragment) {
   char line[4096];
   plumethrift_add_start_document(list);
-  plumethrift_add_start_element(list, "", "lines");
+  if (!fragment)
+    plumethrift_add_start_element(list, "", "lines");
   for (unsigned long number = 1; fgets(line, sizeof line, stdin) != NULL; number++) {
     const size_t length = strcspn(line, "\n");
     if (line[length] == '\0' && !feof(stdin)) {
@@ -55,29 +58,47 @@ static int add_lines(plumethrift_list *list) {
       return 0;
     }
   }
-  plumethrift_add_end_element(list);
+  if (!fragment)
+    plumethrift_add_end_element(list);
   return plumethrift_add_end_document(list) == PLUMETHRIFT_LIST_FINE;
 }
 
+/* Takes a flag into the settings; answers 0 where it is none. */
+static int take_flag(plumethrift_settings *settings, const char *flag) {
+  if (strcmp(flag, "--byte-aligned") == 0)
+    settings->alignment = PLUMETHRIFT_BYTE_ALIGNED;
+  else if (strcmp(flag, "--cookie") == 0)
+    settings->cookie = 1;
+  else if (strcmp(flag, "--comments") == 0)
+    settings->comments = 1;
+  else if (strcmp(flag, "--instructions") == 0)
+    settings->instructions = 1;
+  else if (strcmp(flag, "--fragment") == 0)
+    settings->fragment = 1;
+  else
+    return 0;
+  return 1;
+}
+
 int main(int argc, char **argv) {
-  const int byte_aligned = argc == 2 && strcmp(argv[1], "--byte-aligned") == 0;
-  if (argc > 2 || (argc == 2 && !byte_aligned)) {
-    fputs("usage: write [--byte-aligned]\n", stderr);
-    return 2;
+  plumethrift_settings settings = {0};
+  for (int i = 1; i < argc; i++) {
+    if (!take_flag(&settings, argv[i])) {
+      fputs("usage: write [--byte-aligned] [--cookie] [--comments] [--instructions] [--fragment]\n",
+            stderr);
+      return 2;
+    }
   }
 
   plumethrift_list list =
       plumethrift_list_in(events, PLUMETHRIFT_EVENT_CELLS, text, PLUMETHRIFT_TEXT_CELLS);
-  if (!add_lines(&list))
+  if (!add_lines(&list, settings.fragment == 1))
     return 1;
   if (ferror(stdin)) {
     perror("standard input");
     return 2;
   }
 
-  const plumethrift_settings settings = {
-    .alignment = byte_aligned ? PLUMETHRIFT_BYTE_ALIGNED : PLUMETHRIFT_BIT_PACKED,
-  };
   const plumethrift_write_reply reply = plumethrift_write(
       settings, stream, sizeof stream, list.events, list.event_cells, list.text, list.text_cells,
       work, PLUMETHRIFT_WRITER_WORK_CELLS);

@@ -234,6 +234,11 @@ plumethrift_write_reply plumethrift_write(plumethrift_settings settings,
  *   number; no other event, and all names in no namespace. Lists and readings stand for each other
  *   one to one: stamps that differ never become the same.
  *
+ *   With the setting `fragment` the same list is written and read, as the only element of a
+ *   fragment; a fragment of several elements, or of none, is STRUCTURE. What is said below of
+ *   refusals by the writer, and of how the list lies, is proved for documents, and tested for
+ *   fragments.
+ *
  *   Readings lie in two parts, stamps and movements, reading i in cell i of both. Of the sizes that
  *   LIMIT speaks of, their list can pass the text store's alone: 111 code points, 24 a stamp, and
  *   each distinct movement once. So there are at most PLUMETHRIFT_MAX_READINGS, and fewer where

@@ -83,11 +83,18 @@ fn repository_folder() -> PathBuf {
     folder
 }
 
+/// Whether a crate is of the programs, and not of the library.
+fn is_outside(crate_folder: &Path) -> bool {
+    let name = crate_folder.file_name().unwrap_or_default();
+    name == "streams" || name.to_string_lossy().starts_with("exi")
+}
+
 /// When the newest source of the library was changed.
 fn newest_source(folder: &Path) -> Option<SystemTime> {
     let entries = fs::read_dir(folder).ok()?;
     let paths = entries.filter_map(|entry| Some(entry.ok()?.path()));
     let times = paths.map(|path| match path.extension() {
+        _ if is_outside(&path) => None,
         _ if path.is_dir() => newest_source(&path),
         Some(kind) if kind == "rt" => changed(&path),
         _ => None,

@@ -5,7 +5,6 @@
 // begins with `exi: refused:` is a stream or a table that is refused, one with two spaces tells
 // more of the line before, and any other one is of something that was not read or written. The
 // script `exi` turns that into a status.
-mod fault;
 mod pieces;
 mod run;
 mod stream;
@@ -18,8 +17,6 @@ use exi_words::HELP;
 use exi_words::HELP_WORD;
 use exi_words::SHOW;
 use exi_words::WRITE_READINGS;
-use libc::STDERR_FILENO;
-use libc::STDOUT_FILENO;
 
 // Whether the words ask for help.
 fn asks_help(command: usize, a: Asked) -> bool {
@@ -37,9 +34,9 @@ fn main() {
     let mut marks = io::large_buffer();
     let a = exi_asked::read_words(count, &mut marks);
     if count < 2 {
-        exi_usage::usage(STDERR_FILENO);
+        exi_usage::hint();
     } else if asks_help(command, a) {
-        exi_usage::usage(STDOUT_FILENO);
+        exi_usage::usage();
     } else if (SHOW <= command) & (command <= WRITE_READINGS) {
         run::ask(command, a, &marks);
     } else {

@@ -63,6 +63,34 @@ fn marked(marks: &[u8], from: usize) -> usize {
     i
 }
 
+// Whether a word is a file, and stands for standard input.
+fn is_input(marks: &[u8], at: usize) -> bool {
+    if marks.len() <= at {
+        return false;
+    }
+    if marks[at] != 1 {
+        return false;
+    }
+    let word = exi_words::word_at(at);
+    (word[0] == b'-') & (word[1] == 0)
+}
+
+// Whether more than one of the files is standard input.
+fn reads_input_twice(marks: &[u8]) -> bool {
+    let mut seen = false;
+    let mut i = 0;
+    while i < marks.len() {
+        if is_input(marks, i) {
+            if seen {
+                return true;
+            }
+            seen = true;
+        }
+        i += 1;
+    }
+    false
+}
+
 fn write_readings(a: Asked, marks: &[u8]) {
     let first = marked(marks, 0);
     let second = marked(marks, std::num::wrapping_add_usize(first, 1));
@@ -99,6 +127,10 @@ pub(crate) fn ask(command: usize, a: Asked, marks: &[u8]) {
     }
     if command == WRITE_READINGS {
         write_readings(a, marks);
+        return;
+    }
+    if reads_input_twice(marks) {
+        exi_usage::complain(b"FILE is - for standard input once alone");
         return;
     }
     let flags = a.flags;

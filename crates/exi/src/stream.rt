@@ -1,5 +1,4 @@
 // A stream, judged or turned into a table.
-use crate::fault;
 use crate::pieces;
 use crate::tries;
 use exi_out::Out;
@@ -27,11 +26,11 @@ fn refuse_octets(
     store: &mut [u32],
     work: &mut [u32],
 ) {
-    let good = fault::good_events(t.settings, stream, held, cells, store, work);
+    let good = exi_fault::good_events(t.settings, stream, r.index, held, cells, store, work);
     let a = exi_verdict::put_events(buffer, o, t, true, cells, good.events, store);
     exi_verdict::finish(buffer, a);
     exi_say::refused(file, r.number, r.index);
-    exi_verdict::explain(t, r.number, stream, good);
+    exi_verdict::explain(t, r.number, r.index, stream, good);
     tries::suggestions(stream, cells, store, work);
 }
 

@@ -1,4 +1,7 @@
 // Output that waits in a buffer, and goes out where the buffer is full.
+ghost use mathlib.Core.Path.{_≡_};
+ghost use lib.ListN.{length};
+ghost use Rattle.exi_out.specs.Waiting.{noneWaits, placeIn, waitingAfter, bufferAfter};
 use libc::STDOUT_FILENO;
 
 // How many octets wait, and whether a write failed.
@@ -7,7 +10,9 @@ pub struct Out {
     pub failed: bool,
 }
 
-pub fn none() -> Out {
+pub fn none() -> Out
+    ensures { λ r. ⌜ r ≡ noneWaits ⌝ }
+{
     Out {
         at: 0,
         failed: false,
@@ -15,7 +20,9 @@ pub fn none() -> Out {
 }
 
 // Writes what waits.
-pub fn flush(buffer: &[u8], o: Out) -> Out {
+pub fn flush(buffer: &[u8], o: Out) -> Out
+    ensures { λ r. ⌜ r .at ≡ 0 ⌝ }
+{
     let n = o.at;
     if buffer.len() < n {
         return Out {
@@ -31,14 +38,19 @@ pub fn flush(buffer: &[u8], o: Out) -> Out {
 }
 
 // Writes what waits where no octet more would fit.
-fn with_room(buffer: &[u8], o: Out) -> Out {
+fn with_room(buffer: &[u8], o: Out) -> Out
+    ensures { λ r. ⌜ r .at ≡ placeIn (length (now (buffer .entry))) (o .at) ⌝ }
+{
     if o.at < buffer.len() {
         return o;
     }
     flush(buffer, o)
 }
 
-pub fn put_octet(buffer: &mut [u8], o: Out, x: u8) -> Out {
+pub fn put_octet(buffer: &mut [u8], o: Out, x: u8) -> Out
+    ensures { λ r. ⌜ (r .at ≡ waitingAfter (length (now (buffer .entry))) (o .at))
+        × (now (buffer .exit) ≡ bufferAfter (now (buffer .entry)) (o .at) x) ⌝ }
+{
     let roomy = with_room(buffer, o);
     let at = roomy.at;
     if buffer.len() <= at {

@@ -1,6 +1,8 @@
 // What is told of a stream that is read in packets: at each quarter of it, how many events were
 // complete after how many packets, and which packet was refused.
+ghost use mathlib.Core.Path.{_≡_};
 ghost use Prim.Native.Nat.{_≤_, _<_};
+ghost use Rattle.exi_progress.specs.Told.{noneTold, endOf, quartersOf, toldAfter};
 use exi_out::Out;
 
 // How many packets were taken, and how many events were complete; the packet that was refused, 0
@@ -12,7 +14,9 @@ pub struct Told {
     pub quarters: usize,
 }
 
-pub fn nothing() -> Told {
+pub fn nothing() -> Told
+    ensures { λ r. ⌜ r ≡ noneTold ⌝ }
+{
     Told {
         packets: 0,
         events: 0,
@@ -24,7 +28,7 @@ pub fn nothing() -> Told {
 // Where a packet of n octets ends that begins at a place, an empty one counting as one octet.
 pub fn end_of(at: usize, n: usize, all: usize) -> usize
     requires { ⌜ at < all ⌝ }
-    ensures { λ r. ⌜ (at < r) × (r ≤ all) ⌝ }
+    ensures { λ r. ⌜ (r ≡ endOf at n all) × (at < r) × (r ≤ all) ⌝ }
 {
     if n == 0 {
         return at + 1;
@@ -36,12 +40,16 @@ pub fn end_of(at: usize, n: usize, all: usize) -> usize
 }
 
 // How many quarters of all octets are over.
-fn quarters(end: usize, all: usize) -> usize {
+fn quarters(end: usize, all: usize) -> usize
+    ensures { λ r. ⌜ r ≡ quartersOf end all ⌝ }
+{
     end / (all / 4 + 1)
 }
 
 // With one packet more, after which so many octets are over, and what its reply has.
-pub fn after(t: Told, number: u32, events: u32, end: usize, all: usize) -> Told {
+pub fn after(t: Told, number: u32, events: u32, end: usize, all: usize) -> Told
+    ensures { λ r. ⌜ r ≡ toldAfter t number events end all ⌝ }
+{
     let packets = std::num::wrapping_add_usize(t.packets, 1);
     if t.refused != 0 {
         return t;
@@ -73,7 +81,7 @@ fn put_gap(buffer: &mut [u8], o: Out, first: bool) -> Out {
 fn put_events(buffer: &mut [u8], o: Out, first: bool, t: Told) -> Out {
     let a = put_gap(buffer, o, first);
     let b = exi_out::put_decimal(buffer, a, t.events as u64);
-    let c = exi_out::put(buffer, b, b" after ");
+    let c = exi_out::put(buffer, b, b" after packet ");
     exi_out::put_decimal(buffer, c, t.packets as u64)
 }
 

@@ -3,6 +3,7 @@
 use exi_asked::NO_NUMBER;
 use exi_asked::TOO_MANY;
 use libc::STDERR_FILENO;
+use libc::STDOUT_FILENO;
 
 fn tell(x: &[u8]) {
     io::write_all(STDERR_FILENO, x);
@@ -48,11 +49,21 @@ pub fn wrong_word(at: usize, fault: u32) {
     tell(b"; exi --help tells the words\n");
 }
 
-// What help prints. A flag that the library does not take yet gets its line here once it does:
+// What a call without words gets.
+pub fn hint() {
+    tell(
+        b"exi: no command: it is show, check, readings, write-readings or plot
+  exi show FILE prints the events of a stream, exi check FILE whether it is accepted
+  exi --help tells the rest
+",
+    );
+}
+
+// What help prints, on standard output. A flag that the library does not take yet gets its line here once it does:
 // --max-length N, no longer value joins the tables; --capacity N, so many values stay in them.
-pub fn usage(fd: i32) {
-    io::write_all(
-        fd,
+pub fn usage() {
+    let written = io::write_all(
+        STDOUT_FILENO,
         b"Reads EXI 1.0 streams without a schema, in strict form.
 
   exi show [FLAG..] FILE..  prints the events, one a line, and what the stream has;
@@ -68,6 +79,7 @@ pub fn usage(fd: i32) {
                             writes the stream of the readings in CSV, either form
   exi help, --help, -h      prints this
   exi --version             prints the repository's commit and the kit
+  exi --build               proves and builds this program again
 
 FILE and CSV are - for standard input, OUT is - for standard output. Flags stand
 before or after them, but not after --, and say how the stream is written:
@@ -88,4 +100,7 @@ error has number, name, event, reading or line, and reason, then lines that begi
 spaces. 2: something was not read or written, or a word is not understood.
 ",
     );
+    if !written {
+        unwritten(b"standard output");
+    }
 }

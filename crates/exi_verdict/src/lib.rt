@@ -99,18 +99,25 @@ pub fn accept(
     finish(buffer, d);
 }
 
-// More on a refusal, by what is good before it.
-pub fn explain(t: Task, number: u32, stream: &[u8], good: Good) {
+// Where the event with this index begins, if it is one and all events before it are known.
+fn explain_event(number: u32, index: u32, good: Good) {
+    if good.events != index {
+        exi_why::unknown(good.events);
+    } else if number != TAIL {
+        exi_why::event(good.core.at);
+    }
+}
+
+// More on a refusal at the event with this index, by what is good before it.
+pub fn explain(t: Task, number: u32, index: u32, stream: &[u8], good: Good) {
     if number == HEADER {
         exi_why::header(stream, t.settings.cookie == 1);
         return;
     }
-    if number != TAIL {
-        exi_why::event(good.core.at);
-    }
+    explain_event(number, index, good);
     exi_why::octet(good.octets, stream.len());
     if number == LIMIT {
-        exi_why::limits(good.events, good.core);
+        exi_why::limits(index, good.core);
     }
     if number == NAME {
         exi_cause::name(stream, t.settings.alignment == 1, good.core.at, good.octets);

@@ -68,9 +68,14 @@ fn full(n: usize, most: usize, of: &[u8]) {
     }
 }
 
-// What of the sizes is used up before the event that would pass one.
+// What of the sizes is used up before the event that would pass one. Events are counted before
+// anything of the next one is read.
 pub fn limits(events: u32, c: Core) {
-    full(events as usize, MAX_EVENTS, b" events\n");
+    let n = events as usize;
+    if MAX_EVENTS <= n {
+        full(n, MAX_EVENTS, b" events\n");
+        return;
+    }
     full(c.depth, MAX_OPEN, b" open elements\n");
     full(c.uris as usize, MAX_URIS, b" URIs\n");
     full(c.names as usize, MAX_NAMES, b" names\n");
@@ -95,6 +100,13 @@ pub fn event(bits: usize) {
         tell_decimal((bits % 8) as u64);
     }
     tell(b"\n");
+}
+
+// From which event on those before the fault are not known.
+pub fn unknown(from: u32) {
+    tell(b"  events from ");
+    tell_decimal(from as u64);
+    tell(b" on end in the octet of the fault, and are not known\n");
 }
 
 // At which octet the fault shows, of all; they are counted from 0.

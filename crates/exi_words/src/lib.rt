@@ -2,7 +2,7 @@
 // definitions that the contracts cite are in specs/Words.antt.
 ghost use mathlib.Core.Path.{_≡_};
 ghost use lib.ListN.{length};
-ghost use Rattle.exi_words.specs.Words.{wordPlace, isOption};
+ghost use Rattle.exi_words.specs.Words.{wordPlace, isOption, numberOf};
 
 // A word's first 16 octets, zeros behind it.
 pub type Word = [u8; 16];
@@ -116,7 +116,9 @@ pub enum Number {
 }
 
 // The number that a word is: 1 to 9 digits.
-pub fn number_of(word: Word) -> Number {
+pub fn number_of(word: Word) -> Number
+    ensures { λ r. ⌜ r ≡ numberOf word ⌝ }
+{
     if word[9] != 0 {
         return Number::None;
     }

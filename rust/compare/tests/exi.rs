@@ -131,7 +131,10 @@ fn settings_without_a_meaning() {
 fn words_that_do_not_fit() {
     let day = "day-bit-packed.exi";
     for (words, says) in [
-        ("".to_string(), "Reads EXI 1.0"),
+        (
+            "".to_string(),
+            "exi: no command: it is show, check, readings, write-readings or plot\n",
+        ),
         ("sho".to_string(), "exi: word 1 is not understood: sho;"),
         ("check".to_string(), "exi: no FILE is named;"),
         (
@@ -175,6 +178,14 @@ fn words_that_do_not_fit() {
             "exi: write-readings wants CSV and OUT;",
         ),
         (
+            format!("check - {day} -"),
+            "exi: FILE is - for standard input once alone;",
+        ),
+        (
+            "show -- - -".to_string(),
+            "exi: FILE is - for standard input once alone;",
+        ),
+        (
             "check -- --x".to_string(),
             "exi: cannot read --x: No such file",
         ),
@@ -192,6 +203,7 @@ fn help_and_version() {
         let (status, stdout, stderr) = exi(word, b"");
         assert!(stdout.starts_with("Reads EXI 1.0 streams"), "{word}");
         assert!(stdout.contains("Status 0: "), "{word}");
+        assert!(stdout.contains("\n  exi --build "), "{word}");
         assert_eq!((status, stderr.as_str()), (Some(0), ""), "{word}");
     }
     let (status, stdout, stderr) = exi("--version", b"");
@@ -257,6 +269,108 @@ fn events_before_the_fault() {
         stderr.ends_with("\n  the fault shows at octet 1514\n"),
         "{stderr}"
     );
+}
+
+/// Number, index and the rest of the lines of a refusal.
+fn refusal(stderr: &str) -> (usize, usize, &str) {
+    let line = stderr.strip_prefix("exi: refused: ").expect(stderr);
+    let (number, rest) = line.split_once(' ').expect(stderr);
+    let (_, rest) = rest.split_once(", event ").expect(stderr);
+    let (index, _) = rest.split_once(':').expect(stderr);
+    let (_, more) = rest.split_once('\n').expect(stderr);
+    (number.parse().unwrap(), index.parse().unwrap(), more)
+}
+
+/// Of a bit-packed stream those events are shown, too, that end inside the octet of the fault.
+#[test]
+fn events_inside_the_octet_of_the_fault() {
+    // <a/> with a pad bit that is 1
+    let (status, stdout, stderr) = exi("show -", b"\x80\x40\x98\x41");
+    let expected = "   0  start document\n   1    start element \"a\"\n   2    end element\n   \
+                    3  end document\n";
+    assert_eq!((status, stdout.as_str()), (Some(1), expected));
+    assert_eq!(refusal(&stderr), (13, 4, "  the fault shows at octet 3\n"));
+
+    let day = sample("day-bit-packed.exi");
+    let (mut refused, mut inside) = (0, 0);
+    for bit in (8..8 * day.len()).step_by(61) {
+        let mut damaged = day.clone();
+        damaged[bit / 8] ^= 0x80 >> (bit % 8);
+        let (status, stdout, stderr) = exi("show -", &damaged);
+        if status == Some(0) {
+            continue;
+        }
+        let (number, index, more) = refusal(&stderr);
+        assert_eq!(stdout.lines().count(), index, "bit {bit}: {stderr}");
+        refused += 1;
+        let Some(more) = more.strip_prefix("  the event begins at octet ") else {
+            assert_eq!(number, 13, "bit {bit}: {stderr}");
+            continue;
+        };
+        // the events before are complete with its octet, and not without it unless it begins there
+        let place = more.lines().next().unwrap();
+        let (octet, in_octet) = match place.split_once(", bit ") {
+            Some((octet, _)) => (octet.parse::<usize>().unwrap(), 1),
+            None => (place.parse().unwrap(), 0),
+        };
+        let complete = |octets: usize| {
+            let mut receiver = plumethrift::Receiver::new(&plumethrift::Settings::default());
+            let fed = receiver.feed(&damaged[..octets]);
+            fed.map(|document| document.len())
+        };
+        if in_octet == 0 {
+            assert_eq!(complete(octet), Ok(index), "bit {bit}: {stderr}");
+            continue;
+        }
+        assert!(
+            complete(octet).is_ok_and(|n| n < index),
+            "bit {bit}: {stderr}"
+        );
+        match complete(octet + 1) {
+            Ok(n) => assert_eq!(n, index, "bit {bit}: {stderr}"),
+            Err(_) => inside += 1,
+        }
+    }
+    assert!(refused > 100 && inside > 10, "{refused} {inside}");
+}
+
+/// A stream with more events than there may be: those that end in the octet of the fault are not
+/// known, and that is said.
+#[test]
+fn more_events_than_there_may_be() {
+    use plumethrift::{EventList, Settings, Writer};
+    for (flag, words) in [("--bit-packed", ""), ("--byte-aligned", "byte-aligned")] {
+        let settings: Settings = words.parse().unwrap();
+        let stream = |children: usize| {
+            let mut list = EventList::new();
+            list.start_document().start_element("", "a");
+            for _ in 0..children {
+                list.start_element("", "b").end_element();
+            }
+            list.end_element().end_document();
+            Writer::new().write(&settings, &list).unwrap().to_vec()
+        };
+        // octets that stand for whole children, as often as there is room
+        let (some, more) = (stream(64), stream(96));
+        let common = some.iter().zip(&more).take_while(|(x, y)| x == y).count();
+        let mut long = some[..common - 8].to_vec();
+        while long.len() < 16_000 {
+            long.extend(&some[common - 16..common - 8]);
+        }
+        let (status, stdout, stderr) = exi(&format!("show {flag} -"), &long);
+        let (number, index, told) = refusal(&stderr);
+        assert_eq!((status, number, index), (Some(1), 12, 4_096), "{stderr}");
+        let shown = stdout.lines().count();
+        let says = format!(
+            "  events from {shown} on end in the octet of the fault, and are not known\n  the \
+             fault shows at octet "
+        );
+        assert!(
+            (4_088..4_096).contains(&shown) && told.starts_with(&says),
+            "{told}"
+        );
+        assert!(told.ends_with("\n  full: 4096 events\n"), "{told}");
+    }
 }
 
 /// Where other flags accept the stream, that is said, of two sets of flags at most.
@@ -438,11 +552,12 @@ fn packets() {
         }
     }
     let (_, stdout, _) = exi("check --packets 24 day-bit-packed.exi", b"");
-    let told = "packets of 24 octets, events complete: 47 after 16, 99 after 32, 147 after 48, 196 after 64\n";
+    let told = "packets of 24 octets, events complete: 47 after packet 16, 99 after packet 32, \
+                147 after packet 48, 196 after packet 64\n";
     assert!(stdout.starts_with(told), "{stdout}");
     let (_, stdout, _) = exi("check --packets 24 refused-tail.exi", b"");
     assert!(
-        stdout.ends_with(", 147 after 48, refused with packet 64\n"),
+        stdout.ends_with(", 147 after packet 48, refused with packet 64\n"),
         "{stdout}"
     );
     let (_, stdout, _) = exi("check --packets 1000 -", &[0x80; 16_385]);
@@ -484,6 +599,22 @@ fn output_that_is_closed_or_full() {
             "exi: cannot write -: No space left",
         ),
         (
+            "show day-bit-packed.exi day-with-gap.exi >/dev/full",
+            "exi: cannot write standard output: No space left",
+        ),
+        (
+            "--help >/dev/full",
+            "exi: cannot write standard output: No space left",
+        ),
+        (
+            "--version >/dev/full",
+            "exi: cannot write standard output: No space left",
+        ),
+        (
+            "plot --help >/dev/full",
+            "exi: cannot write standard output: No space left",
+        ),
+        (
             "write-readings day.csv no/such/folder",
             "exi: cannot write no/such/folder: No such file",
         ),
@@ -501,6 +632,34 @@ fn output_that_is_closed_or_full() {
             (Some(2), 1),
             "{words}"
         );
+    }
+}
+
+/// A pipe that nothing reads any more is said in one line, too.
+#[test]
+fn output_that_is_a_closed_pipe() {
+    let folder = root().join("samples");
+    for words in [
+        "show day-of-500.exi day-bit-packed.exi",
+        "readings day-bit-packed.exi",
+        "check day-bit-packed.exi",
+        "--help",
+        "--version",
+        "plot --help",
+        "plot day-bit-packed.exi -",
+    ] {
+        // the reader is gone before the script is asked to write
+        let script = format!("{{ sleep 1; ../exi {words}; echo \"status $?\" >&2; }} | :",);
+        let output = Command::new("sh")
+            .args(["-c", &script])
+            .current_dir(&folder)
+            .output()
+            .unwrap();
+        let stderr = String::from_utf8(output.stderr).unwrap();
+        let lines: Vec<&str> = stderr.lines().collect();
+        assert_eq!(lines.len(), 2, "{words}: {stderr}");
+        assert!(lines[0].contains("Broken pipe"), "{words}: {stderr}");
+        assert_eq!(lines[1], "status 2", "{words}");
     }
 }
 

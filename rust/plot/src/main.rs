@@ -31,7 +31,8 @@ fn main() -> ExitCode {
     };
     let picture = plot::picture(name, &readings);
     let written = if out == "-" {
-        io::stdout().write_all(picture.as_bytes())
+        let mut out = io::stdout();
+        out.write_all(picture.as_bytes()).and_then(|()| out.flush())
     } else {
         std::fs::write(&out, picture)
     };

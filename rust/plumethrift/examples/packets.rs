@@ -1,5 +1,5 @@
 //! Reads a stream from standard input in packets, and prints each event as soon as it is complete:
-//! `packets OCTETS [bit-packed | byte-aligned]`
+//! `packets OCTETS [SETTING..]`, as `packets 24 byte-aligned fragment`
 
 use std::env;
 use std::error::Error;
@@ -23,13 +23,7 @@ fn run() -> Result<(), Box<dyn Error>> {
     let octets = words
         .next()
         .ok_or("how many octets a packet has is missing")?;
-    let alignment = words
-        .next()
-        .map_or(Ok(Default::default()), |it| it.parse())?;
-    let settings = Settings {
-        alignment,
-        ..Settings::default()
-    };
+    let settings: Settings = words.collect::<Vec<_>>().join(" ").parse()?;
 
     let mut receiver = Receiver::new(&settings);
     let mut packet = vec![0; octets.parse()?];

@@ -1,4 +1,4 @@
-//! Prints the events of a stream: `show FILE [bit-packed | byte-aligned]`
+//! Prints the events of a stream: `show FILE [SETTING..]`, as `show day.exi byte-aligned cookie`
 
 use std::error::Error;
 use std::process::ExitCode;
@@ -19,13 +19,7 @@ fn main() -> ExitCode {
 fn run() -> Result<(), Box<dyn Error>> {
     let mut words = env::args().skip(1);
     let file = words.next().ok_or("a file is missing")?;
-    let alignment = words
-        .next()
-        .map_or(Ok(Default::default()), |it| it.parse())?;
-    let settings = Settings {
-        alignment,
-        ..Settings::default()
-    };
+    let settings: Settings = words.collect::<Vec<_>>().join(" ").parse()?;
 
     let mut reader = Reader::new();
     let mut depth = 0;

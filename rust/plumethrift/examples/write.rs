@@ -1,5 +1,5 @@
-//! Writes the lines of standard input as a stream to standard output, each as an element `line`:
-//! `write [bit-packed | byte-aligned]`
+//! Writes the lines of standard input as a stream to standard output, each as an element `line`,
+//! all of them in an element `lines`, or in a fragment: `write [SETTING..]`, as `write fragment`
 
 use std::env;
 use std::error::Error;
@@ -19,21 +19,23 @@ fn main() -> ExitCode {
 }
 
 fn run() -> Result<(), Box<dyn Error>> {
-    let word = env::args().nth(1);
-    let alignment = word.map_or(Ok(Default::default()), |it| it.parse())?;
-    let settings = Settings {
-        alignment,
-        ..Settings::default()
-    };
+    let words: Vec<String> = env::args().skip(1).collect();
+    let settings: Settings = words.join(" ").parse()?;
 
     let mut list = EventList::new();
-    list.start_document().start_element("", "lines");
+    list.start_document();
+    if !settings.fragment {
+        list.start_element("", "lines");
+    }
     for line in io::stdin().lines() {
         list.start_element("", "line")
             .characters(&line?)
             .end_element();
     }
-    list.end_element().end_document();
+    if !settings.fragment {
+        list.end_element();
+    }
+    list.end_document();
 
     let mut writer = Writer::new();
     io::stdout().write_all(writer.write(&settings, &list)?)?;

@@ -126,3 +126,34 @@ impl From<Settings> for SettingNumbers {
         settings.numbers()
     }
 }
+
+/// The words of the settings that differ from the default, with spaces between them, in any order:
+/// an alignment, `cookie`, `comments`, `instructions`, `fragment`. No word is the default.
+///
+/// ```
+/// use plumethrift::{Alignment, Settings};
+///
+/// let settings: Settings = "byte-aligned fragment".parse()?;
+/// assert_eq!(settings.alignment, Alignment::ByteAligned);
+/// assert!(settings.fragment && !settings.cookie);
+/// assert_eq!("".parse(), Ok(Settings::default()));
+/// assert!("fragments".parse::<Settings>().is_err());
+/// # Ok::<(), plumethrift::Unknown>(())
+/// ```
+impl FromStr for Settings {
+    type Err = Unknown;
+
+    fn from_str(words: &str) -> Result<Self, Unknown> {
+        let mut settings = Settings::default();
+        for word in words.split_ascii_whitespace() {
+            match word {
+                "cookie" => settings.cookie = true,
+                "comments" => settings.comments = true,
+                "instructions" => settings.instructions = true,
+                "fragment" => settings.fragment = true,
+                alignment => settings.alignment = alignment.parse()?,
+            }
+        }
+        Ok(settings)
+    }
+}

@@ -5,7 +5,7 @@ use std::io::Write;
 use std::path::{Path, PathBuf};
 use std::process::{Command, Output, Stdio};
 
-use plumethrift::{Alignment, EventList, Reader, Refusal, Settings};
+use plumethrift::{EventList, Reader, Refusal, Settings};
 
 /// K3, `<a>b</a>`, byte-aligned.
 const STREAM: [u8; 8] = [0x80, 0x01, 0x02, 0x61, 0x03, 0x03, 0x62, 0x00];
@@ -294,7 +294,25 @@ fn the_example_reads_packets() {
         text(&output.stderr),
         "refused: 5 ENDED at event 3, at the close\n"
     );
-    for words in [&[][..], &["0"], &["241"], &["x"], &["1", "--bit-packed"]] {
+    let restarted = fs::read(root().join("samples/restarted.exi")).unwrap();
+    let output = run(
+        Command::new(&packets).args(["24", "--fragment"]),
+        &restarted,
+    );
+    assert!(text(&output.stdout).contains("\nclosed: "));
+    assert_eq!(output.status.code(), Some(0));
+    let kinds = fs::read(root().join("samples/kinds.exi")).unwrap();
+    let flags = ["7", "--instructions", "--cookie", "--comments"];
+    let output = run(Command::new(&packets).args(flags), &kinds);
+    assert_eq!(output.status.code(), Some(0));
+    for words in [
+        &[][..],
+        &["0"],
+        &["241"],
+        &["x"],
+        &["1", "--bit-packed"],
+        &["1", "--fragment", "x"],
+    ] {
         let output = run(Command::new(&packets).args(words), &STREAM);
         assert_eq!(output.status.code(), Some(2));
     }
@@ -357,23 +375,30 @@ int main(void) {
 fn the_example_writes() {
     let write = program(&root().join("examples/write.c"));
     let input = "eins\n\nT\u{FC}r".as_bytes();
-    for (word, alignment) in [
-        (None, Alignment::BitPacked),
-        (Some("--byte-aligned"), Alignment::ByteAligned),
+    for words in [
+        "",
+        "byte-aligned",
+        "cookie comments",
+        "fragment",
+        "instructions byte-aligned fragment",
     ] {
-        let output = run(Command::new(&write).args(word), input);
+        let settings: Settings = words.parse().unwrap();
+        let flags = words.split_whitespace().map(|word| format!("--{word}"));
+        let output = run(Command::new(&write).args(flags), input);
         assert_eq!(output.status.code(), Some(0));
         let mut list = EventList::new();
-        list.start_document().start_element("", "lines");
+        list.start_document();
+        if !settings.fragment {
+            list.start_element("", "lines");
+        }
         for (n, line) in [("1", "eins"), ("2", ""), ("3", "T\u{FC}r")] {
             list.start_element("", "line").attribute("", "n", n);
             list.characters(line).end_element();
         }
-        list.end_element().end_document();
-        let settings = Settings {
-            alignment,
-            ..Settings::default()
-        };
+        if !settings.fragment {
+            list.end_element();
+        }
+        list.end_document();
         let mut reader = Reader::new();
         assert_eq!(reader.read(&settings, &output.stdout).unwrap(), list);
     }

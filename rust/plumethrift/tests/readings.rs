@@ -243,11 +243,12 @@ fn streams_and_readings_stand_for_each_other() {
     ]);
     let (mut reader, mut writer) = (Reader::new(), Writer::new());
     for alignment in [Alignment::BitPacked, Alignment::ByteAligned] {
-        for cookie in [false, true] {
+        for (cookie, fragment) in [(false, false), (true, false), (false, true), (true, true)] {
             let settings = Settings {
                 alignment,
                 cookie,
                 comments: cookie,
+                fragment,
                 ..Settings::default()
             };
             for all in [&Readings::new(), &all] {
@@ -272,8 +273,17 @@ fn readings_whose_stream_would_be_too_long() {
         alignment: Alignment::ByteAligned,
         ..Settings::default()
     };
+    let fragment = |settings| Settings {
+        fragment: true,
+        ..settings
+    };
     let mut writer = Writer::new();
-    for (settings, most) in [(Settings::default(), 606), (byte_aligned, 545)] {
+    for (settings, most) in [
+        (Settings::default(), 606),
+        (byte_aligned, 545),
+        (fragment(Settings::default()), 606),
+        (fragment(byte_aligned), 545),
+    ] {
         let mut octets = |count: usize| {
             let written = writer.write_readings(&settings, &readings(&all[..count]));
             written.map(<[u8]>::len)
@@ -306,7 +316,27 @@ fn streams_that_are_refused() {
         assert_eq!(read(stream), answer);
     }
 
+    // a fragment of two lists of readings, and of none
+    let fragment = Settings {
+        fragment: true,
+        ..Settings::default()
+    };
+    let mut several = EventList::new();
+    several.start_document();
     let mut writer = Writer::new();
+    for count in [0, 2] {
+        for _ in 0..count {
+            several.start_element("", "readings").end_element();
+        }
+        let mut list = several.clone();
+        list.end_document();
+        let stream = writer.write(&fragment, &list).unwrap();
+        assert_eq!(
+            reader.read_readings(&fragment, stream),
+            refused(Structure, 0)
+        );
+    }
+
     let capped = Settings {
         grammar_cap: Some(1),
         ..Settings::default()

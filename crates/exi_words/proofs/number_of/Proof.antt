@@ -1,11 +1,13 @@
--- `number_of` is safe and ends.
+-- `number_of` meets its contract. The loop's invariant: the digits before i mean v.
 use Prim.Native.Nat.{_-_}
+use Rattle.exi_words.proofs.Numbers.{Unread, too-long, empty, unread, ends, below, above}
+use Rattle.exi_words.proofs.Numbers.{beyond, one-read, all-read}
 use borrow.Author.Needs.{needs}
 use Rattle.exi_words.proofs.number_of.Statement.{statement}
 use Rattle.exi_words.proofs.number_of.Tie as tie
 
 abbrev Inv-loop : tie.InvT-loop
-Inv-loop word v₀ i₀ v i = Unit {0}
+Inv-loop word v₀ i₀ v i = Unread word v i
 
 abbrev μ-loop : tie.MeasureT-loop
 μ-loop word v₀ i₀ v i = 9 - i
@@ -14,31 +16,40 @@ array-read-if1 : tie.Need-array-read-if1 Inv-loop μ-loop
 array-read-if1 c = search needs
 
 returns : tie.Need-returns Inv-loop μ-loop
-returns c = search needs
+returns c = too-long _ (c .if1 .taken)
 
 array-read-if2 : tie.Need-array-read-if2 Inv-loop μ-loop
 array-read-if2 c = search needs
 
 returns-2 : tie.Need-returns-2 Inv-loop μ-loop
-returns-2 c = search needs
+returns-2 c = empty _ (c .before .if1 .left) (c .if2 .taken)
 
 loop-holds : tie.Need-loop-holds Inv-loop μ-loop
-loop-holds c = search needs
+loop-holds c = unread _ (c .before .if1 .left) (c .if2 .left)
 
 array-read-c : tie.Need-array-read-c Inv-loop μ-loop
 array-read-c c = search needs
 
 returns-3 : tie.Need-returns-3 Inv-loop μ-loop
-returns-3 c = search needs
+returns-3 c = ends _ (c .before .before .loop .inv) (c .before .loop-test .taken) (c .if3 .taken)
 
 returns-4 : tie.Need-returns-4 Inv-loop μ-loop
-returns-4 c = search needs
+returns-4 c =
+    let h = c .before .before .loop-test .taken in
+    below _ (c .before .before .before .loop .inv) h (c .before .if3 .left) (c .if4 .taken)
 
 returns-5 : tie.Need-returns-5 Inv-loop μ-loop
-returns-5 c = search needs
+returns-5 c =
+    let h = c .before .before .before .loop-test .taken in
+    let n = c .before .before .if3 .left in
+    above _ (c .before .before .before .before .loop .inv) h n (c .before .if4 .left) (c .if5 .taken)
 
 returns-6 : tie.Need-returns-6 Inv-loop μ-loop
-returns-6 c = search needs
+returns-6 c =
+    let u = c .before .before .before .before .before .loop .inv in
+    let h = c .before .before .before .before .loop-test .taken in
+    let n = c .before .before .before .if3 .left in
+    beyond _ u h n (c .before .before .if4 .left) (c .before .if5 .left) (c .if6 .taken)
 
 mul-v : tie.Need-mul-v Inv-loop μ-loop
 mul-v c = search needs
@@ -56,10 +67,14 @@ loop-less : tie.Need-loop-less Inv-loop μ-loop
 loop-less c = search needs
 
 loop-again : tie.Need-loop-again Inv-loop μ-loop
-loop-again c = search needs
+loop-again c =
+    let u = c .before .before .before .before .before .loop .inv in
+    let h = c .before .before .before .before .loop-test .taken in
+    let n = c .before .before .before .if3 .left in
+    one-read _ u h n (c .before .before .if4 .left) (c .before .if5 .left) (c .if6 .left)
 
 returns-7 : tie.Need-returns-7 Inv-loop μ-loop
-returns-7 c = search needs
+returns-7 c = all-read _ (c .before .loop .inv) (c .loop-test .left)
 
 pub number-of-spec : {M : Type 1} → statement M
 number-of-spec =

@@ -2,12 +2,13 @@
 use mathlib.Core.Path.{_≡_}
 use lib.ListN.{length}
 use borrow.Author.Needs.{needs}
-use Rattle.exi.proofs.fault.good_octets.Statement.{statement}
-use Rattle.exi.proofs.fault.good_octets.Tie as tie
+use Rattle.exi_fault.proofs.good_octets.Statement.{statement}
+use Rattle.exi_fault.proofs.good_octets.Tie as tie
 
 abbrev Inv-loop : tie.InvT-loop
 Inv-loop s stream held₀ cells₀ store₀ work₀ good₀ step₀ held cells store work good step =
-    (length held ≡ length held₀) × (length cells ≡ length cells₀) × (length store ≡ length store₀) × (length work ≡ length work₀)
+    (length held ≡ length held₀) × (length cells ≡ length cells₀) × (length store ≡ length store₀)
+    × (length work ≡ length work₀)
 
 abbrev μ-loop : tie.MeasureT-loop
 μ-loop s stream held₀ cells₀ store₀ work₀ good₀ step₀ held cells store work good step = step
