@@ -112,5 +112,6 @@ pub record Theorems : Type 0 where
   -- from the scope's own sizes to ours
   pub scope-sizes : LargerSizes baseSizes sizes
   pub equal-attributes : (s : Settings) (l : List (Event Text)) → EqualAttributesLost s l
-  -- K1 to K12, their replies in numbers, each number pinned, and examples by topic.
+  -- K1 to K12, their replies in numbers, each number pinned, examples by topic, and at the sizes.
   pub worked-examples : WorkedExamples
+  pub at-sizes : Written atSizes
