@@ -1,5 +1,6 @@
 -- Worked examples at the scope's own sizes, for the writer: a list that ends early, or LIMIT. (Both
--- sides of each size, for the reader too, are among spec_exi's by small sizes, and the sizes pinned.)
+-- sides of each size, for the reader too, are among spec_exi's by small sizes, and the sizes
+-- pinned.)
 use Rattle.spec_fields.specs.Prelude.{ℕ, zero, suc, _+_, List, [], _∷_, _++_, some, replicate}
 use Rattle.spec_fields.specs.Refusal.{limit, shape, refused}
 use Rattle.text.specs.Text.{Text}

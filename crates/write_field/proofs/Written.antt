@@ -1,18 +1,17 @@
 -- Laws of `written`: what callers of the fields' functions cite.
 use mathlib.Core.Path.{_≡_, sym, ap, ap₂, _∙_}
-use Prim.Native.Nat.{ℕ, zero, suc, _+_, _*_, _≤_, _<_}
+use Prim.Native.Nat.{ℕ, zero, suc, _+_, _*_, _<_}
 use native.Mathlib.Omega.{arith}
 use mathlib.Core.Bool.{false}
 use mathlib.Core.List.{List, [], _∷_, _++_, append-assoc, append-nil}
 use lib.ListN.{length, getD, take, replicate, length-append}
-use lib.Seq.{length-take-le}
 use mir.Syntax.{w8}
 use mir.Val.{Fits}
 use lib.Dec.{T}
-use Rattle.spec_fields.specs.Bits.{Bits, bitsOf, each, unpack, octetsFrom, octetsFor, pack, allZero}
+use Rattle.spec_fields.specs.Bits.{Bits, bitsOf, each, unpack, octetsFrom, pack, allZero}
 use Rattle.spec_fields.proofs.Pack.{Octets, length-unpack}
 use Rattle.write_field.specs.Written.{written, blankFrom, Put}
-use Rattle.write_field.proofs.Fill.{fill, length-fill, front-fill, fill-zeros, fill-blank, blank-fill, behind-taken, behind-filled, length-octets, unpack-from, octets-take, same-octets, from-unpack, octets-from}
+use Rattle.write_field.proofs.Fill.{fill, length-fill, fill-zeros, fill-blank, blank-fill, behind-taken, behind-filled, length-octets, unpack-from, same-octets, from-unpack, octets-from}
 
 -- The octets of a slice.
 pub octets-of : (os : List ℕ) → ((i : ℕ) → Fits w8 (getD os i 0)) → Octets os
@@ -94,21 +93,6 @@ pub zeros-blank : (n : ℕ) → T (blankFrom (replicate n 0) 0)
 unfolding blankFrom unpack each bitsOf allZero
 zeros-blank zero = tt
 zeros-blank (suc n) = zeros-blank n
-
--- What fits is there.
-pub written-front : (buf : List ℕ) (at : ℕ) (w : Bits) → at + length w ≤ 8 * length buf
-    → take (at + length w) (unpack (written buf at w)) ≡ take at (unpack buf) ++ w
-unfolding written
-written-front buf at w h =
-    let p = take at (unpack buf) ++ w in
-    let f : length (take at (unpack buf)) ≡ at = length-take-le at (unpack buf) (omega (arith, length-unpack buf)) in
-    let l : length p ≡ at + length w = length-append (take at (unpack buf)) w ∙ ap (λ n. n + length w) f in
-    rw (unpack-from (length buf) p, ← l) (front-fill (8 * length buf) p (omega arith))
-
--- Written from the start on, what fits is packed.
-pub written-packed : (buf : List ℕ) (w : Bits) → octetsFor (length w) ≤ length buf → take (octetsFor (length w)) (written buf 0 w) ≡ pack w
-unfolding written pack
-written-packed buf w h = octets-take (octetsFor (length w)) (length buf) w h
 
 -- ---- the same of what a function leaves
 

@@ -57,8 +57,8 @@ writes =
     -- A local name outside the store, which looked up is empty: PLACE. An empty one outside, too.
     ∷ listed (some (startElement (named 9 9)) ∷ []) [] (refused place 1)
     ∷ listed (some (startElement (named 9 0)) ∷ []) [] (refused place 1)
-    -- A URI that is no Char, and a local name outside the store; an empty name, and a value outside:
-    -- PLACE for all strings of the event comes first.
+    -- A URI that is no Char, and a local name outside the store; an empty name, and a value
+    -- outside: PLACE for all strings of the event comes first.
     ∷ listed (some (startElement (inUri 0 1 9 9)) ∷ []) (0 ∷ []) (refused place 1)
     ∷ listed (some (startElement (named 0 1)) ∷ some (attribute (named 0 0) (at 9 9)) ∷ [])
     (text "a") (refused place 2)
@@ -107,8 +107,8 @@ writesInOrder =
     ∷ (only 2 0, listed (some (startElement (named 0 0)) ∷ []) [] (refused name 1))
     -- the limit of the URIs, before the local name's characters
     ∷ (only 3 3, listed (some (startElement (inUri 0 1 1 1)) ∷ []) (117 ∷ 0 ∷ []) (refused limit 1))
-    -- the limits of a value (its table, its length, the store), before SHAPE for a second attribute of
-    -- one name (P3)
+    -- the limits of a value (its table, its length, the store), before SHAPE for a second attribute
+    -- of one name (P3)
     ∷ (only 5 1, secondValue 1)
     ∷ (only 8 1, secondValue 2)
     ∷ (only 9 102, secondValue 1) ∷ []
