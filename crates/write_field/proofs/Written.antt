@@ -56,7 +56,8 @@ position : (buf : List ℕ) (at : ℕ) (w : Bits) → length (before buf at ++ w
 position buf at w = length-append (before buf at) w ∙ ap (λ n. n + length w) (length-before buf at)
 
 -- Writing w, and u behind it, is writing both at once, also past the end.
-pub written-then : (buf : List ℕ) (at : ℕ) (w u : Bits) → written (written buf at w) (at + length w) u ≡ written buf at (w ++ u)
+pub written-then : (buf : List ℕ) (at : ℕ) (w u : Bits)
+    → written (written buf at w) (at + length w) u ≡ written buf at (w ++ u)
 written-then buf at w u =
     ap₂ (λ b n. written b n u) (written-is buf at w) (sym (position buf at w))
     ∙ written-behind (length buf) (before buf at ++ w) u
@@ -70,7 +71,8 @@ written-blank buf at w =
     rw (written-is buf at w, unpack-from (length buf) (before buf at ++ w), ← position buf at w) (blank-fill (8 * length buf) (before buf at ++ w))
 
 -- Zeros at the end of what is written make no difference.
-pub written-zeros : (buf : List ℕ) (at : ℕ) (w : Bits) (m : ℕ) → written buf at (w ++ replicate m false) ≡ written buf at w
+pub written-zeros : (buf : List ℕ) (at : ℕ) (w : Bits) (m : ℕ)
+    → written buf at (w ++ replicate m false) ≡ written buf at w
 unfolding written
 written-zeros buf at w m =
     let p = take at (unpack buf) ++ w in
@@ -78,14 +80,16 @@ written-zeros buf at w m =
     (same-octets (length buf) (p ++ replicate m false) p (fill-zeros (8 * length buf) m p))
 
 -- A buffer that is blank from bit `at` on is its bits before that.
-pub blank-is : (buf : List ℕ) (at : ℕ) → Octets buf → T (blankFrom buf at) → octetsFrom (length buf) (before buf at) ≡ buf
+pub blank-is : (buf : List ℕ) (at : ℕ) → Octets buf → T (blankFrom buf at)
+    → octetsFrom (length buf) (before buf at) ≡ buf
 unfolding blankFrom before
 blank-is buf at h t =
     same-octets (length buf) (fill at (unpack buf)) (unpack buf) (rw (length-unpack buf) at (fill-blank at (unpack buf) t))
     ∙ from-unpack buf h
 
 pub written-nothing : (buf : List ℕ) (at : ℕ) → Octets buf → T (blankFrom buf at) → written buf at [] ≡ buf
-written-nothing buf at h t = written-is buf at [] ∙ ap (octetsFrom (length buf)) (append-nil (before buf at)) ∙ blank-is buf at h t
+written-nothing buf at h t =
+    written-is buf at [] ∙ ap (octetsFrom (length buf)) (append-nil (before buf at)) ∙ blank-is buf at h t
 
 -- ---- at the two ends of a run of writes
 
@@ -96,7 +100,8 @@ zeros-blank (suc n) = zeros-blank n
 
 -- ---- the same of what a function leaves
 
-pub put-then : {buf mid after : List ℕ} {at p r : ℕ} {w u : Bits} → Put buf at w mid p → Put mid p u after r → Put buf at (w ++ u) after r
+pub put-then : {buf mid after : List ℕ} {at p r : ℕ} {w u : Bits} → Put buf at w mid p
+    → Put mid p u after r → Put buf at (w ++ u) after r
 put-then {buf} {mid} {after} {at} {p} {r} {w} {u} a b =
     record {
       octets = b .octets ∙ ap₂ (λ os n. written os n u) (a .octets) (a .next) ∙ written-then buf at w u;
@@ -114,5 +119,7 @@ pub put-known : {buf after : List ℕ} {at r : ℕ} {w : Bits} → Put buf at w 
 put-known {buf} {after} {at} {r} {w} a i =
     record { fits = rw (a .octets) (octet-below (written buf at w) i (written-octets buf at w)) }
 
-pub put-nothing : {buf : List ℕ} {at : ℕ} → ((i : ℕ) → Fits w8 (getD buf i 0)) → T (blankFrom buf at) → Put buf at [] buf at
-put-nothing {buf} {at} known t = record { octets = sym (written-nothing buf at (octets-of buf known) t); next = omega arith }
+pub put-nothing : {buf : List ℕ} {at : ℕ} → ((i : ℕ) → Fits w8 (getD buf i 0))
+    → T (blankFrom buf at) → Put buf at [] buf at
+put-nothing {buf} {at} known t =
+    record { octets = sym (written-nothing buf at (octets-of buf known) t); next = omega arith }
