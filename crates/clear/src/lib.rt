@@ -5,7 +5,8 @@ ghost use Prim.Native.Nat.{_-_};
 ghost use lib.ListN.{length, take, replicate};
 
 pub fn cells_from(x: &mut [u32], at: usize)
-    ensures { λ _. ⌜ now (x .exit) ≡ take at (now (x .entry)) ++ replicate (length (now (x .entry)) - at) 0 ⌝ }
+    ensures { λ _. ⌜
+        now (x .exit) ≡ take at (now (x .entry)) ++ replicate (length (now (x .entry)) - at) 0 ⌝ }
 {
     let mut i = at;
     while i < x.len() {
@@ -15,7 +16,8 @@ pub fn cells_from(x: &mut [u32], at: usize)
 }
 
 fn octets_from(x: &mut [u8], at: usize)
-    ensures { λ _. ⌜ now (x .exit) ≡ take at (now (x .entry)) ++ replicate (length (now (x .entry)) - at) 0 ⌝ }
+    ensures { λ _. ⌜
+        now (x .exit) ≡ take at (now (x .entry)) ++ replicate (length (now (x .entry)) - at) 0 ⌝ }
 {
     let mut k = at;
     while k < x.len() {

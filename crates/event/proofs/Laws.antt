@@ -3,14 +3,11 @@ use Prim.Native.Nat.{ℕ, zero, suc, _+_, _*_, _≤_, _<_}
 use native.Mathlib.Omega.{arith}
 use native.Mathlib.Numerals.{towards-suc}
 use mathlib.Core.Path.{_≡_, refl, sym, ap, _∙_}
-use mathlib.Core.Bool.{true, false, cond, _&&_, and-eq-true-iff}
+use mathlib.Core.Bool.{true, false, _&&_}
 use mathlib.Core.List.{List, [], _∷_, _++_, map, append-assoc}
 use mathlib.Core.Option.{none, some}
-use lib.ListN.{length, set, getD, take, drop, replicate, length-append, length-drop, drop-of-length-le}
-use lib.Dec.{eqb}
-use lib.Seq.{length-take-le, drop-cons, take-append-le, drop-append-le, take-at, drop-at, take-all, drop-drop, sets-eq}
-use borrow.Author.Tests.{eqb-true}
-use Rattle.spec_fields.proofs.Tests.{split}
+use lib.ListN.{length, set, getD, take, drop, length-append, length-drop, drop-of-length-le}
+use lib.Seq.{drop-cons, take-at, drop-at, drop-drop, sets-eq}
 use Rattle.text.specs.Text.{Span}
 use Rattle.spec_exi.specs.Event.{Event, mapEvent, startDocument, endDocument, endElement}
 use Rattle.spec_exi.specs.Event.{startElement, attribute, characters, comment, instruction}
@@ -105,63 +102,6 @@ unfolding row
 row-put l at k x y p v h =
     simp towards-suc (sets-eq (row k x y p v) l at h)
 
--- The event that s is, if it is one, lies in these cells.
-record Lies (s : Stored) (cells : List ℕ) : Type 0 where
-  lies : (e : Event Span) → s ≡ some e → cellsOf e ≡ cells
-
-by-kind : (k n : ℕ) {a b : Stored} {cells : List ℕ} → (k ≡ n → Lies a cells) → Lies b cells
-    → Lies (cond (eqb k n) a b) cells
-by-kind k n f g = split (eqb k n) (λ t. rw t (f (eqb-true k n t))) (λ t. rw t g)
-
-zeros-is : (x : Span) → isZeros x ≡ true → x ≡ zeros
-unfolding isZeros zeros
-zeros-is x t =
-    let (p, s) = and-eq-true-iff (eqb (x .place) 0) (eqb (x .size) 0) .0 t in
-    λ i. record { place = eqb-true (x .place) 0 p i; size = eqb-true (x .size) 0 s i }
-
--- Where these strings are zeros, the event's cells are these.
-by-zeros : (x y p v : Span) (d : Event Span) {cells : List ℕ}
-    → (x ≡ zeros → y ≡ zeros → p ≡ zeros → v ≡ zeros → cellsOf d ≡ cells)
-    → Lies (ifZeros x y p v d) cells
-unfolding ifZeros
-by-zeros x y p v d f =
-    split (isZeros x && isZeros y && isZeros p && isZeros v)
-    (λ t. rw t (
-    let (r, c) = and-eq-true-iff (isZeros x && isZeros y && isZeros p) (isZeros v) .0 t in
-    let (q, b) = and-eq-true-iff (isZeros x && isZeros y) (isZeros p) .0 r in
-    let (a, o) = and-eq-true-iff (isZeros x) (isZeros y) .0 q in
-    let same = f (zeros-is x a) (zeros-is y o) (zeros-is p b) (zeros-is v c) in
-    record { lies = λ e h. cc }
-    ))
-    (λ t. rw t (record { lies = λ e h. cc }))
-
--- What a row means lies in that row, kind by kind.
-row-loaded : (k : ℕ) (x y p v : Span) → Lies (ofRow k x y p v) (row k x y p v)
-unfolding ofRow cellsOf
-row-loaded k x y p v =
-    by-kind k 1 (λ e. by-zeros x y p v startDocument (λ a b c d. cc))
-    (by-kind k 2 (λ e. by-zeros x y p v endDocument (λ a b c d. cc))
-    (by-kind k 3 (λ e. by-zeros zeros zeros p v (startElement _) (λ a b c d. cc))
-    (by-kind k 4 (λ e. by-zeros zeros zeros p zeros (attribute _ _) (λ a b c d. cc))
-    (by-kind k 5 (λ e. by-zeros x y p v endElement (λ a b c d. cc))
-    (by-kind k 6 (λ e. by-zeros zeros y p v (characters _) (λ a b c d. cc))
-    (by-kind k 7 (λ e. by-zeros zeros y p v (comment _) (λ a b c d. cc))
-    (by-kind k 8 (λ e. by-zeros zeros zeros p v (instruction _ _) (λ a b c d. cc))
-    (record { lies = λ d h. cc }))))))))
-
--- What is loaded as an event is stored as the same cells.
-pub cells-loaded : (xs : List ℕ) (e : Event Span) → length xs ≡ 9 → loadedFrom xs ≡ some e
-    → cellsOf e ≡ xs
-unfolding loadedFrom
-cells-loaded xs e n h =
-    row-loaded (getD xs 0 0) (spanAt xs 1 2) (spanAt xs 3 4) (spanAt xs 5 6) (spanAt xs 7 8) .lies e h
-    ∙ row-at xs 0 (omega arith)
-    ∙ take-all 9 xs (omega arith)
-
-pub zeros-are-none : loadedFrom (replicate 9 0) ≡ none
-unfolding loadedFrom ofRow
-zeros-are-none = refl
-
 -- ---- cells as stored events
 
 pub events-whole : (xs : List ℕ) → cellsPerEvent ≤ length xs
@@ -224,41 +164,6 @@ cells-size (e ∷ es) =
       cells-length (mapEvent spanOf e),
       cells-size es,
     )
-
--- The stored events of n rows, and of what comes after them.
-pub events-append : (n : ℕ) (xs ys : List ℕ) → length xs ≡ cellsPerEvent * n
-    → eventsOf (xs ++ ys) ≡ eventsOf xs ++ eventsOf ys
-unfolding eventsOf
-events-append zero [] ys h = refl
-events-append zero (x ∷ xs) ys h = absurd (omega arith)
-events-append (suc n) xs ys h =
-    let long : cellsPerEvent ≤ length xs = omega arith in
-    let more : cellsPerEvent ≤ length (xs ++ ys) = simp length-append (omega arith) in
-    let rest : length (drop cellsPerEvent xs) ≡ cellsPerEvent * n = simp length-drop (omega arith) in
-    rw (events-whole (xs ++ ys) more, events-whole xs long, take-append-le 9 xs ys long, drop-append-le 9 xs ys long)
-    (ap (λ (l : List Stored). loadedFrom (take cellsPerEvent xs) ∷ l) (events-append n (drop cellsPerEvent xs) ys rest))
-
--- Storing an event in row n.
-pub events-stored : (n : ℕ) (l : List ℕ) (e : Event Span) → cellsPerEvent * n + cellsPerEvent ≤ length l
-    → eventsOf (take (cellsPerEvent * n) l ++ cellsOf e ++ drop (cellsPerEvent * n + cellsPerEvent) l)
-    ≡ eventsOf (take (cellsPerEvent * n) l) ++ some e ∷ eventsOf (drop (cellsPerEvent * n + cellsPerEvent) l)
-events-stored n l e h =
-    let whole : length (take (cellsPerEvent * n) l) ≡ cellsPerEvent * n =
-    length-take-le (cellsPerEvent * n) l (omega arith) in
-    rw (
-      append-assoc,
-      events-append n (take (cellsPerEvent * n) l)
-          (cellsOf e ++ drop (cellsPerEvent * n + cellsPerEvent) l) whole,
-      events-cells,
-    )
-
-pub events-zeros : (n : ℕ) → eventsOf (replicate (cellsPerEvent * n) 0) ≡ replicate n none
-unfolding eventsOf loadedFrom ofRow
-events-zeros zero = refl
-events-zeros (suc n) =
-    let e : cellsPerEvent * suc n ≡ suc (suc (suc (suc (suc (suc (suc (suc (suc (cellsPerEvent * n))))))))) =
-    omega arith in
-    rw e (ap (λ (l : List Stored). none ∷ l) (events-zeros n))
 
 -- The stored events from a cell on.
 module _ (xs : List ℕ) (at : ℕ) where

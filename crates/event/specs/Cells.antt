@@ -15,8 +15,8 @@ use Rattle.event.specs.declared.Part.{Part}
 use Rattle.event.specs.declared.Row.{Row}
 use Rattle.event.specs.declared.Event as declared
 use Rattle.event.specs.declared.Event.the-variants.{StartDocument, EndDocument, StartElement}
-use Rattle.event.specs.declared.Event.the-variants.{Attribute, EndElement, Characters, Comment}
-use Rattle.event.specs.declared.Event.the-variants.{Instruction}
+use Rattle.event.specs.declared.Event.the-variants.{Attribute, EndElement, Characters}
+use Rattle.event.specs.declared.Event.the-variants.{Comment, Instruction}
 use Rattle.event.specs.declared.Loaded.{Loaded}
 use Rattle.event.specs.declared.Loaded.the-variants.{Whole, Shape}
 

@@ -4,8 +4,8 @@ use mathlib.Core.Bool.{cond}
 use mathlib.Core.List.{List, [], _∷_}
 use Rattle.text.specs.Names.{isNameStart, isNameChar}
 
--- A letter for each class: A may stand first in a name and further on, 1 only further on, a full stop
--- is in no name.
+-- A letter for each class: A may stand first in a name and further on, 1 only further on, a full
+-- stop is in no name.
 abbrev pub first : ℕ
 first = 65
 

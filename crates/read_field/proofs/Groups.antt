@@ -118,11 +118,13 @@ module _ (k weight low : ℕ) (bs : Bits) where
 module _ {s : List ℕ} {at : ℕ} where
   pub unsigned-past : InStream s at → 8 * length s < at + 8 → Refused numberEnded ≡ fieldAt unsigned s at
   unfolding numberOf
-  unsigned-past h l = sym (field-bad unsigned s at ended (unsigned-ended (drop at (unpack s)) (octet-past s at (h .place) l)))
+  unsigned-past h l =
+      sym (field-bad unsigned s at ended (unsigned-ended (drop at (unpack s)) (octet-past s at (h .place) l)))
 
   module _ {o : ℕ} (p : Peeked s at o) (h : at + 8 ≤ 8 * length s) where
     pub unsigned-first : o < 128 → Value o (at + 8) ≡ fieldAt unsigned s at
-    unsigned-first l = sym (field-got unsigned s at o (at + 8) h (unsigned-one (drop at (unpack s)) (octet-at s at p h) l))
+    unsigned-first l =
+        sym (field-got unsigned s at o (at + 8) h (unsigned-one (drop at (unpack s)) (octet-at s at p h) l))
 
     pub unsigned-more : 128 ≤ o → fieldAt (onward 4 128 (o - 128)) s (at + 8) ≡ fieldAt unsigned s at
     unsigned-more l =
@@ -194,7 +196,8 @@ module _ {s : List ℕ} {at first place left weight low o : ℕ} (t : Turn s at 
         let e = onward-large (left - 1) weight low (drop place (unpack s)) next b l m in
         sym (field-bad (onward 4 128 first) s at number (same ∙ e))
 
-    pub turn-last : low + weight * o ≤ 2147483647 → Value (low + weight * o) (place + 8) ≡ fieldAt (onward 4 128 first) s at
+    pub turn-last : low + weight * o ≤ 2147483647
+        → Value (low + weight * o) (place + 8) ≡ fieldAt (onward 4 128 first) s at
     unfolding maxUnsigned
     turn-last m =
         let e = onward-last (left - 1) weight low (drop place (unpack s)) next b l m in

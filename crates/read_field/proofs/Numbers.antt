@@ -93,7 +93,8 @@ module _ (s : List ℕ) (at : ℕ) where
   left : length (drop at (unpack s)) ≡ 8 * length s - at
   left = length-drop at (unpack s) ∙ ap (λ n. n - at) (length-unpack s)
 
-  pub octet-at : {o : ℕ} → Peeked s at o → at + 8 ≤ 8 * length s → octet (drop at (unpack s)) ≡ got o (drop (at + 8) (unpack s))
+  pub octet-at : {o : ℕ} → Peeked s at o → at + 8 ≤ 8 * length s
+      → octet (drop at (unpack s)) ≡ got o (drop (at + 8) (unpack s))
   octet-at p h = rw (p .is, ← drop-drop 8 at (unpack s)) (octet-got (drop at (unpack s)) (omega (arith, left)))
 
   pub octet-past : at ≤ 8 * length s → 8 * length s < at + 8 → octet (drop at (unpack s)) ≡ bad ended

@@ -26,7 +26,8 @@ pub record Declined (p : Parser ℕ) (s : List ℕ) (at k : ℕ) : Type 0 where
   pub is : k ≡ numberOf refusal
 
 -- Two parsers with one result have one view.
-pub field-same : (p q : Parser ℕ) (s : List ℕ) (a b : ℕ) → p (drop a (unpack s)) ≡ q (drop b (unpack s)) → fieldAt p s a ≡ fieldAt q s b
+pub field-same : (p q : Parser ℕ) (s : List ℕ) (a b : ℕ)
+    → p (drop a (unpack s)) ≡ q (drop b (unpack s)) → fieldAt p s a ≡ fieldAt q s b
 unfolding fieldAt
 field-same p q s a b e = ap (viewOf (8 * length s)) e
 
@@ -34,7 +35,8 @@ module _ (p : Parser ℕ) (s : List ℕ) (at : ℕ) where
   behind : (w rest : Bits) → drop at (unpack s) ≡ w ++ rest → rest ≡ drop (at + length w) (unpack s)
   behind w rest e = rw (← drop-drop (length w) at (unpack s), e) (sym (drop-append-seam w rest))
 
-  pub field-got : (v q : ℕ) → q ≤ 8 * length s → p (drop at (unpack s)) ≡ got v (drop q (unpack s)) → fieldAt p s at ≡ Value v q
+  pub field-got : (v q : ℕ) → q ≤ 8 * length s → p (drop at (unpack s)) ≡ got v (drop q (unpack s))
+      → fieldAt p s at ≡ Value v q
   unfolding fieldAt viewOf
   field-got v q h e =
       let l : 8 * length s - length (drop q (unpack s)) ≡ q = omega (arith, length-drop q (unpack s), length-unpack s) in

@@ -53,8 +53,8 @@ unfoldable pub broad : Bool → ℕ → ℕ
 broad true m = 16
 broad false m = width m
 
--- An Unsigned Integer after groups that come to `low`: at most k more octets, the next group of this
--- weight.
+-- An Unsigned Integer after groups that come to `low`: at most k more octets, the next group of
+-- this weight.
 unfoldable pub onward : ℕ → ℕ → ℕ → Parser ℕ
 onward k weight low = do
   (high, fewest) ← grouped k

@@ -1,4 +1,5 @@
--- What stands at a bit position of a stream: a parser's result, with the bits that are left as the position that they begin at.
+-- What stands at a bit position of a stream: a parser's result, with the bits that are left as the
+-- position that they begin at.
 use Prim.Native.Nat.{ℕ, _*_, _-_, _≤_}
 use mathlib.Core.Bool.{Bool, true, false}
 use mathlib.Core.List.{List}
@@ -10,7 +11,8 @@ use Rattle.spec_fields.specs.Field.{Alignment, bitPacked, byteAligned}
 use Rattle.read_field.specs.declared.Field.{Field}
 use Rattle.read_field.specs.declared.Field.the-variants.{Value, Refused}
 
--- A result over a stream of `total` bits: the value and the position after it, or the refusal's number.
+-- A result over a stream of `total` bits: the value and the position after it, or the refusal's
+-- number.
 unfoldable pub viewOf : ℕ → Result ℕ → Field
 viewOf total (bad k) = Refused (numberOf k)
 viewOf total (got v rest) = Value v (total - length rest)

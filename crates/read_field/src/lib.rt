@@ -3,7 +3,8 @@ ghost use mathlib.Core.Path.{_≡_};
 ghost use Prim.Native.Nat.{_+_, _*_, _/_, _%_, _^_, _≤_, _<_};
 ghost use lib.ListN.{length, drop};
 ghost use Rattle.spec_fields.specs.Bits.{unpack};
-ghost use Rattle.spec_fields.specs.Field.{bitPacked, byteAligned, octet, numberField, width, unsigned};
+ghost use Rattle.spec_fields.specs.Field.{bitPacked, byteAligned, octet, numberField, width};
+ghost use Rattle.spec_fields.specs.Field.{unsigned};
 ghost use Rattle.read_field.specs.declared.Field.the-variants.{Value};
 ghost use Rattle.read_field.specs.View.{fieldAt, alignmentOf, InStream, NumberIn};
 ghost use Rattle.read_field.specs.Parts.{Octet, Peeked, FewIn, Lying, Cuttable, ahead};
@@ -205,7 +206,8 @@ fn many(aligned: bool, s: &[u8], at: usize, m: u32) -> Field
 // The number in the field of a choice among m. It may be m or more, which the caller judges.
 pub fn choice(aligned: bool, s: &[u8], at: usize, m: u32) -> Field
     requires { ⌜ NumberIn (now s) at m 65536 ⌝ }
-    ensures { λ r. ⌜ r ≡ fieldAt (numberField (alignmentOf aligned) (width m)) (now (s .entry)) at ⌝ }
+    ensures { λ r. ⌜
+        r ≡ fieldAt (numberField (alignmentOf aligned) (width m)) (now (s .entry)) at ⌝ }
 {
     if m <= 1 {
         return Field::Value { value: 0, next: at };

@@ -39,7 +39,8 @@ values f i (suc n) = f i ∷ values f (suc i) n
 value-at : (f : ℕ → List ℕ) (i n k : ℕ) → k < n → getD (values f i n) k [] ≡ f (i + k)
 value-at f i zero k h = let z : ⊥ = omega arith in absurd z
 value-at f i (suc n) zero h = let e : i + 0 ≡ i = omega arith in rw e
-value-at f i (suc n) (suc k) h = let e : i + suc k ≡ suc i + k = omega arith in rw e (value-at f (suc i) n k (omega arith))
+value-at f i (suc n) (suc k) h =
+    let e : i + suc k ≡ suc i + k = omega arith in rw e (value-at f (suc i) n k (omega arith))
 
 pub in-table : (n : ℕ) → n < 20 → getD (values nameAt 0 20) n [] ≡ nameAt n
 in-table n h = let e : 0 + n ≡ n = omega arith in rw e at (value-at nameAt 0 20 n h)

@@ -2,7 +2,8 @@
 ghost use mathlib.Core.Path.{_≡_};
 ghost use Rattle.refusal.specs.Names.{nameAt};
 
-// The numbers (crates/spec_fields/specs/Refusal.antt). Functions that answer one have it in their contract.
+// The numbers (crates/spec_fields/specs/Refusal.antt). Functions that answer one have it in their
+// contract.
 pub const ROOM: u32 = 1;
 
 pub const SETTINGS: u32 = 2;

@@ -121,7 +121,9 @@ run-fit {s} {n} {c} g (goes {n = m} {bs = bs} {r = r} y w h k) =
       fit = also e fit (a .fit);
       few = suc-le-suc (a .few);
       padding = a .padding;
-      bits = cc (b, a .bits) ∙ sym (append-assoc (eventBits s c e) (listBits s d (map eventText (r .events))) (a .padding));
+      bits =
+          cc (b, a .bits)
+          ∙ sym (append-assoc (eventBits s c e) (listBits s d (map eventText (r .events))) (a .padding));
       padded = a .padded;
     }
 

@@ -47,7 +47,8 @@ module _ {A : Type 0} where
 -- A name is the same as itself.
 pub eqName-refl : (q : QName Text) → T (eqName q q)
 unfolding eqName
-eqName-refl q = both (eqText (q .uri) (q .uri)) (eqText (q .local) (q .local)) (eqText-refl (q .uri)) (eqText-refl (q .local))
+eqName-refl q =
+    both (eqText (q .uri) (q .uri)) (eqText (q .local) (q .local)) (eqText-refl (q .uri)) (eqText-refl (q .local))
 
 -- Names that the test finds the same are equal.
 pub eqName-eq : (p q : QName Text) → T (eqName p q) → p ≡ q
@@ -84,7 +85,8 @@ follow (some none) vs p = p
 follow (some (some q)) [] p = some q
 follow (some (some q)) (v ∷ vs) p = none
 
-chosen : (o : Option (Option Production)) (vs : List ℕ) (q : Option Production) (p : Production) → follow o vs q ≡ some p
+chosen : (o : Option (Option Production)) (vs : List ℕ) (q : Option Production) (p : Production)
+    → follow o vs q ≡ some p
     → (c : Option Production) × (o ≡ some c)
 unfolding follow
 chosen none vs q p h = absurd (Option·none-ne-some p h)
@@ -118,14 +120,16 @@ module _ (P : Production → Type 0) where
   named-every (l ∷ ls) (v ∷ vs) h =
       go (getElem? (choices l ls) v) vs (every-at (If-some P) (choices l ls) v (choices-every l ls (h .0))) (named-every ls vs (h .1))
     where
-      go : (o : Option (Option Production)) (vs : List ℕ) → If-some (If-some P) o → If-some P (named ls vs) → If-some P (follow o vs (named ls vs))
+      go : (o : Option (Option Production)) (vs : List ℕ) → If-some (If-some P) o
+          → If-some P (named ls vs) → If-some P (follow o vs (named ls vs))
       go none vs h k = tt
       go (some none) vs h k = k
       go (some (some p)) [] h k = h
       go (some (some p)) (w ∷ vs) h k = tt
 
 -- What holds of every production of the levels holds of a valid code's.
-pub valid-every : (P : Production → Type 0) (ls : List (List Production)) (x : Code) → Every (Every P) ls → Valid ls x → P (x .production)
+pub valid-every : (P : Production → Type 0) (ls : List (List Production)) (x : Code)
+    → Every (Every P) ls → Valid ls x → P (x .production)
 unfolding Valid
 valid-every P ls x h v = rw v at (named-every P ls (x .parts) h)
 
@@ -187,7 +191,8 @@ pub code-of-valid : (ls : List (List Production)) (e : Event Text) (x : Code) �
 code-of-valid ls e x h = coded-as ls e x h .valid
 
 -- Its production fits the event.
-pub code-of-fits : (ls : List (List Production)) (e : Event Text) (x : Code) → codeOf ls e ≡ some x → T (fits (x .production) e)
+pub code-of-fits : (ls : List (List Production)) (e : Event Text) (x : Code) → codeOf ls e ≡ some x
+    → T (fits (x .production) e)
 code-of-fits ls e x h = coded-as ls e x h .fit
 
 -- Parts that the test finds the strict form's are those of a code.
@@ -215,7 +220,8 @@ module _ (a : Alignment) (ls : List (List Production)) where
     names : follow (some o) others (named ls others) ≡ some (x .production)
     bits : w ≡ codeBits a ls others
 
-  part-reads : (v : ℕ) (o : Option Production) → Reads (readCode a ls) (λ x w. Valid ls x × (w ≡ codeBits a ls (x .parts)))
+  part-reads : (v : ℕ) (o : Option Production)
+      → Reads (readCode a ls) (λ x w. Valid ls x × (w ≡ codeBits a ls (x .parts)))
       → Reads (readPart v o (readCode a ls)) (From v o)
   unfolding readPart atLevel below Valid follow
   part-reads v none h =
@@ -231,7 +237,8 @@ module _ (a : Alignment) (ls : List (List Production)) where
       (λ x w m. record { others = []; parts = ap (λ y. y .parts) (m .is); names = cc; bits = cc no-parts })
       (λ x w r. last x w (r .others) (r .parts) (r .names) (r .bits))
     where
-      last : (x : Code) (w : Bits) (vs : List ℕ) → x .parts ≡ v ∷ vs → follow (some (some p)) vs (named ls vs) ≡ some (x .production)
+      last : (x : Code) (w : Bits) (vs : List ℕ) → x .parts ≡ v ∷ vs
+          → follow (some (some p)) vs (named ls vs) ≡ some (x .production)
           → w ≡ codeBits a ls vs → Returned (atLevel v p) x w
       last x w [] e n b =
           let q : x .production ≡ p = cc in
@@ -239,7 +246,8 @@ module _ (a : Alignment) (ls : List (List Production)) where
       last x w (u ∷ vs) e n b = absurd (Option·none-ne-some (x .production) n)
 
 -- Reading a code gives exactly the codes of the levels (EXI 6.2).
-pub code-reads : (a : Alignment) (ls : List (List Production)) → Reads (readCode a ls) (λ x w. Valid ls x × (w ≡ codeBits a ls (x .parts)))
+pub code-reads : (a : Alignment) (ls : List (List Production))
+    → Reads (readCode a ls) (λ x w. Valid ls x × (w ≡ codeBits a ls (x .parts)))
 unfolding readCode Valid named codeBits
 code-reads a [] = reads-as (reads-fail code) (λ x w h. absurd h) (λ x w h. Option·none-ne-some (x .production) (h .0))
 code-reads a (l ∷ ls) =
@@ -277,7 +285,8 @@ oneFits : List Production → Event Text → Bool → Bool
 oneFits [] e b = b
 oneFits (p ∷ ps) e b = fits p e || oneFits ps e b
 
-level-coded : (l : List Production) (e : Event Text) (c : Option Code) → isSome (codeOr (firstFit l e) c) ≡ oneFits l e (isSome c)
+level-coded : (l : List Production) (e : Event Text) (c : Option Code)
+    → isSome (codeOr (firstFit l e) c) ≡ oneFits l e (isSome c)
 unfolding codeOr firstFit oneFits
 level-coded [] e c = refl
 level-coded (p ∷ ps) e c = go (fits p e) (firstFit ps e) (level-coded ps e c)
@@ -307,7 +316,8 @@ fits-append [] m e b = refl
 fits-append (p ∷ l) m e b = rw (fits-append l m e b)
 
 -- A production that is kept where c says.
-fits-kept : (c : Bool) (p : Production) (e : Event Text) (b : Bool) → oneFits (cond c (p ∷ []) []) e b ≡ cond (fits p e) (b || c) b
+fits-kept : (c : Bool) (p : Production) (e : Event Text) (b : Bool)
+    → oneFits (cond c (p ∷ []) []) e b ≡ cond (fits p e) (b || c) b
 unfolding oneFits
 fits-kept true p e b = split (fits p e) (λ h. rw (h, or-true)) (λ h. rw h)
 fits-kept false p e b = split (fits p e) (λ h. rw (h, or-false)) (λ h. rw h)

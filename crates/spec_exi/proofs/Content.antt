@@ -205,7 +205,8 @@ unfolding itemsBits afterItems
 none-fit s t = record { fit = tt; bits = refl; after = refl }
 
 -- A string that is read, before others.
-string-fit : (s : Settings) (t : Tables) (r : Role) (x : Placed × Tables) (is : List Item) (t′ : Tables) (u v : Bits) → GoodTables t
+string-fit : (s : Settings) (t : Tables) (r : Role) (x : Placed × Tables) (is : List Item) (t′ : Tables) (u v : Bits)
+    → GoodTables t
     → StringRead sizes s t r x u → (GoodTables (x .1) → FitItems s (x .1) is t′ v) → FitItems s t (item r (x .0 .text) ∷ is) t′ (u ++ v)
 unfolding itemsBits afterItems
 string-fit s t r x is t′ u v g h k =
@@ -214,7 +215,9 @@ string-fit s t r x is t′ u v g h k =
     let m = k (subst GoodTables (sym (p .after)) (item-good t i g (p .fit))) in
     record {
       fit = (p .fit, subst (λ τ. ItemsFit τ is) (p .after) (m .fit));
-      bits = ap (λ b. b ++ v) (p .bits) ∙ ap (λ b. itemBits (s .alignment) t i ++ b) (m .bits ∙ ap (λ τ. itemsBits (s .alignment) τ is) (p .after));
+      bits =
+          ap (λ b. b ++ v) (p .bits)
+          ∙ ap (λ b. itemBits (s .alignment) t i ++ b) (m .bits ∙ ap (λ τ. itemsBits (s .alignment) τ is) (p .after));
       after = m .after ∙ ap (λ τ. afterItems τ is) (p .after);
     }
 
@@ -251,9 +254,11 @@ pub record ContentFit (s : Settings) (t : Tables) (st : State) (p : Production) 
   pub bits : w ≡ itemsBits (s .alignment) t (items st p e)
   pub after : t′ ≡ afterItems t (items st p e)
 
-of-items : (s : Settings) (t : Tables) (st : State) (p : Production) (e : Event Text) (t′ : Tables) (w : Bits) → T (fits p e)
+of-items : (s : Settings) (t : Tables) (st : State) (p : Production) (e : Event Text) (t′ : Tables) (w : Bits)
+    → T (fits p e)
     → FitItems s t (items st p e) t′ (w ++ []) → ContentFit s t st p e t′ w
-of-items s t st p e t′ w f m = record { fitting = f; strings = m .fit; bits = sym (append-nil w) ∙ m .bits; after = m .after }
+of-items s t st p e t′ w f m =
+    record { fitting = f; strings = m .fit; bits = sym (append-nil w) ∙ m .bits; after = m .after }
 
 -- Content that is read is fit, has the strict form's bits, and leaves the strict form's tables.
 pub content-fit : (s : Settings) (t : Tables) (st : State) (k : Kind) (n : Option (QName Placed))
@@ -377,12 +382,16 @@ one s t r v h =
     let a : Placed × Tables = (x .string, afterItem t (item r v)) in
     (a, x .is, refl, subst⁻¹ (StringRead sizes s t r a) (append-nil (itemBits (s .alignment) t (item r v))) (x .read))
 
-found : (s : Settings) (t : Tables) (st : State) (n : Option (QName Placed)) (e : Event Text) → T (fitsName n (nameOf e))
+found : (s : Settings) (t : Tables) (st : State) (n : Option (QName Placed)) (e : Event Text)
+    → T (fitsName n (nameOf e))
     → ItemsFit t (items st (record { kind = kindOf e; qname = n }) e) → ContentFound s t st (kindOf e) n e
 unfolding items kindOf nameOf eventText mapEvent itemsBits nameText nameItems afterItems
-found s t st n startDocument f h = record { event = startDocument; is = refl; tables = t; first = λ b. refl; after = refl; read = anSD refl refl }
-found s t st n endDocument f h = record { event = endDocument; is = refl; tables = t; first = λ b. refl; after = refl; read = anED refl refl }
-found s t st n endElement f h = record { event = endElement; is = refl; tables = t; first = λ b. refl; after = refl; read = anEE refl refl }
+found s t st n startDocument f h =
+    record { event = startDocument; is = refl; tables = t; first = λ b. refl; after = refl; read = anSD refl refl }
+found s t st n endDocument f h =
+    record { event = endDocument; is = refl; tables = t; first = λ b. refl; after = refl; read = anED refl refl }
+found s t st n endElement f h =
+    record { event = endElement; is = refl; tables = t; first = λ b. refl; after = refl; read = anEE refl refl }
 found s t st n (startElement q) f h =
     let m = name-found s t false n q SE [] f h in
     record {

@@ -136,7 +136,8 @@ module _ (r : ReaderRoom) (o : SettingNumbers) (stream : List ℕ) (x : Reading)
 -- The reading behind a list has its texts.
 listed : (r : ReaderRoom) (o : SettingNumbers) (stream : List ℕ) (l : List (Event Text))
     (q : Accepts r o stream l) → map eventText (q .0 .events) ≡ l
-listed r o stream l q = Option·some-injective (map eventText (q .0 .events)) l (sym (texts r o stream (q .0) (q .1)) ∙ q .2)
+listed r o stream l q =
+    Option·some-injective (map eventText (q .0 .events)) l (sym (texts r o stream (q .0) (q .1)) ∙ q .2)
 
 zero-accepted : (a : Answer Reading) → (readReply a .number ≡ 0)
     ↔ ((x : Reading) × (a ≡ accepted x))
@@ -220,7 +221,8 @@ pub exact : (r : ReaderRoom) (o : SettingNumbers) (stream : List ℕ) (l : List 
     ↔ (T (enoughToRead sizes r) × T (meaningful o) × Good (settingsOf o) l
     × (stream ≡ strict (settingsOf o) l))
 exact r o stream l h = (
-  λ q. let a = accepting r o stream (q .0) (q .1) in let g = accepts-good r o stream l h q in (a .enough, a .means, g .0, g .1),
+  λ q. let a =
+      accepting r o stream (q .0) (q .1) in let g = accepts-good r o stream l h q in (a .enough, a .means, g .0, g .1),
   λ g. rw (g .3) (good-accepted r o l (g .0) (g .1) (g .2)),
 )
 

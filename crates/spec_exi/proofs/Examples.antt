@@ -21,8 +21,8 @@ use Rattle.spec_exi.specs.Examples.Bounds.{sumUnder, Bounded, bounds, in
 use Rattle.spec_exi.specs.Examples.Numbers.{setting, meaningless, readerRoom, writerRoom}
 use Rattle.spec_exi.specs.Examples.Numbers.{readerRooms, writerRooms, Pinned}
 use Rattle.spec_exi.specs.Examples.Written.{writtenFor, Written, WriteReplied, wrote, listed}
-use Rattle.spec_exi.specs.Examples.Written.{writes, writeReplies, WrittenUnder, writesInOrder}
-use Rattle.spec_exi.specs.Examples.Written.{upTo, nested, inUris, withAttribute, aRow, atSizes}
+use Rattle.spec_exi.specs.Examples.Written.{writes, writeReplies, WrittenUnder, secondValue}
+use Rattle.spec_exi.specs.Examples.Written.{writesInOrder}
 use Rattle.spec_exi.specs.Examples.Attributes.{thenOctets, equalRead, thenEvents}
 use Rattle.spec_exi.specs.Examples.Attributes.{equalWritten}
 use Rattle.spec_exi.specs.Examples.Names.{InitialNames, afterComment, afterInstruction}
@@ -115,12 +115,8 @@ writes-replied =
     }
 
 writes-in-order : WrittenUnder writesInOrder
-unfolding definitions sizesAs only at inUri named listed writesInOrder
+unfolding definitions sizesAs only at inUri named listed secondValue writesInOrder
 writes-in-order = record { answers = refl }
-
-at-sizes : Written atSizes
-unfolding definitions at inUri named writtenFor listed upTo nested inUris withAttribute aRow atSizes
-at-sizes = record { answers = refl }
 
 equal-read : Hold equalRead
 unfolding definitions thenOctets equalRead
@@ -179,7 +175,6 @@ worked-examples =
       writes-hold = writes-hold;
       writes-replied = writes-replied;
       writes-in-order = writes-in-order;
-      at-sizes = at-sizes;
       equal-read = equal-read;
       equal-written = equal-written;
       names = name-examples;

@@ -162,7 +162,8 @@ module _ {z : Sizes} {s : Settings} {t : Tables} where
 
 module _ {z : Sizes} {s : Settings} {t : Tables} where
   -- URI and local name in the strict form lie at the first entries of the name.
-  pub pair-first : {attr : Bool} {n : Text} {x y : Placed × Tables} {u v : Bits} (h : StringRead z s t uri x u) → InStrict h
+  pub pair-first : {attr : Bool} {n : Text} {x y : Placed × Tables} {u v : Bits} (h : StringRead z s t uri x u)
+      → InStrict h
       → x .0 .text ≡ n → (l : StringRead z s (x .1) (local attr n) y v) → InStrict l
       → entriesOf (y .1) (record { uri = x .0 .text; local = y .0 .text }) ≡ record { uri = x .0; local = y .0 }
   unfolding entriesOf

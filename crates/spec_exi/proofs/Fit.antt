@@ -39,4 +39,5 @@ pub record EventFit (s : Settings) (c : Context) (e : Event Text) : Type 0 where
 -- A list may come next, up to the end of the document.
 pub data ListFit (s : Settings) : Context → List (Event Text) → Type 0 where
   done : {c : Context} → c .state ≡ finished → ListFit s c []
-  also : {c : Context} {l : List (Event Text)} (e : Event Text) → EventFit s c e → ListFit s (next s c e) l → ListFit s c (e ∷ l)
+  also : {c : Context} {l : List (Event Text)} (e : Event Text) → EventFit s c e
+      → ListFit s (next s c e) l → ListFit s c (e ∷ l)

@@ -139,7 +139,8 @@ step-extends {z} {s} {c} h =
     ([], sym (append-nil (c .tables .store))))
 
 begins-same : (x : Reading) → Begins x x
-begins-same x = record { events = []; literals = []; more = sym (append-nil (x .events)); store = sym (append-nil (x .store)) }
+begins-same x =
+    record { events = []; literals = []; more = sym (append-nil (x .events)); store = sym (append-nil (x .store)) }
 
 begins-with : (e : Event Placed) (x y : Reading) → Begins x y
     → Begins (withFirst e x) (withFirst e y)
@@ -542,7 +543,8 @@ module _ (r : ReaderRoom) (o : SettingNumbers) (os : List ℕ) where
   pub refused-alike : (k : Refusal) (i : ℕ) → (receive r o os ≡ refused k i)
       ↔ ((read r o os ≡ refused k i) × (k ≡ ended → ⊥))
   unfolding receive soFar
-  refused-alike k i = (go (read r o os) refl, λ h. split (isEnded k) (λ t. absurd (h .1 (ended-is k (is-T _ t)))) (λ t. rw (h .0, t)))
+  refused-alike k i =
+      (go (read r o os) refl, λ h. split (isEnded k) (λ t. absurd (h .1 (ended-is k (is-T _ t)))) (λ t. rw (h .0, t)))
     where
       go : (a : Answer Reading) → read r o os ≡ a
           → soFar (complete (settingsOf o) os) a ≡ refused k i
@@ -574,7 +576,8 @@ module _ (r : ReaderRoom) (o : SettingNumbers) (os : List ℕ) where
       go : (a : Answer Reading) → read r o os ≡ a
           → soFar (complete (settingsOf o) os) a ≡ accepted x → P x
       go (accepted y) q h = whole x (q ∙ h)
-      go (refused k i) q h = split (isEnded k) (λ t. subst P (accepted-same (rw t at h)) part) (λ t. not-accepted (rw t at h))
+      go (refused k i) q h =
+          split (isEnded k) (λ t. subst P (accepted-same (rw t at h)) part) (λ t. not-accepted (rw t at h))
 
   -- Every string of a complete event is in the text store so far.
   pub texts-so-far : (x : Reading) → receive r o os ≡ accepted x

@@ -87,7 +87,8 @@ module _ (z : Sizes) (s : Settings) where
 
   says-form : (t : Tables) (p : Partitions) → Says ofEvents (readForm z s t p)
   unfolding readForm ofEvents between numberOf
-  says-form t (compact es) = says-then _ (says-choice _ tt (s .alignment) reference _ tt) (λ x. says-entry t (x .0) (x .1))
+  says-form t (compact es) =
+      says-then _ (says-choice _ tt (s .alignment) reference _ tt) (λ x. says-entry t (x .0) (x .1))
   says-form t (literals ess) = says-by-literals t ess
 
   says-string : (t : Tables) (r : Role) → Says ofEvents (readString z s t r)
@@ -165,7 +166,8 @@ module _ (z : Sizes) (s : Settings) where
           → (x : Result (Event Placed × Context)) → step z s c bs ≡ x → onward s (λ d b. readEvents n z s d b) x ≡ refused k i
           → Among (suc n) k i
       go rec (bad j) q e = among (says-step z s c .refuses bs j q) zero-le (refused-same e)
-      go rec (got (v, d) rest) q e = behind v _ (λ j h. split (isFinished (d .state)) (ended-by j h) (λ f. rec d rest j (rw f at h))) e
+      go rec (got (v, d) rest) q e =
+          behind v _ (λ j h. split (isFinished (d .state)) (ended-by j h) (λ f. rec d rest j (rw f at h))) e
         where
           ended-by : (j : ℕ)
               → cond (isFinished (d .state)) (ending s d rest) (readEvents n z s d rest)
@@ -300,7 +302,8 @@ module _ {r : ReaderRoom} {o : SettingNumbers} {stream : List ℕ} where
   no-room (noRoom e) = (λ q. e, λ f. refl)
   no-room (noMeaning e m) = (λ q. absurd (omega arith), λ f. contrary (enoughToRead sizes r) e f)
   no-room (tooLong e m l) = (λ q. absurd (omega arith), λ f. contrary (enoughToRead sizes r) e f)
-  no-room (inside e m l (stopped least most i z)) = (λ q. absurd (omega (arith, least)), λ f. contrary (enoughToRead sizes r) e f)
+  no-room (inside e m l (stopped least most i z)) =
+      (λ q. absurd (omega (arith, least)), λ f. contrary (enoughToRead sizes r) e f)
   no-room (inside e m l (whole n c)) = (λ q. absurd (omega arith), λ f. contrary (enoughToRead sizes r) e f)
 
   -- SETTINGS just where memory is enough, and a number has no meaning.
@@ -311,7 +314,8 @@ module _ {r : ReaderRoom} {o : SettingNumbers} {stream : List ℕ} where
   no-meaning (noRoom e) = (λ q. absurd (omega arith), λ f. contrary (enoughToRead sizes r) (f .0) e)
   no-meaning (noMeaning e m) = (λ q. (e, m), λ f. refl)
   no-meaning (tooLong e m l) = (λ q. absurd (omega arith), λ f. contrary (meaningful o) m (f .1))
-  no-meaning (inside e m l (stopped least most i z)) = (λ q. absurd (omega (arith, least)), λ f. contrary (meaningful o) m (f .1))
+  no-meaning (inside e m l (stopped least most i z)) =
+      (λ q. absurd (omega (arith, least)), λ f. contrary (meaningful o) m (f .1))
   no-meaning (inside e m l (whole n c)) = (λ q. absurd (omega arith), λ f. contrary (meaningful o) m (f .1))
 
   -- LONG just where both are right, and the stream is too long.
@@ -322,7 +326,8 @@ module _ {r : ReaderRoom} {o : SettingNumbers} {stream : List ℕ} where
   too-long (noRoom e) = (λ q. absurd (omega arith), λ f. contrary (enoughToRead sizes r) (f .0) e)
   too-long (noMeaning e m) = (λ q. absurd (omega arith), λ f. contrary (meaningful o) (f .1) m)
   too-long (tooLong e m l) = (λ q. (e, m, l), λ f. refl)
-  too-long (inside e m l (stopped least most i z)) = (λ q. absurd (omega (arith, least)), λ f. absurd (omega (arith, f .2)))
+  too-long (inside e m l (stopped least most i z)) =
+      (λ q. absurd (omega (arith, least)), λ f. absurd (omega (arith, f .2)))
   too-long (inside e m l (whole n c)) = (λ q. absurd (omega arith), λ f. absurd (omega (arith, f .2)))
 
   -- The index is 0 on success and up to HEADER.

@@ -37,7 +37,8 @@ allowed s (elementContent q outer) e =
 -- Events that the shape allows, one after the other, up to the end of the document.
 pub data Run (s : Settings) : State → List (Event Text) → Type 0 where
   stop : Run s finished []
-  go : {st : State} {l : List (Event Text)} (e : Event Text) → T (allowed s st e) → Run s (stateAfter s st e) l → Run s st (e ∷ l)
+  go : {st : State} {l : List (Event Text)} (e : Event Text) → T (allowed s st e)
+      → Run s (stateAfter s st e) l → Run s st (e ∷ l)
 
 -- ---- a document is run through
 
@@ -128,9 +129,11 @@ data Rest (s : Settings) : State → List (Event Text) → Type 0 where
   before : {m i n : List (Event Text)} (q : QName Text) → s .fragment ≡ false → Misc s m → Inner s i
       → Misc s n
       → Rest s docContent (m ++ startElement q ∷ (i ++ endElement ∷ (n ++ endDocument ∷ [])))
-  inTag : {q : QName Text} {outer : List (QName Text)} {i l : List (Event Text)} → Inner s i → Rest s (closed s (q ∷ outer)) l
+  inTag : {q : QName Text} {outer : List (QName Text)} {i l : List (Event Text)} → Inner s i
+      → Rest s (closed s (q ∷ outer)) l
       → Rest s (startTag q outer) (i ++ endElement ∷ l)
-  inElement : {q : QName Text} {outer : List (QName Text)} {c l : List (Event Text)} → Content s c → Rest s (closed s (q ∷ outer)) l
+  inElement : {q : QName Text} {outer : List (QName Text)} {c l : List (Event Text)} → Content s c
+      → Rest s (closed s (q ∷ outer)) l
       → Rest s (elementContent q outer) (c ++ endElement ∷ l)
   behind : {n : List (Event Text)} → Misc s n → Rest s docEnd (n ++ endDocument ∷ [])
   between : {l : List (Event Text)} → Elements s l → Rest s fragmentContent (l ++ endDocument ∷ [])
@@ -169,7 +172,8 @@ module _ {s : Settings} where
   rest-tag (inElement c r) = inTag (noMore c) r
 
   -- One event more in front.
-  extend : {l : List (Event Text)} (st : State) (e : Event Text) → T (allowed s st e) → Rest s (stateAfter s st e) l → Rest s st (e ∷ l)
+  extend : {l : List (Event Text)} (st : State) (e : Event Text) → T (allowed s st e)
+      → Rest s (stateAfter s st e) l → Rest s st (e ∷ l)
   unfolding allowed stateAfter openElements outermost closed inContent
   extend document startDocument t r = whole (rest-start (s .fragment) refl r)
   extend document endDocument t r = absurd t

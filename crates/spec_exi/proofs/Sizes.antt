@@ -127,7 +127,8 @@ module _ (y z : Sizes) (h : NoLarger y z) where
     name-also : (t : Tables) (attr : Bool) (n : Option (QName Placed))
         → Also (readName y s t attr n) (readName z s t attr n)
     unfolding readName
-    name-also t attr none = also-then (string-also t uri) (λ u. also-then (string-also (u .1) (local attr (u .0 .text))) (λ n. also-same _))
+    name-also t attr none =
+        also-then (string-also t uri) (λ u. also-then (string-also (u .1) (local attr (u .0 .text))) (λ n. also-same _))
     name-also t attr (some q) = also-same _
 
     content-also : (t : Tables) (st : State) (k : Kind) (n : Option (QName Placed))
@@ -155,7 +156,8 @@ module _ (y z : Sizes) (h : NoLarger y z) where
     unfolding readEvents onward
     events-still zero m l c bs r e = not-accepted e
     events-still (suc n) zero l c bs r e = absurd (omega arith)
-    events-still (suc n) (suc m) l c bs r e = go (λ c′ rest k w. events-still n m (omega arith) c′ rest k w) (step y s c bs) refl e
+    events-still (suc n) (suc m) l c bs r e =
+        go (λ c′ rest k w. events-still n m (omega arith) c′ rest k w) (step y s c bs) refl e
       where
         go : ((c′ : Context) (rest : Bits) (k : Reading) → readEvents n y s c′ rest ≡ accepted k
             → readEvents m z s c′ rest ≡ accepted k)

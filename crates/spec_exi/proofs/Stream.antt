@@ -62,7 +62,8 @@ pub stream-fit : (s : Settings) (stream : List ℕ) (r : Reading) → Octets str
 unfolding readStream readBody strict
 stream-fit s stream r o q = go (readHeader (headerOf s) (unpack stream)) refl q
   where
-    go : (x : Result (Unit {0})) → readHeader (headerOf s) (unpack stream) ≡ x → readBody sizes s x ≡ accepted r → Stream s stream (map eventText (r .events))
+    go : (x : Result (Unit {0})) → readHeader (headerOf s) (unpack stream) ≡ x
+        → readBody sizes s x ≡ accepted r → Stream s stream (map eventText (r .events))
     go (bad k) i q = not-accepted q
     go (got u bs) i q =
         let (w, h, j) = header-reads (headerOf s) (header-octets s) .sound (unpack stream) u bs i in
@@ -78,7 +79,8 @@ stream-fit s stream r o q = go (readHeader (headerOf s) (unpack stream)) refl q
         }
 
 -- A strict form is accepted (the other half).
-pub stream-found : (s : Settings) (l : List (Event Text)) → ListFit s (start s) l → length l ≤ maxEvents → ListFound (readStream sizes s (strict s l)) l
+pub stream-found : (s : Settings) (l : List (Event Text)) → ListFit s (start s) l
+    → length l ≤ maxEvents → ListFound (readStream sizes s (strict s l)) l
 unfolding readStream readBody strict start isFinished
 stream-found s l h m =
     let hs = headerOf s in

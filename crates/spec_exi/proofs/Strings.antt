@@ -80,7 +80,8 @@ module _ (z : Sizes) (s : Settings) (t : Tables) where
   -- A literal may be laid into the store; of a hit nothing is asked.
   pub data Fits : Form → Placed → Type 0 where
     aHit : {j i : ℕ} {x : Placed} → Fits (hit j i) x
-    laidOut : {x : Placed} → T (allChars (x .text)) → length (x .text) ≤ z .string → length (t .store) + length (x .text) ≤ z .store → Fits literal x
+    laidOut : {x : Placed} → T (allChars (x .text)) → length (x .text) ≤ z .string
+        → length (t .store) + length (x .text) ≤ z .store → Fits literal x
 
   record LiteralOf (n : ℕ) (y : Form × Placed) (w : Bits) : Type 0 where
     text : Text
@@ -108,7 +109,8 @@ module _ (z : Sizes) (s : Settings) (t : Tables) where
       })
       (λ y w h. back y w (h .text) (h .sized) (h .is) (h .characters) (h .fits))
     where
-      back : (y : Form × Placed) (w : Bits) (x : Text) → length x ≡ n → y ≡ (literal, laid t x) → Characters s x w → Fits literal (laid t x)
+      back : (y : Form × Placed) (w : Bits) (x : Text) → length x ≡ n → y ≡ (literal, laid t x)
+          → Characters s x w → Fits literal (laid t x)
           → T (leb n (z .string)) × (T (leb (length (t .store) + n) (z .store)) × Mapped (Text-of s n) (λ x. (literal, laid t x)) y w)
       back y w x e i c (laidOut h a b) = (
         le→leb n (z .string) (omega arith),
@@ -154,7 +156,8 @@ module _ (z : Sizes) (s : Settings) (t : Tables) where
     hitRest : {es : List Slot} → getElem? ess v ≡ some es → HitOf v es y w → Rest ess v y w
     literalRest : getElem? ess v ≡ none → LiteralOf (v - length ess) y w → Rest ess v y w
 
-  in-reads : (ess : List (List Slot)) (v : ℕ) (o : Option (List Slot)) → getElem? ess v ≡ o → Reads (readIn z s t (length ess) v o) (Rest ess v)
+  in-reads : (ess : List (List Slot)) (v : ℕ) (o : Option (List Slot)) → getElem? ess v ≡ o
+      → Reads (readIn z s t (length ess) v o) (Rest ess v)
   unfolding readIn
   in-reads ess v none e = reads-as (literal-reads (v - length ess)) (λ y w h. literalRest e h) from
     where
@@ -191,7 +194,8 @@ module _ (z : Sizes) (s : Settings) (t : Tables) where
           let m : Unsigned (length (h .text) + length ess) u = rw l n in
           rw (h .is) (record { spelled = literalMiss (aLiteral m (h .characters)); fits = h .fits })
 
-      from : {f : Form} {x : Placed} {w : Bits} → Spelled s t (literals ess) f x w → Fits f x → Then Unsigned (λ v. Rest ess v) (f, x) w
+      from : {f : Form} {x : Placed} {w : Bits} → Spelled s t (literals ess) f x w → Fits f x
+          → Then Unsigned (λ v. Rest ess v) (f, x) w
       from (literalHit {es = es} {j = j} {i = i} {x = x} {u = u} e k n) q =
           record {
             first = j;
@@ -227,7 +231,8 @@ module _ (z : Sizes) (s : Settings) (t : Tables) where
       reads-as (reads-map (reads-present reference slot) (λ e. (hit 0 (v - 1), e)))
       (λ y w m. rw (m .is, m .by .1) (entry (m .by .0))) from
     where
-      from : (y : Form × Placed) (w : Bits) → Onward es v (some slot) y w → Mapped (λ x w. (slot ≡ some x) × (w ≡ [])) (λ e. (hit 0 (v - 1), e)) y w
+      from : (y : Form × Placed) (w : Bits) → Onward es v (some slot) y w
+          → Mapped (λ x w. (slot ≡ some x) × (w ≡ [])) (λ e. (hit 0 (v - 1), e)) y w
       from y w (entry {x = x} e) = record { from = x; by = (e, refl); is = refl }
 
   miss-first : (es : List Slot) (v : ℕ) → getElem? (none ∷ map some es) v ≡ some none → v ≡ 0
@@ -264,11 +269,13 @@ module _ (z : Sizes) (s : Settings) (t : Tables) where
       same : length values ≡ suc (length es)
       same = ap suc (length-map es some)
 
-      to : (y : Form × Placed) (v : ℕ) (o : Option Slot) (u b : Bits) → Chosen (s .alignment) values (v, o) u → Onward es v o y b
+      to : (y : Form × Placed) (v : ℕ) (o : Option Slot) (u b : Bits)
+          → Chosen (s .alignment) values (v, o) u → Onward es v o y b
           → Form-of (compact es) y (u ++ b)
       to y v o u b c (miss h) = missed (miss-first es v (c .names)) (h .spelled) (h .fits)
         where
-          missed : v ≡ 0 → {f : Form} {x : Placed} {b : Bits} → Spelled s t (literals []) f x b → Fits f x → Form-of (compact es) (f, x) (u ++ b)
+          missed : v ≡ 0 → {f : Form} {x : Placed} {b : Bits} → Spelled s t (literals []) f x b
+              → Fits f x → Form-of (compact es) (f, x) (u ++ b)
           missed e (literalHit k n m) q = absurd (Option·none-ne-some _ k)
           missed e (literalMiss h) q =
               let i : u ≡ choiceBits (s .alignment) (suc (length es)) 0 = c .bits ∙ cc (same, e) in

@@ -80,7 +80,8 @@ module _ (z : Sizes) where
   fault-of-list : (s : Settings) (c : Context) (store : Text) (e : Event Span) (k : Refusal)
       → faultOf z s c store e ≡ some k → OfList k
   unfolding faultOf
-  fault-of-list s c store e k = first-fault _ (event-faults s c store e (codeOf (levelsIn s c) (mapEvent (part store) e))) k
+  fault-of-list s c store e k =
+      first-fault _ (event-faults s c store e (codeOf (levelsIn s c) (mapEvent (part store) e))) k
 
 -- What is refused is of the list, at an index that is at most its length.
 Refuses : ℕ → Answer Bits → Type 0

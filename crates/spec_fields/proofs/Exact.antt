@@ -50,7 +50,8 @@ module _ {A : Type 0} where
   reads-return a =
       record {
         sound = λ bs x rest e. ([], record { is = sym (got-value e); empty = refl }, got-rest e);
-        complete = λ x w rest h. let e : _≡_ {A = Result A} (got a (w ++ rest)) (got x rest) = cc (h .is, h .empty) in e;
+        complete =
+            λ x w rest h. let e : _≡_ {A = Result A} (got a (w ++ rest)) (got x rest) = cc (h .is, h .empty) in e;
       }
 
   -- Reads nothing.
@@ -62,10 +63,12 @@ module _ {A : Type 0} where
   pub reads-present : (k : Refusal) (o : Option A) → Reads (present k o) (λ x w. (o ≡ some x) × (w ≡ []))
   unfolding present
   reads-present k none = reads-as (reads-fail k) (λ x w h. absurd h) (λ x w h. Option·none-ne-some x (h .0))
-  reads-present k (some a) = reads-as (reads-return a) (λ x w h. (cc, h .empty)) (λ x w h. record { is = cc; empty = h .1 })
+  reads-present k (some a) =
+      reads-as (reads-return a) (λ x w h. (cc, h .empty)) (λ x w h. record { is = cc; empty = h .1 })
 
   -- By a test.
-  pub reads-cond : {p q : Parser A} {R : A → Bits → Type 0} (b : Bool) → (T b → Reads p R) → (T (not b) → Reads q R) → Reads (cond b p q) R
+  pub reads-cond : {p q : Parser A} {R : A → Bits → Type 0} (b : Bool) → (T b → Reads p R)
+      → (T (not b) → Reads q R) → Reads (cond b p q) R
   reads-cond true f g = f tt
   reads-cond false f g = g tt
 
@@ -85,7 +88,8 @@ module _ {A B : Type 0} where
   unfolding _>>=_ andThen
   reads-then {p} {f} {R} {S} h k = record { sound = λ bs b rest e. after bs b rest (p bs) refl e; complete = there }
     where
-      after : (bs : Bits) (b : B) (rest : Bits) (x : Result A) → p bs ≡ x → andThen x f ≡ got b rest → (w : Bits) × Then R S b w × (bs ≡ w ++ rest)
+      after : (bs : Bits) (b : B) (rest : Bits) (x : Result A) → p bs ≡ x → andThen x f ≡ got b rest
+          → (w : Bits) × Then R S b w × (bs ≡ w ++ rest)
       after bs b rest (bad j) q e = not-got e
       after bs b rest (got a mid) q e =
           let (u, r, eu) = h .sound bs a mid q in
@@ -108,7 +112,8 @@ module _ {A B : Type 0} where
     pub is : b ≡ g from
 
   -- Another value for what is read.
-  pub reads-map : {p : Parser A} {R : A → Bits → Type 0} → Reads p R → (g : A → B) → Reads (p >>= λ a. return (g a)) (Mapped R g)
+  pub reads-map : {p : Parser A} {R : A → Bits → Type 0} → Reads p R → (g : A → B)
+      → Reads (p >>= λ a. return (g a)) (Mapped R g)
   reads-map {p} {R} h g =
       reads-as (reads-then h (λ a u r. reads-return (g a)))
       (λ b w x. record {

@@ -73,7 +73,8 @@ bit-reads : Reads bit (λ b w. Unit {0} × (w ≡ b ∷ []))
 unfolding bit
 bit-reads = record { sound = there; complete = λ b w rest e. ap (λ v. bit (v ++ rest)) (e .1) }
   where
-    there : (bs : Bits) (b : Bool) (rest : Bits) → bit bs ≡ got b rest → (w : Bits) × (Unit {0} × (w ≡ b ∷ [])) × (bs ≡ w ++ rest)
+    there : (bs : Bits) (b : Bool) (rest : Bits) → bit bs ≡ got b rest
+        → (w : Bits) × (Unit {0} × (w ≡ b ∷ [])) × (bs ≡ w ++ rest)
     there [] b rest e = not-got e
     there (a ∷ bs) b rest e = (b ∷ [], (tt, refl), cc)
 
@@ -141,7 +142,8 @@ value-of-little (suc k) v h =
     let l : v < 256 ^ k * 256 = rw (← pow-suc 256 k) h in
     rw (value-of-little k (v / 256) (omega arith)) (omega arith)
 
-little-reads : (k : ℕ) → Reads (times k octet >>= λ os. return (littleValue os)) (λ v w. (v < 256 ^ k) × (w ≡ unpack (littleEndian k v)))
+little-reads : (k : ℕ)
+    → Reads (times k octet >>= λ os. return (littleValue os)) (λ v w. (v < 256 ^ k) × (w ≡ unpack (littleEndian k v)))
 unfolding unpack
 little-reads k =
     reads-as (reads-map (reads-times k octet-reads) littleValue)
@@ -229,7 +231,9 @@ choice-reads a k l =
     (λ x w h.
     record {
       names = rw (h .two .is) (h .two .by .0);
-      bits = h .joined ∙ ap (λ v. h .front ++ v) (h .two .by .1) ∙ append-nil (h .front) ∙ h .one .1 ∙ ap (λ y. numberBits a (width (length l)) (y .0)) (sym (h .two .is));
+      bits =
+          h .joined ∙ ap (λ v. h .front ++ v) (h .two .by .1) ∙ append-nil (h .front) ∙ h .one .1
+          ∙ ap (λ y. numberBits a (width (length l)) (y .0)) (sym (h .two .is));
     })
     (λ x w h.
     record {

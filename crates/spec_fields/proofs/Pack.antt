@@ -21,7 +21,8 @@ Octets os = Every IsOctet os
 pub unpack-append : (a b : List ℕ) → unpack (a ++ b) ≡ unpack a ++ unpack b
 unfolding unpack each
 unpack-append [] b = refl
-unpack-append (o ∷ os) b = ap (λ bs. bitsOf 8 o ++ bs) (unpack-append os b) ∙ sym (append-assoc (bitsOf 8 o) (unpack os) (unpack b))
+unpack-append (o ∷ os) b =
+    ap (λ bs. bitsOf 8 o ++ bs) (unpack-append os b) ∙ sym (append-assoc (bitsOf 8 o) (unpack os) (unpack b))
 
 -- Eight bits an octet.
 pub length-unpack : (os : List ℕ) → length (unpack os) ≡ 8 * length os

@@ -79,7 +79,8 @@ module _ (P : Refusal → Bool) where
 
     pub says-choice : {A : Type 0} (a : Alignment) (k : Refusal) (l : List A) → T (P k) → Says (choice a k l)
     unfolding choice
-    says-choice a k l t = says-then (says-number a _) (λ v. says-then (says-present k (getElem? l v) t) (λ x. says-return _))
+    says-choice a k l t =
+        says-then (says-number a _) (λ v. says-then (says-present k (getElem? l v) t) (λ x. says-return _))
 
     module _ (t : T (P number)) where
       says-grouped : (k : ℕ) → Says (grouped k)

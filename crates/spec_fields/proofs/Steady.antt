@@ -53,15 +53,19 @@ module _ {A B : Type 0} where
   unfolding _>>=_ andThen
   steady-then {p} {f} h g = record { reads = λ bs b rest more e. read-on bs b rest more (p bs) refl e; refuses = λ bs k more e n. refuse-on bs k more (p bs) refl e n }
     where
-      read-on : (bs : Bits) (b : B) (rest more : Bits) (x : Result A) → p bs ≡ x → andThen x f ≡ got b rest → andThen (p (bs ++ more)) f ≡ got b (rest ++ more)
+      read-on : (bs : Bits) (b : B) (rest more : Bits) (x : Result A) → p bs ≡ x
+          → andThen x f ≡ got b rest → andThen (p (bs ++ more)) f ≡ got b (rest ++ more)
       read-on bs b rest more (bad j) q e = not-got e
-      read-on bs b rest more (got a mid) q e = ap (λ y. andThen y f) (h .reads bs a mid more q) ∙ g a .reads mid b rest more e
+      read-on bs b rest more (got a mid) q e =
+          ap (λ y. andThen y f) (h .reads bs a mid more q) ∙ g a .reads mid b rest more e
 
-      refuse-on : (bs : Bits) (k : Refusal) (more : Bits) (x : Result A) → p bs ≡ x → andThen x f ≡ bad k → (k ≡ ended → ⊥) → andThen (p (bs ++ more)) f ≡ bad k
+      refuse-on : (bs : Bits) (k : Refusal) (more : Bits) (x : Result A) → p bs ≡ x
+          → andThen x f ≡ bad k → (k ≡ ended → ⊥) → andThen (p (bs ++ more)) f ≡ bad k
       refuse-on bs k more (bad j) q e n =
           let same : j ≡ k = cc in
           ap (λ y. andThen y f) (h .refuses bs j more q (λ z. n (sym same ∙ z))) ∙ e
-      refuse-on bs k more (got a mid) q e n = ap (λ y. andThen y f) (h .reads bs a mid more q) ∙ g a .refuses mid k more e n
+      refuse-on bs k more (got a mid) q e n =
+          ap (λ y. andThen y f) (h .reads bs a mid more q) ∙ g a .refuses mid k more e n
 
 pub steady-guard : {B : Type 0} {p : Parser B} (b : Bool) (k : Refusal) → Steady p → Steady (need b k >> p)
 unfolding _>>_
@@ -82,7 +86,8 @@ steady-bit =
   where
     by-bits : (bs : Bits) (a : Bool) (rest more : Bits) → bit bs ≡ got a rest → bit (bs ++ more) ≡ got a (rest ++ more)
     by-bits [] a rest more e = not-got e
-    by-bits (b ∷ bs) a rest more e = let r : _≡_ {A = Result Bool} (got b (bs ++ more)) (got a (rest ++ more)) = cc (got-value e, got-rest e) in r
+    by-bits (b ∷ bs) a rest more e =
+        let r : _≡_ {A = Result Bool} (got b (bs ++ more)) (got a (rest ++ more)) = cc (got-value e, got-rest e) in r
 
     by-end : (bs : Bits) (k : Refusal) (more : Bits) → bit bs ≡ bad k → (k ≡ ended → ⊥) → bit (bs ++ more) ≡ bad k
     by-end [] k more e n = let same : k ≡ ended = cc in absurd (n same)
@@ -99,7 +104,8 @@ steady-number byteAligned n = steady-then (steady-times _ steady-octet) (λ os. 
 
 pub steady-choice : {A : Type 0} (a : Alignment) (k : Refusal) (l : List A) → Steady (choice a k l)
 unfolding choice
-steady-choice a k l = steady-then (steady-number a _) (λ v. steady-then (steady-present k (getElem? l v)) (λ x. steady-return _))
+steady-choice a k l =
+    steady-then (steady-number a _) (λ v. steady-then (steady-present k (getElem? l v)) (λ x. steady-return _))
 
 pub steady-grouped : (k : ℕ) → Steady (grouped k)
 unfolding grouped

@@ -1,19 +1,23 @@
-// Answers requests to the reader and the writer, a line of standard input each, words separated by one space:
+// Answers requests to the reader and the writer, a line of standard input each, words separated by
+// one space:
 //
 //     r A K C P HEX            reads the octets HEX
 //     w A K C P EVENTS STORE   writes the events EVENTS over the text store STORE
 //     l PLACE LENGTH STORE     looks a string up
 //     # ..                     is written out as it is
 //
-// A, K, C and P are the settings' numbers: alignment, cookie, comments, instructions. Behind them the other settings may be named, in this order:
-// fragment=N vmax=N vcap=N loose=N prefixes=N cap=N; vmax, vcap and cap are bounds. HEX has two hexadecimal digits for each octet. STORE has code
-// points in hexadecimal, with commas between. EVENTS has events with commas between: SD, ED, EE, SE, AT, CH, CM, PI, each with `:place:length` for each
-// of its strings, in decimal; BAD is a stored event of no kind, BAD2 a stored end element with data. `-` stands for nothing. There is room for 65,535
-// octets of a line, 20,000 octets, 5,000 events and 20,000 code points.
+// A, K, C and P are the settings' numbers: alignment, cookie, comments, instructions. Behind them
+// the other settings may be named, in this order: fragment=N vmax=N vcap=N loose=N prefixes=N
+// cap=N; vmax, vcap and cap are bounds. HEX has two hexadecimal digits for each octet. STORE has
+// code points in hexadecimal, with commas between. EVENTS has events with commas between: SD, ED,
+// EE, SE, AT, CH, CM, PI, each with `:place:length` for each of its strings, in decimal; BAD is a
+// stored event of no kind, BAD2 a stored end element with data. `-` stands for nothing. There is
+// room for 65,535 octets of a line, 20,000 octets, 5,000 events and 20,000 code points.
 //
-// The answers are `NUMBER INDEX EVENTS STORE`, `NUMBER INDEX HEX`, and a string's length and code points; `?` to any other line. Before each call all
-// memory that is lent for writing is filled with the octet A5, and is 3 cells longer than it has to be. An answer ends with DIRTY where a cell that has to
-// be zero is not, or where the cells are not what a count says.
+// The answers are `NUMBER INDEX EVENTS STORE`, `NUMBER INDEX HEX`, and a string's length and code
+// points; `?` to any other line. Before each call all memory that is lent for writing is filled
+// with the octet A5, and is 3 cells longer than it has to be. An answer ends with DIRTY where a
+// cell that has to be zero is not, or where the cells are not what a count says.
 mod parse;
 mod print;
 
@@ -242,7 +246,8 @@ fn next_octet() -> u32 {
     wide(one[0])
 }
 
-// Reads a line, and tells its length; all of the room where standard input has no line left that fits it.
+// Reads a line, and tells its length; all of the room where standard input has no line left that
+// fits it.
 fn read_line(line: &mut [u8]) -> usize {
     let mut n = 0;
     while n < line.len() {

@@ -1,5 +1,6 @@
-// A request, read from left to right. What is read tells the place behind it, or place 0 where the line goes on otherwise. The letter that a request begins
-// with is no digit, no separator and no event, so that nothing is read at place 0 either: the place stays 0.
+// A request, read from left to right. What is read tells the place behind it, or place 0 where the
+// line goes on otherwise. The letter that a request begins with is no digit, no separator and no
+// event, so that nothing is read at place 0 either: the place stays 0.
 ghost use mathlib.Core.Path.{_≡_};
 ghost use Prim.Native.Nat.{_+_, _≤_};
 ghost use lib.ListN.{length};

@@ -32,7 +32,8 @@ module _ (store : Text) (x : Span) where
     part-length = rw part-inside (simp (length-take, length-drop) (omega arith))
 
 -- A longer store changes no text.
-pub part-longer : (store more : Text) (x : Span) → x .place + x .size ≤ length store → part (store ++ more) x ≡ part store x
+pub part-longer : (store more : Text) (x : Span) → x .place + x .size ≤ length store
+    → part (store ++ more) x ≡ part store x
 part-longer store more x fits =
     let at : x .place ≤ length store = omega arith in
     let long : x .place + x .size ≤ length (store ++ more) = simp length-append (omega arith) in
@@ -41,5 +42,6 @@ part-longer store more x fits =
     (take-append-le (x .size) (drop (x .place) store) more left)
 
 -- A string that lies in the first n cells has the same text in them as in the whole store.
-pub part-take : (store : Text) (n : ℕ) (x : Span) → x .place + x .size ≤ length (take n store) → part (take n store) x ≡ part store x
+pub part-take : (store : Text) (n : ℕ) (x : Span) → x .place + x .size ≤ length (take n store)
+    → part (take n store) x ≡ part store x
 part-take store n x fits = sym (rw take-append-drop at (part-longer (take n store) (drop n store) x fits))

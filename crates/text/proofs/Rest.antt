@@ -40,7 +40,8 @@ true-is false t = absurd t
 
 module _ (a b : Text) where
   pub same-start : SameEnds a b 0
-  same-start = record { inside = omega arith; front = λ i h. absurd (omega arith); back = λ i l h. absurd (omega arith) }
+  same-start =
+      record { inside = omega arith; front = λ i h. absurd (omega arith); back = λ i l h. absurd (omega arith) }
 
   pub same-stop : (i : ℕ) → (getD a i 0 ≡ getD b i 0 → ⊥) → false ≡ eqText a b
   same-stop i e = sym (eqText-no a b (λ z. e (ap (λ (x : Text). getD x i 0) z)))

@@ -13,6 +13,7 @@ use Rattle.spec_exi.proofs.Demands as demands
 use Rattle.spec_exi.proofs.Sizes.{accepted-still}
 use Rattle.spec_exi.proofs.Attributes.{formed-exactly}
 use Rattle.spec_exi.proofs.Examples.{worked-examples}
+use Rattle.spec_limits.proofs.AtSizes.{at-sizes}
 use Rattle.theorems.specs.Claims.{Theorems}
 
 scope-smaller : NoLarger baseSizes sizes
@@ -78,4 +79,5 @@ theorems =
       scope-sizes = record { accepted-still = accepted-still baseSizes sizes scope-smaller };
       equal-attributes = λ s l. record { well-formed = formed-exactly s l };
       worked-examples = worked-examples;
+      at-sizes = at-sizes;
     }

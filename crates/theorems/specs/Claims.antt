@@ -93,8 +93,8 @@ pub record LargerSizes (y z : Sizes) : Type 0 where
       → T (enoughToRead z r) → readSized y p o stream ≡ accepted x
       → readSized z r o stream ≡ accepted x
 
--- ---- equal attributes (02, P3): of the lists that are well-formed by all other rules, just those are
--- lost that have two attributes of one name in a start tag
+-- ---- equal attributes (02, P3): of the lists that are well-formed by all other rules, just those
+-- are lost that have two attributes of one name in a start tag
 pub record EqualAttributesLost (s : Settings) (l : List (Event Text)) : Type 0 where
   pub well-formed : WellFormed s l ↔ (BaseWellFormed s l × (EqualAttributes l → ⊥))
 
@@ -112,5 +112,6 @@ pub record Theorems : Type 0 where
   -- from the scope's own sizes to ours
   pub scope-sizes : LargerSizes baseSizes sizes
   pub equal-attributes : (s : Settings) (l : List (Event Text)) → EqualAttributesLost s l
-  -- K1 to K12, their replies in numbers, each number pinned, and examples by topic.
+  -- K1 to K12, their replies in numbers, each number pinned, examples by topic, and at the sizes.
   pub worked-examples : WorkedExamples
+  pub at-sizes : Written atSizes

@@ -297,7 +297,8 @@ module _ {buf : List ℕ} {at m v n : ℕ} (h : ChoiceFits buf at m v) (e : n �
         fits = rw e (chosen-fits h);
       }
 
-  pub put-chosen : (a : Alignment) {after : List ℕ} {r : ℕ} → Put buf at (numberBits a n v) after r → Put buf at (choiceBits a m v) after r
+  pub put-chosen : (a : Alignment) {after : List ℕ} {r : ℕ} → Put buf at (numberBits a n v) after r
+      → Put buf at (choiceBits a m v) after r
   unfolding choiceBits
   put-chosen a p = rw (← e) p
 

@@ -29,12 +29,6 @@ unfolding fill
 fill-front [] b = refl
 fill-front (x ∷ a) b = ap (λ r. x ∷ r) (fill-front a b)
 
-pub front-fill : (n : ℕ) (bs : Bits) → length bs ≤ n → take (length bs) (fill n bs) ≡ bs
-unfolding fill
-front-fill n [] h = refl
-front-fill zero (b ∷ bs) h = absurd (omega arith)
-front-fill (suc n) (b ∷ bs) h = ap (λ r. b ∷ r) (front-fill n bs (omega arith))
-
 pub fill-within : (n : ℕ) (a b : Bits) → n ≤ length a → fill n (a ++ b) ≡ fill n a
 unfolding fill
 fill-within zero a b h = refl
@@ -126,12 +120,6 @@ octets-fill (suc n) bs =
     let h : fill 8 (fill 8 bs ++ rest) ≡ fill 8 bs = rw (length-fill 8 bs) at (fill-front (fill 8 bs) rest) in
     let d : drop 8 (fill 8 bs ++ rest) ≡ rest = drop-at (fill 8 bs) rest 8 (length-fill 8 bs) in
     rw (next-eight n bs, first-octet n (fill 8 bs ++ rest), h, d, octets-fill n (drop 8 bs), first-octet n bs)
-
-pub octets-take : (m n : ℕ) (bs : Bits) → m ≤ n → take m (octetsFrom n bs) ≡ octetsFrom m bs
-unfolding octetsFrom
-octets-take zero n bs h = refl
-octets-take (suc m) zero bs h = absurd (omega arith)
-octets-take (suc m) (suc n) bs h = ap (λ os. valueOf (take 8 (bs ++ replicate 8 false)) ∷ os) (octets-take m n (drop 8 bs) (omega arith))
 
 pub same-octets : (n : ℕ) (a b : Bits) → fill (8 * n) a ≡ fill (8 * n) b → octetsFrom n a ≡ octetsFrom n b
 same-octets n a b e = sym (octets-fill n a) ∙ ap (octetsFrom n) e ∙ octets-fill n b

@@ -13,7 +13,8 @@ use Rattle.spec_fields.proofs.Pack.{length-unpack}
 pub number-length : (a : Alignment) (n v : ℕ) → n ≤ 16 → length (numberBits a n v) ≤ 16
 unfolding numberBits octetsFor
 number-length bitPacked n v h = rw (length-bits n v) h
-number-length byteAligned n v h = rw (length-unpack (littleEndian (octetsFor n) v), length-little (octetsFor n) v) (omega arith)
+number-length byteAligned n v h =
+    rw (length-unpack (littleEndian (octetsFor n) v), length-little (octetsFor n) v) (omega arith)
 
 pub choice-length : (a : Alignment) (m v : ℕ) → m ≤ 65536 → length (choiceBits a m v) ≤ 16
 unfolding choiceBits
@@ -27,7 +28,8 @@ unsigned-octets v = omega (arith, length-unpack (groups maxOctets v))
 groups-length : (k v : ℕ) → length (groups k v) ≤ k
 unfolding groups
 groups-length zero v = omega arith
-groups-length (suc k) v = split (ltb v 128) (λ e. rw e (omega arith)) (λ e. rw e (omega (arith, groups-length k (v / 128))))
+groups-length (suc k) v =
+    split (ltb v 128) (λ e. rw e (omega arith)) (λ e. rw e (omega (arith, groups-length k (v / 128))))
 
 pub unsigned-length : (v : ℕ) → length (unsignedBits v) ≤ 40
 unfolding unsignedBits maxOctets

@@ -37,12 +37,14 @@ pub record Going (buf₀ : List ℕ) (at v : ℕ) (buf : List ℕ) (next rest : 
   pub room : length done + 8 * left ≤ 32
   pub small : rest < 128 ^ suc left
 
-pub started : {buf : List ℕ} {at v : ℕ} → ((i : ℕ) → Fits w8 (getD buf i 0)) → UnsignedFits buf at v → Going buf at v buf at v
+pub started : {buf : List ℕ} {at v : ℕ} → ((i : ℕ) → Fits w8 (getD buf i 0)) → UnsignedFits buf at v
+    → Going buf at v buf at v
 unfolding unsignedBits maxOctets maxUnsigned
 started {buf} {at} {v} known h =
     record { done = []; left = 4; put = put-nothing known (h .blank); all = refl; room = omega arith; small = omega arith }
 
-pub group-asks : {buf₀ buf : List ℕ} {at v next rest : ℕ} (o : ℕ) → at ≤ farthest → Going buf₀ at v buf next rest → o < 256
+pub group-asks : {buf₀ buf : List ℕ} {at v next rest : ℕ} (o : ℕ) → at ≤ farthest
+    → Going buf₀ at v buf next rest → o < 256
     → FewFit buf next 8 o
 group-asks o l g h = (put-blank (g .put), omega (arith, g .room, g .put .next), omega arith, h)
 

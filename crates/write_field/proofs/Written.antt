@@ -1,18 +1,17 @@
 -- Laws of `written`: what callers of the fields' functions cite.
 use mathlib.Core.Path.{_≡_, sym, ap, ap₂, _∙_}
-use Prim.Native.Nat.{ℕ, zero, suc, _+_, _*_, _≤_, _<_}
+use Prim.Native.Nat.{ℕ, zero, suc, _+_, _*_, _<_}
 use native.Mathlib.Omega.{arith}
 use mathlib.Core.Bool.{false}
 use mathlib.Core.List.{List, [], _∷_, _++_, append-assoc, append-nil}
 use lib.ListN.{length, getD, take, replicate, length-append}
-use lib.Seq.{length-take-le}
 use mir.Syntax.{w8}
 use mir.Val.{Fits}
 use lib.Dec.{T}
-use Rattle.spec_fields.specs.Bits.{Bits, bitsOf, each, unpack, octetsFrom, octetsFor, pack, allZero}
+use Rattle.spec_fields.specs.Bits.{Bits, bitsOf, each, unpack, octetsFrom, pack, allZero}
 use Rattle.spec_fields.proofs.Pack.{Octets, length-unpack}
 use Rattle.write_field.specs.Written.{written, blankFrom, Put}
-use Rattle.write_field.proofs.Fill.{fill, length-fill, front-fill, fill-zeros, fill-blank, blank-fill, behind-taken, behind-filled, length-octets, unpack-from, octets-take, same-octets, from-unpack, octets-from}
+use Rattle.write_field.proofs.Fill.{fill, length-fill, fill-zeros, fill-blank, blank-fill, behind-taken, behind-filled, length-octets, unpack-from, same-octets, from-unpack, octets-from}
 
 -- The octets of a slice.
 pub octets-of : (os : List ℕ) → ((i : ℕ) → Fits w8 (getD os i 0)) → Octets os
@@ -57,7 +56,8 @@ position : (buf : List ℕ) (at : ℕ) (w : Bits) → length (before buf at ++ w
 position buf at w = length-append (before buf at) w ∙ ap (λ n. n + length w) (length-before buf at)
 
 -- Writing w, and u behind it, is writing both at once, also past the end.
-pub written-then : (buf : List ℕ) (at : ℕ) (w u : Bits) → written (written buf at w) (at + length w) u ≡ written buf at (w ++ u)
+pub written-then : (buf : List ℕ) (at : ℕ) (w u : Bits)
+    → written (written buf at w) (at + length w) u ≡ written buf at (w ++ u)
 written-then buf at w u =
     ap₂ (λ b n. written b n u) (written-is buf at w) (sym (position buf at w))
     ∙ written-behind (length buf) (before buf at ++ w) u
@@ -71,7 +71,8 @@ written-blank buf at w =
     rw (written-is buf at w, unpack-from (length buf) (before buf at ++ w), ← position buf at w) (blank-fill (8 * length buf) (before buf at ++ w))
 
 -- Zeros at the end of what is written make no difference.
-pub written-zeros : (buf : List ℕ) (at : ℕ) (w : Bits) (m : ℕ) → written buf at (w ++ replicate m false) ≡ written buf at w
+pub written-zeros : (buf : List ℕ) (at : ℕ) (w : Bits) (m : ℕ)
+    → written buf at (w ++ replicate m false) ≡ written buf at w
 unfolding written
 written-zeros buf at w m =
     let p = take at (unpack buf) ++ w in
@@ -79,14 +80,16 @@ written-zeros buf at w m =
     (same-octets (length buf) (p ++ replicate m false) p (fill-zeros (8 * length buf) m p))
 
 -- A buffer that is blank from bit `at` on is its bits before that.
-pub blank-is : (buf : List ℕ) (at : ℕ) → Octets buf → T (blankFrom buf at) → octetsFrom (length buf) (before buf at) ≡ buf
+pub blank-is : (buf : List ℕ) (at : ℕ) → Octets buf → T (blankFrom buf at)
+    → octetsFrom (length buf) (before buf at) ≡ buf
 unfolding blankFrom before
 blank-is buf at h t =
     same-octets (length buf) (fill at (unpack buf)) (unpack buf) (rw (length-unpack buf) at (fill-blank at (unpack buf) t))
     ∙ from-unpack buf h
 
 pub written-nothing : (buf : List ℕ) (at : ℕ) → Octets buf → T (blankFrom buf at) → written buf at [] ≡ buf
-written-nothing buf at h t = written-is buf at [] ∙ ap (octetsFrom (length buf)) (append-nil (before buf at)) ∙ blank-is buf at h t
+written-nothing buf at h t =
+    written-is buf at [] ∙ ap (octetsFrom (length buf)) (append-nil (before buf at)) ∙ blank-is buf at h t
 
 -- ---- at the two ends of a run of writes
 
@@ -95,24 +98,10 @@ unfolding blankFrom unpack each bitsOf allZero
 zeros-blank zero = tt
 zeros-blank (suc n) = zeros-blank n
 
--- What fits is there.
-pub written-front : (buf : List ℕ) (at : ℕ) (w : Bits) → at + length w ≤ 8 * length buf
-    → take (at + length w) (unpack (written buf at w)) ≡ take at (unpack buf) ++ w
-unfolding written
-written-front buf at w h =
-    let p = take at (unpack buf) ++ w in
-    let f : length (take at (unpack buf)) ≡ at = length-take-le at (unpack buf) (omega (arith, length-unpack buf)) in
-    let l : length p ≡ at + length w = length-append (take at (unpack buf)) w ∙ ap (λ n. n + length w) f in
-    rw (unpack-from (length buf) p, ← l) (front-fill (8 * length buf) p (omega arith))
-
--- Written from the start on, what fits is packed.
-pub written-packed : (buf : List ℕ) (w : Bits) → octetsFor (length w) ≤ length buf → take (octetsFor (length w)) (written buf 0 w) ≡ pack w
-unfolding written pack
-written-packed buf w h = octets-take (octetsFor (length w)) (length buf) w h
-
 -- ---- the same of what a function leaves
 
-pub put-then : {buf mid after : List ℕ} {at p r : ℕ} {w u : Bits} → Put buf at w mid p → Put mid p u after r → Put buf at (w ++ u) after r
+pub put-then : {buf mid after : List ℕ} {at p r : ℕ} {w u : Bits} → Put buf at w mid p
+    → Put mid p u after r → Put buf at (w ++ u) after r
 put-then {buf} {mid} {after} {at} {p} {r} {w} {u} a b =
     record {
       octets = b .octets ∙ ap₂ (λ os n. written os n u) (a .octets) (a .next) ∙ written-then buf at w u;
@@ -130,5 +119,7 @@ pub put-known : {buf after : List ℕ} {at r : ℕ} {w : Bits} → Put buf at w 
 put-known {buf} {after} {at} {r} {w} a i =
     record { fits = rw (a .octets) (octet-below (written buf at w) i (written-octets buf at w)) }
 
-pub put-nothing : {buf : List ℕ} {at : ℕ} → ((i : ℕ) → Fits w8 (getD buf i 0)) → T (blankFrom buf at) → Put buf at [] buf at
-put-nothing {buf} {at} known t = record { octets = sym (written-nothing buf at (octets-of buf known) t); next = omega arith }
+pub put-nothing : {buf : List ℕ} {at : ℕ} → ((i : ℕ) → Fits w8 (getD buf i 0))
+    → T (blankFrom buf at) → Put buf at [] buf at
+put-nothing {buf} {at} known t =
+    record { octets = sym (written-nothing buf at (octets-of buf known) t); next = omega arith }

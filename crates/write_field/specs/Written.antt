@@ -1,4 +1,5 @@
--- A field written into lent octets at a bit position. Where the room ends storing stops, and the position goes on.
+-- A field written into lent octets at a bit position. Where the room ends storing stops, and the
+-- position goes on.
 use mathlib.Core.Path.{_≡_}
 use Prim.Native.Nat.{ℕ, _+_, _-_, _^_, _≤_, _<_}
 use mathlib.Core.Bool.{Bool}
@@ -10,7 +11,8 @@ use Rattle.spec_fields.specs.Field.{maxUnsigned}
 unfoldable pub use Rattle.read_field.specs.View.{alignmentOf}
 pub use Rattle.read_field.specs.View.{farthest}
 
--- The octets of buf with the bits w from bit `at` on and zeros behind them. Bits past the end of buf are dropped.
+-- The octets of buf with the bits w from bit `at` on and zeros behind them. Bits past the end of
+-- buf are dropped.
 unfoldable pub written : List ℕ → ℕ → Bits → List ℕ
 written buf at w = octetsFrom (length buf) (take at (unpack buf) ++ w)
 
@@ -23,7 +25,8 @@ pub record Put (buf : List ℕ) (at : ℕ) (w : Bits) (after : List ℕ) (r : �
   pub octets : after ≡ written buf at w
   pub next : r ≡ at + length w
 
--- ---- what each function asks: octets that are blank from bit `at` on, a position that is not too far, and a number of the field
+-- ---- what each function asks: octets that are blank from bit `at` on, a position that is not too
+-- far, and a number of the field
 
 pub record NumberFits (buf : List ℕ) (at n v : ℕ) : Type 0 where
   pub blank : T (blankFrom buf at)

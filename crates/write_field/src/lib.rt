@@ -1,4 +1,5 @@
-// The fields of a stream, written at a bit position. Each function gives the position after the field.
+// The fields of a stream, written at a bit position. Each function gives the position after the
+// field.
 ghost use mathlib.Core.Path.{_≡_};
 ghost use Prim.Native.Nat.{_+_, _-_, _%_, _^_, _≤_, _<_};
 ghost use lib.Dec.{T};
@@ -76,7 +77,8 @@ fn put_octets(buf: &mut [u8], at: usize, n: u32, v: u32) -> usize
 // n-bit Unsigned Integer.
 pub fn put_number(aligned: bool, buf: &mut [u8], at: usize, n: u32, v: u32) -> usize
     requires { ⌜ NumberFits (now buf) at n v ⌝ }
-    ensures { λ r. ⌜ Put (now (buf .entry)) at (numberBits (alignmentOf aligned) n v) (now (buf .exit)) r ⌝ }
+    ensures { λ r. ⌜
+        Put (now (buf .entry)) at (numberBits (alignmentOf aligned) n v) (now (buf .exit)) r ⌝ }
 {
     if aligned {
         return put_octets(buf, at, n, v);
@@ -87,7 +89,8 @@ pub fn put_number(aligned: bool, buf: &mut [u8], at: usize, n: u32, v: u32) -> u
 // The one with number v among m.
 pub fn put_choice(aligned: bool, buf: &mut [u8], at: usize, m: u32, v: u32) -> usize
     requires { ⌜ ChoiceFits (now buf) at m v ⌝ }
-    ensures { λ r. ⌜ Put (now (buf .entry)) at (choiceBits (alignmentOf aligned) m v) (now (buf .exit)) r ⌝ }
+    ensures { λ r. ⌜
+        Put (now (buf .entry)) at (choiceBits (alignmentOf aligned) m v) (now (buf .exit)) r ⌝ }
 {
     if m <= 1 {
         return at;

@@ -9,7 +9,7 @@ use Rattle.spec_exi.specs.Examples.Refusals.{orders, refusals}
 use Rattle.spec_exi.specs.Examples.Numbers.{Pinned}
 use Rattle.spec_exi.specs.Examples.Bounds.{RefusedUnder, inOrder}
 use Rattle.spec_exi.specs.Examples.Written.{Written, WriteReplied, writes, writeReplies}
-use Rattle.spec_exi.specs.Examples.Written.{WrittenUnder, writesInOrder, atSizes}
+use Rattle.spec_exi.specs.Examples.Written.{WrittenUnder, writesInOrder}
 use Rattle.spec_exi.specs.Examples.Attributes.{equalRead, equalWritten}
 use Rattle.spec_exi.specs.Examples.Names.{InitialNames, namesRead, textsRead}
 use Rattle.spec_exi.specs.Examples.Names.{namesWritten, namesInOrder}
@@ -31,7 +31,6 @@ pub record WorkedExamples : Type 0 where
   pub writes-hold : Written writes
   pub writes-replied : WriteReplied writes writeReplies
   pub writes-in-order : WrittenUnder writesInOrder
-  pub at-sizes : Written atSizes
   pub equal-read : Hold equalRead
   pub equal-written : Written equalWritten
   pub names : NameExamples

@@ -1,6 +1,5 @@
 -- Lists that are lent to the writer, and what it answers.
-use Rattle.spec_fields.specs.Prelude.{ℕ, zero, suc, _+_, _≡_, List, [], _∷_, _++_, map, none, some}
-use Rattle.spec_fields.specs.Prelude.{replicate}
+use Rattle.spec_fields.specs.Prelude.{ℕ, _≡_, List, [], _∷_, map, none, some, replicate}
 use Rattle.spec_fields.specs.Refusal.{settings, character, name, limit, shape, place, Answer}
 use Rattle.spec_fields.specs.Refusal.{refused, accepted}
 use Rattle.text.specs.Text.{Text, text}
@@ -58,8 +57,8 @@ writes =
     -- A local name outside the store, which looked up is empty: PLACE. An empty one outside, too.
     ∷ listed (some (startElement (named 9 9)) ∷ []) [] (refused place 1)
     ∷ listed (some (startElement (named 9 0)) ∷ []) [] (refused place 1)
-    -- A URI that is no Char, and a local name outside the store; an empty name, and a value outside:
-    -- PLACE for all strings of the event comes first.
+    -- A URI that is no Char, and a local name outside the store; an empty name, and a value
+    -- outside: PLACE for all strings of the event comes first.
     ∷ listed (some (startElement (inUri 0 1 9 9)) ∷ []) (0 ∷ []) (refused place 1)
     ∷ listed (some (startElement (named 0 1)) ∷ some (attribute (named 0 0) (at 9 9)) ∷ [])
     (text "a") (refused place 2)
@@ -90,6 +89,12 @@ pub record WrittenUnder (xs : List (Sizes × WriteExample)) : Type 0 where
       (λ x. writeList (x .0) (settingsOf (x .1 .numbers)) (x .1 .events) (x .1 .store)) xs
       ≡ map (λ x. x .1 .answer) xs
 
+-- <a k="x" and a second k, with a new value of so many code points that is LIMIT.
+unfoldable pub secondValue : ℕ → WriteExample
+secondValue n =
+    listed (some (startElement (named 0 1)) ∷ some (attribute (named 1 1) (at 2 1))
+    ∷ some (attribute (named 1 1) (at 3 n)) ∷ []) (text "akxyy") (refused limit 3)
+
 -- The scope's order ("Refusal numbers").
 unfoldable pub writesInOrder : List (Sizes × WriteExample)
 writesInOrder =
@@ -102,47 +107,8 @@ writesInOrder =
     ∷ (only 2 0, listed (some (startElement (named 0 0)) ∷ []) [] (refused name 1))
     -- the limit of the URIs, before the local name's characters
     ∷ (only 3 3, listed (some (startElement (inUri 0 1 1 1)) ∷ []) (117 ∷ 0 ∷ []) (refused limit 1))
-    -- the limit of a value's table, before SHAPE for a second attribute of one name (P3)
-    ∷ (
-      only 5 1,
-      listed (some (startElement (named 0 1)) ∷ some (attribute (named 1 1) (at 2 1))
-          ∷ some (attribute (named 1 1) (at 3 1)) ∷ []) (text "akxy") (refused limit 3),
-    ) ∷ []
-
--- ---- both sides of the scope's own sizes: a list that ends early, or LIMIT
-
--- What f gives for i, i + 1, .., n times.
-unfoldable pub upTo : {A : Type 0} → (ℕ → List A) → ℕ → ℕ → List A
-upTo f zero i = []
-upTo f (suc n) i = f i ++ upTo f n (suc i)
-
--- Start elements, one in the other, whose names, or URIs, are one code point at place i each.
-unfoldable pub nested : ℕ → ℕ → List Stored
-nested = upTo (λ i. some (startElement (named i 1)) ∷ [])
-
-unfoldable pub inUris : ℕ → ℕ → List Stored
-inUris = upTo (λ i. some (startElement (inUri i 1 0 1)) ∷ [])
-
--- The same with an attribute each.
-unfoldable pub withAttribute : ℕ → ℕ → List Stored
-withAttribute = upTo (λ i. nested 1 i ++ (some (attribute (named (100 + i) 1) (at 0 0)) ∷ []))
-
--- A store of different code points.
-unfoldable pub aRow : Text
-aRow = upTo (λ i. i ∷ []) 200 1000
-
--- At a size, and one past it. Where the latter stands alone, its index says that all before passed.
-unfoldable pub atSizes : List WriteExample
-atSizes =
-    -- 100 and 101 open elements of one name
-    listed (replicate 100 (some (startElement (named 0 1)))) aRow (refused shape 101)
-    ∷ listed (replicate 101 (some (startElement (named 0 1)))) aRow (refused limit 101)
-    -- 64 element grammars, and a 65th
-    ∷ listed (nested 65 0) aRow (refused limit 65)
-    -- 128 local names, the initial entries among them, and a 129th
-    ∷ listed (withAttribute 61 0 ++ nested 1 90) aRow (refused limit 123)
-    -- 16 and 17 URIs
-    ∷ listed (inUris 13 0) aRow (refused shape 14)
-    ∷ listed (inUris 14 0) aRow (refused limit 14)
-    -- 4,096 code points (4,097 are above)
-    ∷ listed (some (startElement (named 0 4096)) ∷ []) (replicate 4096 97) (refused shape 2) ∷ []
+    -- the limits of a value (its table, its length, the store), before SHAPE for a second attribute
+    -- of one name (P3)
+    ∷ (only 5 1, secondValue 1)
+    ∷ (only 8 1, secondValue 2)
+    ∷ (only 9 102, secondValue 1) ∷ []

@@ -18,4 +18,6 @@ pub use Rattle.spec_exi.specs.Writer.{Stored, WriterRoom, enoughToWrite, write,
 pub use Rattle.spec_exi.specs.Writer.{writeReply}
 pub use Rattle.spec_exi.specs.Packets.{complete}
 pub use Rattle.spec_exi.specs.Meaning.{AreOctets, storedOf, meant, Accepts, TooLong}
+pub use Rattle.spec_exi.specs.Examples.Written.{Written}
 pub use Rattle.spec_exi.specs.Examples.All.{WorkedExamples}
+pub use Rattle.spec_limits.specs.AtSizes.{atSizes}

@@ -1,0 +1,1 @@
+// Worked examples at the scope's own sizes; no function.
