@@ -1,10 +1,5 @@
 -- `clear_counts` meets its contract.
-use denote.Ref.{now}
-use Prim.Native.Nat.{ℕ}
-use lib.ListN.{drop}
-use mathlib.Core.List.{List, _++_}
-use mathlib.Core.Path.{ap}
-use Rattle.mem_initial.specs.Initial.{zeroed}
+use Rattle.mem_initial.proofs.Steps.{counts-cleared}
 use borrow.Author.Needs.{needs}
 use Rattle.mem_initial.proofs.clear_counts.Statement.{statement}
 use Rattle.mem_initial.proofs.clear_counts.Tie as tie
@@ -25,11 +20,10 @@ same-length : tie.Need-same-length
 same-length c = search needs
 
 returns : tie.Need-returns
-unfolding zeroed
 returns c =
     let cells = c .before .before in
     let start = cells .before .before .before in
-    ap (λ (l : List ℕ). l ++ drop 3490 (now (start .args .work))) (cells .cells .ensures)
+    counts-cleared _ (start .pre) (cells .cells .ensures)
 
 pub clear-counts-spec : {M : Type 1} → statement M
 clear-counts-spec =
