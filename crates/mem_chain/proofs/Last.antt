@@ -26,6 +26,11 @@ module _ (t : ℕ → Bool) where
   last-most (suc k) =
       split (t k) (λ e. omega (arith, last-here k e)) (λ e. omega (arith, last-on k e, last-most k))
 
+  -- What passes below k is below one more.
+  pub last-more : (k : ℕ) → 0 < lastThat t k → 0 < lastThat t (suc k)
+  last-more k h =
+      split (t k) (λ e. omega (arith, last-here k e)) (λ e. omega (arith, last-on k e))
+
   pub last-is : (k i : ℕ) → lastThat t k ≡ suc i → t i ≡ true
   unfolding lastThat
   last-is zero i e = absurd (omega arith)

@@ -3,7 +3,7 @@ use Prim.Native.Nat.{ℕ, suc, _+_, _*_, _/_, _%_, _≤_, _<_}
 use native.Mathlib.Omega.{arith}
 use native.Mathlib.Nat.{mod-lt, div-add-mod, mul-le-mul-left}
 use native.Mathlib.Decide.{decLe}
-use mathlib.Core.Path.{_≡_, sym, ap, _∙_}
+use mathlib.Core.Path.{_≡_, refl, sym, ap, _∙_}
 use mathlib.Core.Logic.{_≢_}
 use mathlib.Core.Bool.{false, true≢false}
 use mathlib.Core.List.{List}
@@ -39,8 +39,21 @@ pub chained-same : {work after : List ℕ} {heads size nexts ring : ℕ} {bucket
 chained-same {nexts = nexts} {ring = ring} some h x w =
     record {
       thread = λ b l. record {
-        first = h .cells b l ∙ w .thread b l .first;
-        next = λ i lt near e. x .cells (i % ring) (mod-lt i some) ∙ w .thread b l .next i lt near e;
+        first = λ s. h .cells b l ∙ w .thread b l .first s;
+        next = λ i lt near e s.
+            x .cells (i % ring) (mod-lt i some) ∙ w .thread b l .next i lt near e s;
+      };
+    }
+
+-- No row is chained on any memory.
+pub chained-none : (work : List ℕ) (heads size nexts ring : ℕ) (bucket : ℕ → ℕ)
+    → Chained work heads size nexts ring bucket 0
+unfolding lastThat
+chained-none work heads size nexts ring bucket =
+    record {
+      thread = λ b l. record {
+        first = λ s. absurd (omega arith);
+        next = λ i h near t s. absurd (omega arith);
       };
     }
 
@@ -95,21 +108,30 @@ module _ (work : List ℕ) (heads size nexts ring n b : ℕ) (some : 0 < ring) (
     kept : (a k : ℕ) → k ≤ n → lastThat (inBucket new a) k ≡ lastThat (inBucket old a) k
     kept a k h = last-same (inBucket new a) (inBucket old a) k (λ i l. rw (same i (omega arith)))
 
+    there : (a i k : ℕ) → k ≤ n → i ≡ k → 0 < lastThat (inBucket new a) i
+        → 0 < lastThat (inBucket old a) k
+    there a i k h e s =
+        let z : lastThat (inBucket new a) i ≡ lastThat (inBucket old a) k =
+        ap (lastThat (inBucket new a)) e ∙ kept a k h in
+        omega arith
+
     mine : Threaded work (heads + b) nexts ring n (inBucket old b)
         → Threaded after (heads + b) nexts ring (suc n) (inBucket new b)
     mine w =
         record {
-          first = head-new ∙ (omega arith)
+          first = λ s. head-new ∙ (omega arith)
               ∙ sym (last-here (inBucket new b) n (eq-eqb (new n) b here));
-          next = λ i h g e.
+          next = λ i h g e s.
               split (eqb i n)
               (λ x.
               let z : i ≡ n = eqb-true i n x in
-              ap (λ k. getD after (nexts + k % ring) 0) z ∙ next-new ∙ w .first
+              ap (λ k. getD after (nexts + k % ring) 0) z ∙ next-new
+              ∙ w .first (there b i n (omega arith) z s)
               ∙ sym (kept b n (omega arith)) ∙ ap (lastThat (inBucket new b)) (sym z))
               (λ x.
               let l : i < n = omega (arith, eqb-false i n x) in
-              next-old i l (omega arith) ∙ w .next i l (omega arith) (rw (same i l) at e)
+              next-old i l (omega arith)
+              ∙ w .next i l (omega arith) (rw (same i l) at e) (there b i i (omega arith) refl s)
               ∙ sym (kept b i (omega arith)));
         }
 
@@ -119,14 +141,18 @@ module _ (work : List ℕ) (heads size nexts ring n b : ℕ) (some : 0 < ring) (
     other a la ne w =
         let no : eqb (new n) a ≡ false = ne-eqb (new n) a (λ e. ne (sym e ∙ here)) in
         record {
-          first = head-old a la ne ∙ w .first ∙ sym (kept a n (omega arith))
-              ∙ sym (last-on (inBucket new a) n no);
-          next = λ i h g e.
+          first = λ s.
+              let on : lastThat (inBucket new a) (suc n) ≡ lastThat (inBucket new a) n =
+              last-on (inBucket new a) n no in
+              head-old a la ne ∙ w .first (there a n n (omega arith) refl (omega (arith, s, on)))
+              ∙ sym (kept a n (omega arith)) ∙ sym on;
+          next = λ i h g e s.
               split (eqb i n)
               (λ x. let z : i ≡ n = eqb-true i n x in absurd (true≢false (sym (rw z at e) ∙ no)))
               (λ x.
               let l : i < n = omega (arith, eqb-false i n x) in
-              next-old i l (omega arith) ∙ w .next i l (omega arith) (rw (same i l) at e)
+              next-old i l (omega arith)
+              ∙ w .next i l (omega arith) (rw (same i l) at e) (there a i i (omega arith) refl s)
               ∙ sym (kept a i (omega arith)));
         }
 

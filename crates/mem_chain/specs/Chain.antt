@@ -42,11 +42,11 @@ walkedFrom work head nexts ring n low has =
     walked work nexts ring low has n (below (n + 1) (getD work head 0))
 
 -- The rows that pass the test are one chain: the head is the newest, and the link of each that is
--- in the ring the newest one before it.
+-- in the ring the newest one before it. Where there is none, head and link are anything.
 pub record Threaded (work : List ℕ) (head nexts ring n : ℕ) (test : ℕ → Bool) : Type 0 where
-  pub first : getD work head 0 ≡ lastThat test n
-  pub next : (i : ℕ) → i < n → n ≤ i + ring → test i ≡ true → getD work (nexts + i % ring) 0
-      ≡ lastThat test i
+  pub first : 0 < lastThat test n → getD work head 0 ≡ lastThat test n
+  pub next : (i : ℕ) → i < n → n ≤ i + ring → test i ≡ true → 0 < lastThat test i
+      → getD work (nexts + i % ring) 0 ≡ lastThat test i
 
 abbrev pub inBucket : (ℕ → ℕ) → ℕ → ℕ → Bool
 inBucket bucket b i = eqb (bucket i) b

@@ -9,10 +9,10 @@ use lib.ListN.{length, getD, set, length-set}
 use lib.Seq.{getD-set-same, getD-set-other}
 use lib.Dec.{eqb}
 use borrow.Author.Tests.{eqb-true, eqb-false, eq-eqb, ne-eqb}
-use Rattle.mem_chain.specs.Chain.{lastThat, linked, Chained}
+use Rattle.mem_chain.specs.Chain.{linked, Chained}
 use Rattle.mem_chain.proofs.Last.{split}
-use Rattle.mem_chain.proofs.More.{SameCells, ring-apart, chained-same, chained-more, linked-length}
-use Rattle.mem_chain.proofs.More.{linked-other}
+use Rattle.mem_chain.proofs.More.{SameCells, ring-apart, chained-none, chained-same, chained-more}
+use Rattle.mem_chain.proofs.More.{linked-length, linked-other}
 use Rattle.mem_index.specs.declared.Index.{Index}
 use Rattle.mem_index.specs.Index.{numbers, spotOf, Coded, entered, tally, hasKey, numberAt}
 use Rattle.mem_index.specs.Index.{codeAt, Numbered, countIn, joined}
@@ -64,26 +64,24 @@ numbered-same some s c h =
       counted = λ k l. c .cells k l ∙ h .counted k l;
     }
 
--- Memory whose heads are zero has no row.
-pub coded-none : (work : List ℕ) (x : Index) (codeOf : ℕ → ℕ)
-    → ((b : ℕ) → b < x .size → getD work (x .heads + b) 0 ≡ 0) → Coded work x codeOf 0
-unfolding lastThat
-coded-none work x codeOf z =
+-- Of no row any memory is an index.
+pub coded-none : (work : List ℕ) (x : Index) (codeOf : ℕ → ℕ) → Coded work x codeOf 0
+coded-none work x codeOf =
     record {
       cells = λ i l near. absurd (omega arith);
-      chain = record
-          { thread = λ b l. record { first = z b l; next = λ i h near t. absurd (omega arith) } };
+      chain = chained-none work (x .heads) (x .size) (x .nexts) (x .ring)
+          (λ i. spotOf (codeOf i) (x .size));
     }
 
+-- Where the counts are zero.
 pub numbered-none : (work : List ℕ) (x : Index) (counts keys : ℕ) (keyOf : ℕ → ℕ)
-    → ((b : ℕ) → b < x .size → getD work (x .heads + b) 0 ≡ 0)
     → ((k : ℕ) → k < keys → getD work (counts + k) 0 ≡ 0) → Numbered work x counts keys keyOf 0
 unfolding tally
-numbered-none work x counts keys keyOf z c =
+numbered-none work x counts keys keyOf c =
     record {
       few = omega arith;
       owned = λ i l. absurd (omega arith);
-      coded = coded-none work x (codeAt keyOf) z;
+      coded = coded-none work x (codeAt keyOf);
       counted = c;
     }
 

@@ -1,11 +1,12 @@
 -- Lent memory with the initial entries is the definitions' start.
-use Prim.Native.Nat.{ℕ, _+_, _≤_, _<_}
+use Prim.Native.Nat.{ℕ, _+_, _-_, _≤_, _<_}
 use native.Mathlib.Omega.{arith}
 use native.Mathlib.Nat.{le-refl}
 use mathlib.Core.Path.{_≡_, refl, sym, ap, subst, _∙_}
 use mathlib.Core.List.{List, [], _++_, append-nil}
-use lib.ListN.{length, getD, take, drop, replicate, length-replicate, getD-replicate}
-use lib.Seq.{length-take-le, take-at, getD-take}
+use lib.ListN.{length, getD, take, drop, replicate, length-append, length-drop, length-replicate}
+use lib.ListN.{getD-replicate, List·getD-append}
+use lib.Seq.{length-take-le, take-at, getD-append-add}
 use lib.Dec.{T}
 use Rattle.text.specs.Text.{Text, text, eqText}
 use Rattle.text.proofs.Names.{nameDefinitions}
@@ -19,7 +20,8 @@ use Rattle.spec_exi.specs.Grammar.{emptyTag}
 use Rattle.spec_exi.specs.Context.{start}
 use Rattle.spec_exi.specs.Alike.{Alike}
 use Rattle.spec_exi.proofs.Alike.{alike-same}
-use Rattle.mem_layout.specs.Layout.{zeroCells, workCells, openingUris, openingNames}
+use Rattle.mem_layout.specs.Layout.{valueCounts, learnedCounts, grammarFlags, nameCounts, nameMarks}
+use Rattle.mem_layout.specs.Layout.{zeroFrom, zeroTo, workCells, openingUris, openingNames}
 use Rattle.mem_entries.specs.Texts.{upTo}
 use Rattle.mem_chain.specs.Chain.{firstThat}
 use Rattle.mem_entries.specs.Entries.{entryAt, named}
@@ -71,25 +73,28 @@ none-valid =
     }
 
 module _ (work : List ℕ) (room : workCells ≤ length work)
-    (zeros : (j : ℕ) → j < zeroCells → getD work j 0 ≡ 0) where
+    (zeros : (j : ℕ) → zeroFrom ≤ j → j < zeroTo → getD work j 0 ≡ 0) where
   none-holds : (from : Stores) → from .values .stored ≤ length (from .values .store)
       → Holds work from noRows
   unfolding taughtIn replaced globalNumber
   none-holds from inside =
       record {
         uris = uris-none work (from .uris) room;
-        names = names-none work (from .names) room (λ j h. zeros j (omega arith));
+        names = names-none work (from .names) room
+            (λ k h. zeros (nameCounts + k) (omega arith) (omega arith));
         values = record {
           holds = values-none work (from .values .store) (from .values .stored) room inside
-              (λ j h. zeros j (omega arith));
+              (λ k h. zeros (valueCounts + k) (omega arith) (omega arith));
           differ = record { texts = λ i j _ h k e. absurd (omega arith) };
           capacity = unbounded;
           gone = refl;
           new = refl;
           near = omega arith;
         };
-        learned = learned-none work room (λ j h. zeros j (omega arith));
-        grammars = grammars-none work room (λ j h. zeros j (omega arith));
+        learned = learned-none work room
+            (λ k h. zeros (learnedCounts + k) (omega arith) (omega arith));
+        grammars = grammars-none work room
+            (λ k h. zeros (grammarFlags + k) (omega arith) (omega arith));
       }
 
 -- ---- the initial entries are fresh one after the other, by computation
@@ -156,22 +161,38 @@ opening-sourced uris names values =
       values = values;
     }
 
--- Heads and counts are cleared.
-pub heads-zero : (work : List ℕ) → workCells ≤ length work → (j : ℕ) → j < zeroCells
-    → getD (zeroed zeroCells work) j 0 ≡ 0
+-- The counts are cleared.
+pub counts-zero : (work : List ℕ) → workCells ≤ length work → (j : ℕ) → zeroFrom ≤ j → j < zeroTo
+    → getD (zeroed work) j 0 ≡ 0
 unfolding zeroed
-heads-zero work room j h =
-    let n : length (take zeroCells work) ≡ zeroCells = length-take-le zeroCells work (omega arith) in
-    let zeros : List ℕ = replicate (length (take zeroCells work)) 0 in
-    let first : take zeroCells (zeros ++ drop zeroCells work) ≡ zeros =
-    take-at zeros (drop zeroCells work) zeroCells
-    (length-replicate {A = ℕ} (length (take zeroCells work)) 0 ∙ n) in
-    sym (getD-take zeroCells (zeros ++ drop zeroCells work) j 0 h)
-    ∙ ap (λ (m : List ℕ). getD m j 0) first
-    ∙ getD-replicate (length (take zeroCells work)) j 0 0 (omega (arith, n))
+counts-zero work room j l h =
+    let kept : List ℕ = take zeroFrom work in
+    let zeros : List ℕ = replicate (zeroTo - zeroFrom) 0 in
+    let n : length kept ≡ zeroFrom = length-take-le zeroFrom work (omega arith) in
+    let m : length zeros ≡ zeroTo - zeroFrom = length-replicate {A = ℕ} (zeroTo - zeroFrom) 0 in
+    let e : j ≡ length kept + (j - zeroFrom) = omega arith in
+    List·getD-append (kept ++ zeros) (drop zeroTo work) 0 j
+    (omega (arith, length-append kept zeros))
+    ∙ ap (λ i. getD (kept ++ zeros) i 0) e
+    ∙ getD-append-add kept zeros (j - zeroFrom) 0
+    ∙ getD-replicate (zeroTo - zeroFrom) (j - zeroFrom) 0 0 (omega arith)
+
+pub zeroed-size : (work : List ℕ) → workCells ≤ length work → length (zeroed work) ≡ length work
+unfolding zeroed
+zeroed-size work room =
+    let kept : List ℕ = take zeroFrom work in
+    let zeros : List ℕ = replicate (zeroTo - zeroFrom) 0 in
+    omega (
+      arith,
+      length-append (kept ++ zeros) (drop zeroTo work),
+      length-append kept zeros,
+      length-take-le zeroFrom work (omega arith),
+      length-replicate {A = ℕ} (zeroTo - zeroFrom) 0,
+      length-drop zeroTo work,
+    )
 
 module _ (work : List ℕ) (room : workCells ≤ length work)
-    (zeros : (j : ℕ) → j < zeroCells → getD work j 0 ≡ 0) {from : Stores} where
+    (zeros : (j : ℕ) → zeroFrom ≤ j → j < zeroTo → getD work j 0 ≡ 0) {from : Stores} where
   pub initial-stands : (origin : ℕ) → Sourced from origin
       → Stands (withRows work origin) from (initialRows origin)
   unfolding withRows urisLaid namesLaid initialRows initialText urisText namesText initialUris
@@ -182,7 +203,8 @@ module _ (work : List ℕ) (room : workCells ≤ length work)
       (record {
         valid = none-valid;
         holds = none-holds work room zeros from (f .values);
-        marks = marks-none work room zeros (omega arith);
+        marks = marks-none work room (λ k h. zeros (nameMarks + k) (omega arith) (omega arith))
+            (omega arith);
       })
       refl (f .uris) (first-has urisText namesText (f .has) (origin + 0) (omega arith))
       (uris-fresh origin))

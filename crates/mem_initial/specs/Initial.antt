@@ -1,10 +1,10 @@
 -- The initial entries (EXI, appendix D.1 and D.3) in lent memory, and the rows that it then holds.
-use Prim.Native.Nat.{ℕ, suc, _+_, _≤_}
+use Prim.Native.Nat.{ℕ, suc, _+_, _-_, _≤_}
 use mathlib.Core.List.{List, [], _∷_, _++_, map}
 use lib.ListN.{length, take, drop, replicate}
 use Rattle.text.specs.Text.{Text, text}
 use Rattle.spec_exi.specs.Tables.{xmlUri, xsiUri}
-use Rattle.mem_layout.specs.Layout.{workCells, openingUris, openingNames}
+use Rattle.mem_layout.specs.Layout.{zeroFrom, zeroTo, workCells, openingUris, openingNames}
 use Rattle.mem_entries.specs.Texts.{hashOf}
 use Rattle.mem_names.specs.Uris.{withUri}
 use Rattle.mem_names.specs.Names.{withName}
@@ -55,9 +55,9 @@ initialSize = 99
 
 -- ---- cells
 
--- The first n cells, cleared.
-unfoldable pub zeroed : ℕ → List ℕ → List ℕ
-zeroed n cells = replicate (length (take n cells)) 0 ++ drop n cells
+-- Work memory whose counts are cleared.
+unfoldable pub zeroed : List ℕ → List ℕ
+zeroed work = take zeroFrom work ++ replicate (zeroTo - zeroFrom) 0 ++ drop zeroTo work
 
 -- The cells with that text at the origin.
 unfoldable pub withText : List ℕ → ℕ → List ℕ

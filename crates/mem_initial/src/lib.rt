@@ -4,14 +4,15 @@
 ghost use mathlib.Core.Path.{_≡_};
 ghost use Prim.Native.Nat.{_+_, _≤_};
 ghost use lib.ListN.{length};
-ghost use Rattle.mem_layout.specs.Layout.{workCells, zeroCells};
+ghost use Rattle.mem_layout.specs.Layout.{workCells};
 ghost use Rattle.mem_initial.specs.Initial.{zeroed, initialText};
 ghost use Rattle.mem_initial.specs.Initial.{withText, urisLaid, namesLaid, withRows};
 ghost use Rattle.mem_initial.specs.Initial.{initialSize, startAt, Layable};
 use event_code::IN_DOCUMENT;
 use mem_layout::OPENING_NAMES;
 use mem_layout::OPENING_URIS;
-use mem_layout::ZERO_CELLS;
+use mem_layout::ZERO_FROM;
+use mem_layout::ZERO_TO;
 use mem_state::Core;
 
 // code points of the initial entries
@@ -62,12 +63,12 @@ const NIL: u32 = 3188801237;
 
 const TYPE: u32 = 3887450706;
 
-// Clears heads and counts: they have to be zero before the first row is added.
-pub fn clear_heads(work: &mut [u32])
+// Clears the counts: they have to be zero before the first row is added.
+pub fn clear_counts(work: &mut [u32])
     requires { ⌜ workCells ≤ length (now work) ⌝ }
-    ensures { λ _. ⌜ now (work .exit) ≡ zeroed zeroCells (now (work .entry)) ⌝ }
+    ensures { λ _. ⌜ now (work .exit) ≡ zeroed (now (work .entry)) ⌝ }
 {
-    clear::cells(&mut work[0..ZERO_CELLS]);
+    clear::cells(&mut work[ZERO_FROM..ZERO_TO]);
 }
 
 fn wide(x: u8) -> u32

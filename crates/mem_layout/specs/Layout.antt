@@ -28,7 +28,11 @@ nameTextHeads = 2560
 abbrev pub nameCodeHeads : ℕ
 nameCodeHeads = 2624
 
--- ---- counts, a cell for each owner
+-- ---- counts, a cell for each owner: zero at the start
+
+-- the first of them
+abbrev pub zeroFrom : ℕ
+zeroFrom = 2688
 
 -- values ever added of a name
 abbrev pub valueCounts : ℕ
@@ -58,9 +62,9 @@ prefixCounts = 3346
 abbrev pub countedNames : ℕ
 countedNames = 3362
 
--- so many cells are zero at the start
-abbrev pub zeroCells : ℕ
-zeroCells = 3490
+-- the end of what is zero at the start
+abbrev pub zeroTo : ℕ
+zeroTo = 3490
 
 -- ---- URIs: place, size, first row of the text
 

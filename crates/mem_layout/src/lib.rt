@@ -1,5 +1,5 @@
-// Where everything lies in the reader's work memory: heads of chains and counts, which are zero at
-// the start, then tables in columns, a cell for each row. (The writer is to have the same.)
+// Where everything lies in the work memory of reader and writer: heads of chains, counts, which are
+// zero at the start, then tables in columns, a cell for each row.
 // specs/Layout.antt has the places by the same names.
 // ---- heads of chains, a cell for each bucket
 
@@ -21,7 +21,10 @@ pub const NAME_TEXT_HEADS: usize = 2560;
 // names by URI and number
 pub const NAME_CODE_HEADS: usize = 2624;
 
-// ---- counts, a cell for each owner
+// ---- counts, a cell for each owner: zero at the start
+
+// the first of them
+pub const ZERO_FROM: usize = 2688;
 
 // values ever added of a name
 pub const VALUE_COUNTS: usize = 2688;
@@ -44,8 +47,8 @@ pub const PREFIX_COUNTS: usize = 3346;
 // names that are counted (grammar cap)
 pub const COUNTED_NAMES: usize = 3362;
 
-// so many cells are zero at the start
-pub const ZERO_CELLS: usize = 3490;
+// the end of what is zero at the start
+pub const ZERO_TO: usize = 3490;
 
 // ---- URIs: place, size, first row of the text
 

@@ -72,10 +72,10 @@ grammars-kept room same h =
     }
 
 pub grammars-none : (work : List ℕ) → workCells ≤ length work
-    → ((j : ℕ) → j < nameCounts → getD work j 0 ≡ 0) → GrammarsHold work []
+    → ((k : ℕ) → k < nameRows → getD work (grammarFlags + k) 0 ≡ 0) → GrammarsHold work []
 unfolding hasRow
 grammars-none work room zeros =
-    record { room = room; flags = λ k l. zeros (grammarFlags + k) (omega arith) }
+    record { room = room; flags = zeros }
 
 module _ (work : List ℕ) (k : ℕ) where
   pub grammar-length : length (withGrammarOf work k) ≡ length work

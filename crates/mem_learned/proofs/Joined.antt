@@ -98,9 +98,9 @@ learned-kept s h =
           (h .byName);
     }
 
--- Memory whose heads and counts are zero has no learned production.
+-- Memory whose counts are zero has no learned production.
 pub learned-none : (work : List ℕ) → workCells ≤ length work
-    → ((j : ℕ) → j < grammarFlags → getD work j 0 ≡ 0) → LearnedHold work 0 []
+    → ((k : ℕ) → k < sites → getD work (learnedCounts + k) 0 ≡ 0) → LearnedHold work 0 []
 learned-none work room zeros =
     record {
       room = room;
@@ -111,12 +111,8 @@ learned-none work room zeros =
       uriLow = λ i l. absurd (omega arith);
       nameRow = λ i l. absurd (omega arith);
       nameLow = λ i l. absurd (omega arith);
-      bySite = numbered-none work siteIndex learnedCounts sites (siteOfRow [])
-          (λ b l. zeros (learnedCodeHeads + b) (omega arith))
-          (λ k l. zeros (learnedCounts + k) (omega arith));
-      byName =
-          coded-none work nameIndex (nameCodeAt [])
-          (λ b l. zeros (learnedNameHeads + b) (omega arith));
+      bySite = numbered-none work siteIndex learnedCounts sites (siteOfRow []) zeros;
+      byName = coded-none work nameIndex (nameCodeAt []);
     }
 
 -- ---- the steps of `add`

@@ -10,20 +10,19 @@ use lib.Seq.{getD-set-same, getD-set-other}
 use lib.Dec.{eqb}
 use native.Mathlib.Decide.{ℕ-discrete}
 use borrow.Author.Tests.{eq-eqb, ne-eqb}
-use Rattle.mem_layout.specs.Layout.{nameMarks, prefixCounts, zeroCells, nameRows, workCells}
+use Rattle.mem_layout.specs.Layout.{nameMarks, prefixCounts, nameRows, workCells}
 use Rattle.mem_marks.specs.Marks.{markOf, markedIn, withMark, MarksHold}
 
 -- At the start no name has a mark.
 pub marks-none : (work : List ℕ) → workCells ≤ length work
-    → ((j : ℕ) → j < zeroCells → getD work j 0 ≡ 0) → {tag : ℕ} → 0 < tag
+    → ((k : ℕ) → k < nameRows → getD work (nameMarks + k) 0 ≡ 0) → {tag : ℕ} → 0 < tag
     → MarksHold work tag (λ _. false)
 unfolding markedIn
 marks-none work room zeros {tag} h =
     record {
       room = room;
-      most = λ i l. omega (arith, zeros (nameMarks + i) (omega arith));
-      are = λ i l. ne-eqb (markOf work i) tag
-          (λ e. omega (arith, zeros (nameMarks + i) (omega arith)));
+      most = λ i l. omega (arith, zeros i l);
+      are = λ i l. ne-eqb (markOf work i) tag (λ e. omega (arith, zeros i l));
     }
 
 -- The marks are the same.

@@ -15,9 +15,10 @@ use Rattle.mem_layout.specs.Layout.{nameTextHeads, nameCodeHeads, nameCounts, n
 use Rattle.mem_layout.specs.Layout.{namePlaces, nameSizes, nameCodes, nameTextNexts, nameCodeNexts}
 use Rattle.mem_layout.specs.Layout.{nameFirsts, nameMarks, learnedNameCodes, uriRows, valueCounts}
 use Rattle.mem_layout.specs.Layout.{workCells}
-use Rattle.mem_chain.specs.Chain.{firstThat, lastThat, linked, Chained}
+use Rattle.mem_chain.specs.Chain.{firstThat, linked, Chained}
 use Rattle.mem_chain.proofs.Last.{split}
-use Rattle.mem_chain.proofs.More.{chained-same, chained-more, linked-length, linked-other}
+use Rattle.mem_chain.proofs.More.{chained-none, chained-same, chained-more}
+use Rattle.mem_chain.proofs.More.{linked-length, linked-other}
 use Rattle.mem_index.specs.declared.Index.{Index}
 use Rattle.mem_index.specs.Index.{joined, Numbered}
 use Rattle.mem_index.proofs.More.{OrderedCounts, Off, SameIndex, numbered-same, numbered-none}
@@ -97,10 +98,9 @@ names-longer g h =
       byText = h .byText;
     }
 
--- Memory whose heads and counts are zero has no name.
+-- Memory whose counts are zero has no name.
 pub names-none : (work : List ℕ) (from : ℕ → Source) → workCells ≤ length work
-    → ((j : ℕ) → j < nameMarks → getD work j 0 ≡ 0) → NamesHold work from 0 []
-unfolding lastThat
+    → ((k : ℕ) → k < uriRows → getD work (nameCounts + k) 0 ≡ 0) → NamesHold work from 0 []
 names-none work from room zeros =
     record {
       room = room;
@@ -109,15 +109,8 @@ names-none work from room zeros =
       few = omega arith;
       rows = λ i l. absurd (omega arith);
       firsts = λ i l. absurd (omega arith);
-      byUri = numbered-none work nameIndex nameCounts uriRows (keyAt [])
-          (λ b l. zeros (nameCodeHeads + b) (omega arith))
-          (λ k l. zeros (nameCounts + k) (omega arith));
-      byText = record {
-        thread = λ b l. record {
-          first = zeros (nameTextHeads + b) (omega arith);
-          next = λ i h near t. absurd (omega arith);
-        };
-      };
+      byUri = numbered-none work nameIndex nameCounts uriRows (keyAt []) zeros;
+      byText = chained-none work nameTextHeads nameBuckets nameTextNexts nameRows (nameBucket []);
     }
 
 -- ---- the steps of `add_name`

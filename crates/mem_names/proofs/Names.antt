@@ -15,8 +15,8 @@ use Rattle.mem_layout.specs.Layout.{workCells, openingNames}
 use Rattle.mem_chain.specs.Chain.{firstThat, lastThat, below, inBucket}
 use Rattle.mem_chain.proofs.Last.{split, last-same, since-all, below-in, below-less}
 use Rattle.mem_chain.proofs.First.{first-here, first-most, first-is, first-before, first-same}
-use Rattle.mem_chain.proofs.First.{first-zero}
-use Rattle.mem_chain.proofs.First.{last-first}
+use Rattle.mem_chain.proofs.First.{first-none, first-zero, last-first}
+use Rattle.mem_chain.proofs.Walk.{walk-member}
 use Rattle.mem_chain.proofs.Turn.{Turn, Answer, turn-start, turn-end, turn-row, turn-here}
 use Rattle.mem_chain.proofs.Turn.{turn-next}
 use Rattle.mem_index.specs.declared.Index.{Index}
@@ -290,11 +290,23 @@ module _ {work : List ℕ} {store : ℕ → List ℕ} {uri : ℕ} {x : List ℕ}
           let z : (c - 1) % nameRows ≡ c - 1 = omega arith in
           ap (rowIsName work store uri x) z ∙ row-name (p .holds) (p .same) uri x (c - 1) l
 
-      -- A row of the chain is first of its text.
-      first : (p : Premise work store uri x h n) → firstName (p .names) (c - 1) ≡ suc (c - 1)
-      first p =
+      -- A row of this text has a first one, which is sought.
+      left : (p : Premise work store uri x h n) → isEntry (p .names) uri x (c - 1) ≡ true
+          → 0 < lastThat (sought (p .names) uri x) c
+      left p e =
+          let k : ℕ = lastThat (sought (p .names) uri x) c in
+          split (ltb 0 k) (λ y. ltb-true 0 k y)
+          (λ y.
+          let z : k ≡ 0 = omega (arith, ltb-false 0 k y) in
+          absurd (true≢false (sym e ∙ first-none (isEntry (p .names) uri x) c (c - 1)
+          (sym (last-sought (p .names) uri x c) ∙ z) (omega arith))))
+
+      -- A row of this text that the walk meets is of the chain, and so first of its text.
+      first : (p : Premise work store uri x h n) → isEntry (p .names) uri x (c - 1) ≡ true
+          → firstName (p .names) (c - 1) ≡ suc (c - 1)
+      first p e =
           let m : inBucket (nameBucket (p .names)) (nameSpot h uri) (c - 1) ≡ true =
-          t .walking p .member (c - 1) (omega arith) in
+          walk-member (t .walking p) (c - 1) (omega arith) (left p e) in
           let z : nameBucket (p .names) (c - 1) ≡ nameSpot h uri =
           eqb-true (nameBucket (p .names) (c - 1)) (nameSpot h uri) m in
           bucket-first (p .names) (c - 1) (omega (arith, spot-low h uri))
@@ -303,9 +315,10 @@ module _ {work : List ℕ} {store : ℕ → List ℕ} {uri : ℕ} {x : List ℕ}
           → FoundName work store uri x h n c
       seek-here e =
           found (turn-here t up (sym e) (λ p.
+          let w : isEntry (p .names) uri x (c - 1) ≡ true = sym (row p) ∙ sym e in
           and-true (isEntry (p .names) uri x (c - 1))
           (eqb (firstName (p .names) (c - 1)) (suc (c - 1)))
-          (sym (row p) ∙ sym e) (eq-eqb (firstName (p .names) (c - 1)) (suc (c - 1)) (first p))))
+          w (eq-eqb (firstName (p .names) (c - 1)) (suc (c - 1)) (first p w))))
 
       pub seek-next : false ≡ rowIsName work store uri x ((c - 1) % nameRows) → (d : ℕ)
           → d ≡ below c (getD work (nameTextNexts + (c - 1) % nameRows) 0)

@@ -15,9 +15,10 @@ use Rattle.mem_layout.specs.Layout.{valueRing}
 use Rattle.mem_layout.specs.Layout.{valuePlaces, valueSizes, valueTextNexts, valueCodes}
 use Rattle.mem_layout.specs.Layout.{valueCodeNexts}
 use Rattle.mem_layout.specs.Layout.{nameRows, prefixes, workCells}
-use Rattle.mem_chain.specs.Chain.{lastThat, linked, Chained}
+use Rattle.mem_chain.specs.Chain.{linked, Chained}
 use Rattle.mem_chain.proofs.Last.{split}
-use Rattle.mem_chain.proofs.More.{ring-apart, chained-same, chained-more, linked-length}
+use Rattle.mem_chain.proofs.More.{ring-apart, chained-none, chained-same, chained-more}
+use Rattle.mem_chain.proofs.More.{linked-length}
 use Rattle.mem_chain.proofs.More.{linked-other}
 use Rattle.mem_index.specs.declared.Index.{Index}
 use Rattle.mem_index.specs.Index.{numbers, joined, Numbered}
@@ -91,26 +92,20 @@ values-grown g h =
       byText = h .byText;
     }
 
--- Memory whose heads and counts are zero has no value.
+-- Memory whose counts are zero has no value.
 pub values-none : (work store : List ℕ) (stored : ℕ) → workCells ≤ length work
     → stored ≤ length store
-    → ((j : ℕ) → j < valueCounts + nameRows → getD work j 0 ≡ 0) → ValuesHold work store stored 0 []
-unfolding lastThat
+    → ((k : ℕ) → k < nameRows → getD work (valueCounts + k) 0 ≡ 0)
+    → ValuesHold work store stored 0 []
 values-none work store stored room inside zeros =
     record {
       room = room;
       inside = inside;
       count = refl;
       rows = λ i l near. absurd (omega arith);
-      byOwner = numbered-none work valueIndex valueCounts nameRows (keyAt [])
-          (λ b l. zeros (valueCodeHeads + b) (omega arith))
-          (λ k l. zeros (valueCounts + k) (omega arith));
-      byText = record {
-        thread = λ b l. record {
-          first = zeros (valueTextHeads + b) (omega arith);
-          next = λ i h near t. absurd (omega arith);
-        };
-      };
+      byOwner = numbered-none work valueIndex valueCounts nameRows (keyAt []) zeros;
+      byText = chained-none work valueTextHeads valueBuckets valueTextNexts valueRing
+          (textBucket []);
     }
 
 -- ---- the steps of `add`

@@ -3,9 +3,8 @@ use Prim.Native.Nat.{ℕ, zero, suc, _+_, _≤_}
 use native.Mathlib.Omega.{arith}
 use mathlib.Core.Path.{_≡_, refl, sym, ap, _∙_}
 use mathlib.Core.Bool.{false}
-use mathlib.Core.List.{List, [], _++_}
-use lib.ListN.{length, take, drop, replicate, length-append, length-drop, length-replicate}
-use lib.Seq.{length-take-le}
+use mathlib.Core.List.{List}
+use lib.ListN.{length, drop}
 use Rattle.spec_fields.specs.Bits.{Bits, unpack}
 use Rattle.spec_fields.specs.Parser.{Result, bad, got}
 use Rattle.spec_exi.specs.Settings.{Settings}
@@ -17,11 +16,11 @@ use Rattle.spec_exi.specs.Context.{Context, start, contextAfter}
 use Rattle.spec_exi.specs.Reader.{step}
 use Rattle.spec_exi.specs.Packets as packets
 use Rattle.spec_exi.proofs.Definitions.{definitions}
-use Rattle.mem_layout.specs.Layout.{workCells, zeroCells}
+use Rattle.mem_layout.specs.Layout.{workCells}
 use Rattle.mem_state.specs.Holds.{inStore, Represents, Topped, contextAt}
 use Rattle.mem_initial.specs.Initial.{zeroed, withText, withRows, startAt, startRows}
-use Rattle.mem_initial.proofs.Initial.{store-sourced, heads-zero, start-represents, start-topped}
-use Rattle.mem_initial.proofs.Initial.{start-means}
+use Rattle.mem_initial.proofs.Initial.{store-sourced, counts-zero, zeroed-size, start-represents}
+use Rattle.mem_initial.proofs.Initial.{start-topped, start-means}
 use Rattle.open_elements.specs.Opened.{lastFirst, noneOpen, openedIn}
 use Rattle.read_run.specs.declared.Advanced.{Advanced}
 use Rattle.read_run.specs.Events.{Steps, none-read, one-read}
@@ -66,34 +65,21 @@ not-over = refl
 
 -- ---- in memory
 
-zeroed-size : (n : ℕ) (work : List ℕ) → n ≤ length work → length (zeroed n work) ≡ length work
-unfolding zeroed
-zeroed-size n work l =
-    omega (
-      arith,
-      l,
-      length-append (replicate {A = ℕ} (length (take n work)) 0) (drop n work),
-      length-replicate {A = ℕ} (length (take n work)) 0,
-      length-take-le n work l,
-      length-drop n work,
-    )
-
 module _ {events text work events′ text′ work′ : List ℕ} {r : Advanced}
     (h : StreamReady firstReading events text work)
     (p : AdvancePost asOctets firstReading events (withText text 0)
-    (withRows (zeroed zeroCells work) 0) (noneOpen (startAt 8)) 0 events′ text′ work′ r) where
+    (withRows (zeroed work) 0) (noneOpen (startAt 8)) 0 events′ text′ work′ r) where
   room : workCells ≤ length work
   unfolding readerWork
   room = h .rows
 
-  represents : Represents (withRows (zeroed zeroCells work) 0)
+  represents : Represents (withRows (zeroed work) 0)
       (inStore (withText text 0) (noneOpen (startAt 8) .core .stored)) (noneOpen (startAt 8) .core)
       startRows (openedIn (noneOpen (startAt 8)))
   unfolding noneOpen lastFirst startAt
   represents =
-      start-represents (zeroed zeroCells work)
-      (omega (arith, room, zeroed-size zeroCells work (omega (arith, room))))
-      (heads-zero work room) (store-sourced text (text-asks h)) 8
+      start-represents (zeroed work) (omega (arith, room, zeroed-size work room))
+      (counts-zero work room) (store-sourced text (text-asks h)) 8
 
   topped : Topped (noneOpen (startAt 8) .core) (openedIn (noneOpen (startAt 8)))
   unfolding noneOpen lastFirst startAt

@@ -11,10 +11,10 @@ use Rattle.spec_exi.specs.Settings.{Settings}
 use Rattle.spec_exi.specs.Sizes.{sizes, maxEvents, maxStore, maxOpen, readerWork}
 use Rattle.spec_exi.specs.Context.{start}
 use Rattle.spec_exi.specs.Reader.{readEvents}
-use Rattle.mem_layout.specs.Layout.{workCells, zeroCells}
+use Rattle.mem_layout.specs.Layout.{workCells, zeroFrom, zeroTo}
 use Rattle.mem_initial.specs.Initial.{zeroed, initialText, withText, withRows, startRows, startAt, initialSize}
 use Rattle.mem_initial.specs.Initial.{Layable}
-use Rattle.mem_initial.proofs.Initial.{store-sourced, heads-zero, start-represents, start-topped}
+use Rattle.mem_initial.proofs.Initial.{store-sourced, counts-zero, start-represents, start-topped}
 use Rattle.mem_initial.proofs.Initial.{start-bounded, start-means}
 use Rattle.read_literal.specs.Literal.{ZeroFrom}
 use Rattle.open_elements.specs.declared.State.{State}
@@ -50,9 +50,9 @@ text-zeros text e h same =
 -- ---- the start
 
 module _ {stream events text work : List ℕ} (h : StreamReady stream events text work) where
-  pub heads-ask : workCells ≤ length work
+  pub counts-ask : workCells ≤ length work
   unfolding readerWork
-  heads-ask = h .rows
+  counts-ask = h .rows
 
   pub rows-ask : {work₁ : List ℕ} → length work₁ ≡ length work → Layable work₁ 0
   unfolding readerWork
@@ -62,9 +62,9 @@ module _ {stream events text work : List ℕ} (h : StreamReady stream events tex
   unfolding maxStore
   text-asks = omega (arith, h .room)
 
-  -- The heads are cleared, the rows are laid, and the text.
+  -- The counts are cleared, the rows are laid, and the text.
   module _ (at : ℕ) {work₁ work₂ text₁ : List ℕ} {st : State}
-      (heads : work₁ ≡ zeroed zeroCells work)
+      (counts : work₁ ≡ zeroed work)
       (rows : work₂ ≡ withRows work₁ 0) (laid : text₁ ≡ withText text 0)
       (begins : st ≡ noneOpen (startAt at))
       (same₁ : length work₁ ≡ length work) (same₂ : length work₂ ≡ length work₁)
@@ -84,8 +84,8 @@ module _ {stream events text work : List ℕ} (h : StreamReady stream events tex
           array = length-replicate {A = ℕ} maxOpen 0;
         })
 
-    zeros : (j : ℕ) → j < zeroCells → getD work₁ j 0 ≡ 0
-    zeros j k = ap (λ (m : List ℕ). getD m j 0) heads ∙ heads-zero work heads-ask j k
+    zeros : (j : ℕ) → zeroFrom ≤ j → j < zeroTo → getD work₁ j 0 ≡ 0
+    zeros j k l = ap (λ (m : List ℕ). getD m j 0) counts ∙ counts-zero work counts-ask j k l
 
     pub body-ready : BodyReady events text₁ work₂ st startRows
     unfolding noneOpen lastFirst startAt readerWork

@@ -7,7 +7,6 @@ use Rattle.spec_exi.specs.Event.{Event, startDocument}
 use Rattle.spec_exi.specs.Settings.{Settings, settingsOf}
 use Rattle.spec_exi.specs.Context.{start, contextAfter}
 use Rattle.spec_exi.specs.Examples.{inOctets, octets, begin, attr, end}
-use Rattle.mem_layout.specs.Layout.{zeroCells}
 use Rattle.mem_rows.specs.Rows.{Rows}
 use Rattle.mem_state.specs.Holds.{inStore, Represents, contextAt}
 use Rattle.mem_initial.specs.Initial.{zeroed, withText, withRows, startAt}
@@ -40,5 +39,5 @@ pub record FirstReading : Type 0 where
   pub stands : {events text work events′ text′ work′ : List ℕ} {r : Advanced}
       → StreamReady firstReading events text work
       → AdvancePost asOctets firstReading events (withText text 0)
-      (withRows (zeroed zeroCells work) 0) (noneOpen (startAt 8)) 0 events′ text′ work′ r
+      (withRows (zeroed work) 0) (noneOpen (startAt 8)) 0 events′ text′ work′ r
       → Stands text′ work′ r

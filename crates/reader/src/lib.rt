@@ -43,7 +43,7 @@ fn read_stream(
     if h.number != 0 {
         return read_body::refused(h.number, 0);
     }
-    mem_initial::clear_heads(work);
+    mem_initial::clear_counts(work);
     mem_initial::lay_rows(work, 0);
     mem_initial::lay_text(text, 0);
     let st = open_elements::none_open(mem_initial::start(h.at));

@@ -8,7 +8,7 @@ use Rattle.spec_exi.specs.Settings.{Settings}
 use Rattle.spec_exi.specs.Sizes.{maxStore, readerWork}
 use Rattle.spec_exi.specs.Context.{start}
 use Rattle.event.specs.Cells.{cellsOfAll}
-use Rattle.mem_layout.specs.Layout.{workCells, zeroCells}
+use Rattle.mem_layout.specs.Layout.{workCells}
 use Rattle.mem_state.specs.Holds.{contextAt}
 use Rattle.mem_initial.specs.Initial.{zeroed, withText, withRows, startRows, startAt, Layable}
 use Rattle.mem_initial.proofs.Initial.{start-means}
@@ -19,9 +19,9 @@ use Rattle.reader.proofs.Start.{body-ready}
 use Rattle.receiver_read.specs.On.{BeginPre, BeginPost, before-it, Underway}
 
 module _ {events text work : List ℕ} (pre : BeginPre events text work) where
-  pub heads-ask : workCells ≤ length work
+  pub counts-ask : workCells ≤ length work
   unfolding readerWork
-  heads-ask = pre .rows
+  counts-ask = pre .rows
 
   pub rows-ask : {work₁ : List ℕ} → length work₁ ≡ length work → Layable work₁ 0
   unfolding readerWork
@@ -34,7 +34,7 @@ module _ {events text work : List ℕ} (pre : BeginPre events text work) where
 -- Zeros, then the initial entries.
 pub begins : {events text work events′ text₁ text′ work₁ work′ : List ℕ}
     → events′ ≡ replicate (length events) 0 → text₁ ≡ replicate (length text) 0
-    → work₁ ≡ zeroed zeroCells work → work′ ≡ withRows work₁ 0 → text′ ≡ withText text₁ 0
+    → work₁ ≡ zeroed work → work′ ≡ withRows work₁ 0 → text′ ≡ withText text₁ 0
     → length text₁ ≡ length text → length work₁ ≡ length work → length work′ ≡ length work₁
     → length text′ ≡ length text₁ → BeginPost events text work events′ text′ work′
 begins e t w v x a b c d =

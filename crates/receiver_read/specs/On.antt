@@ -14,7 +14,6 @@ use Rattle.spec_exi.specs.Context.{Context, start}
 use Rattle.spec_exi.specs.Reader.{Reading, readCharacter, step, readHeader, readStream}
 use Rattle.spec_exi.specs.Packets.{complete}
 use Rattle.event.specs.Cells.{cellsOfAll}
-use Rattle.mem_layout.specs.Layout.{zeroCells}
 use Rattle.event_code.specs.Numbers.{inDocument, isOver}
 use Rattle.mem_rows.specs.Rows.{Rows}
 use Rattle.read_contract.specs.Outcome.{Declined}
@@ -39,9 +38,9 @@ pub record BeginPre (events text work : List ℕ) : Type 0 where
 pub record BeginPost (events text work events′ text′ work′ : List ℕ) : Type 0 where
   pub events-is : events′ ≡ replicate (length events) 0
   pub text-is : text′ ≡ withText (replicate (length text) 0) 0
-  pub work-is : work′ ≡ withRows (zeroed zeroCells work) 0
+  pub work-is : work′ ≡ withRows (zeroed work) 0
   -- no length changes
-  pub zeroed-size : length (zeroed zeroCells work) ≡ length work
+  pub zeroed-size : length (zeroed work) ≡ length work
   pub work-size : length work′ ≡ length work
   pub text-size : length text′ ≡ length text
 

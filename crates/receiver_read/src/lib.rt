@@ -22,7 +22,7 @@ pub fn begin(events: &mut [u32], text: &mut [u32], work: &mut [u32])
 {
     clear::cells(events);
     clear::cells(text);
-    mem_initial::clear_heads(work);
+    mem_initial::clear_counts(work);
     mem_initial::lay_rows(work, 0);
     mem_initial::lay_text(text, 0);
 }

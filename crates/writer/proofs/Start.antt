@@ -18,7 +18,7 @@ use Rattle.spec_exi.specs.Tables.{xmlUri, xsiUri}
 use Rattle.spec_exi.specs.Context.{start}
 use Rattle.spec_exi.specs.Writer.{Stored, writeEvents}
 use Rattle.spec_exi.proofs.Alike.{write-alike}
-use Rattle.mem_layout.specs.Layout.{workCells, zeroCells}
+use Rattle.mem_layout.specs.Layout.{workCells, zeroFrom, zeroTo}
 use Rattle.mem_entries.specs.Texts.{upTo}
 use Rattle.mem_entries.specs.Entries.{entryAt, textAt}
 use Rattle.mem_names.specs.Uris.{uriAt, uriText}
@@ -27,7 +27,7 @@ use Rattle.mem_state.specs.Holds.{Topped}
 use Rattle.mem_initial.specs.Initial.{zeroed, initialUris, initialNames, together, urisText, initialSize}
 use Rattle.mem_initial.specs.Initial.{initialText, withRows, plusUris, plusNames, initialRows}
 use Rattle.mem_initial.specs.Initial.{startRows, startAt, Layable}
-use Rattle.mem_initial.proofs.Initial.{opening-sourced, heads-zero, start-represents, start-topped}
+use Rattle.mem_initial.proofs.Initial.{opening-sourced, counts-zero, start-represents, start-topped}
 use Rattle.mem_initial.proofs.Initial.{start-bounded, start-alike}
 use Rattle.open_elements.specs.declared.State.{State}
 use Rattle.open_elements.specs.Opened.{lastFirst, openedIn, noneOpen}
@@ -98,20 +98,20 @@ unfolding sourceOf
 opening-source first store i l = rw (lt-ltb i first l)
 
 module _ {stream : List ℕ} {at : ℕ} {work : List ℕ} (h : BodyPre stream at work) where
-  pub heads-ask : workCells ≤ length work
+  pub counts-ask : workCells ≤ length work
   unfolding writerWork readerWork
-  heads-ask = omega (arith, h .rows)
+  counts-ask = omega (arith, h .rows)
 
   pub rows-ask : {work₁ : List ℕ} → length work₁ ≡ length work → Layable work₁ 0
-  rows-ask e = record { room = omega (arith, heads-ask); near = omega arith }
+  rows-ask e = record { room = omega (arith, counts-ask); near = omega arith }
 
   -- Heads and counts are cleared, and the rows are laid.
   module _ {work₁ work₂ opening : List ℕ} {st : State} (opens : opening ≡ initialText)
-      (heads : work₁ ≡ zeroed zeroCells work) (rows : work₂ ≡ withRows work₁ 0)
+      (counts : work₁ ≡ zeroed work) (rows : work₂ ≡ withRows work₁ 0)
       (begins : st ≡ noneOpen (startAt at)) (same₁ : length work₁ ≡ length work)
       (same₂ : length work₂ ≡ length work₁) where
     room₁ : workCells ≤ length work₁
-    room₁ = omega (arith, heads-ask)
+    room₁ = omega (arith, counts-ask)
 
     pub events-ask : RunPre stream work₂ st
     unfolding noneOpen startAt
@@ -126,8 +126,8 @@ module _ {stream : List ℕ} {at : ℕ} {work : List ℕ} (h : BodyPre stream at
           tag = le-refl 1;
         })
 
-    zeros : (j : ℕ) → j < zeroCells → getD work₁ j 0 ≡ 0
-    zeros j l = ap (λ (m : List ℕ). getD m j 0) heads ∙ heads-zero work heads-ask j l
+    zeros : (j : ℕ) → zeroFrom ≤ j → j < zeroTo → getD work₁ j 0 ≡ 0
+    zeros j k l = ap (λ (m : List ℕ). getD m j 0) counts ∙ counts-zero work counts-ask j k l
 
     start-stands : (store : List ℕ) → Stands opening store work₂ (st .core) startRows (openedIn st)
     unfolding noneOpen startAt lastFirst

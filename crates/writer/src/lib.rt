@@ -37,7 +37,7 @@ fn put_body(
         (now (text .entry)) (now (stream .entry)) at (now (stream .exit)) r ⌝ }
 {
     let opening = mem_initial::opening_text();
-    mem_initial::clear_heads(work);
+    mem_initial::clear_counts(work);
     mem_initial::lay_rows(work, 0);
     let st = open_elements::none_open(mem_initial::start(at));
     write_run::put_events(o, stream, st, &opening, events, text, work)

@@ -1,6 +1,7 @@
 //! Calls of either implementation, and the memory lent to them.
 //!
-//! Before a call every cell is filled with the octet A5. Lent are 3 cells more than the sizes that
+//! Before a call every cell is filled with the octet A5, those of work memory that are lent with
+//! small numbers, each of which could be that of a row. Lent are 3 cells more than the sizes that
 //! the library states; some cells behind those are not lent and have to keep their fill.
 
 use std::sync::OnceLock;
@@ -37,6 +38,13 @@ pub const LIMIT: u32 = 12;
 pub const TAIL: u32 = 13;
 pub const SHAPE: u32 = 14;
 pub const PLACE: u32 = 15;
+
+/// Fills work memory with numbers that could be rows'.
+pub(crate) fn stain(work: &mut [u32]) {
+    for (at, cell) in work.iter_mut().enumerate() {
+        *cell = at as u32 % 8;
+    }
+}
 
 /// The settings' numbers. All zero is the base; of value length, value capacity and grammar cap a
 /// bound n is n + 1.
@@ -370,6 +378,7 @@ impl ReaderMemory {
         self.events.fill(FILL);
         self.text.fill(FILL);
         self.work.fill(FILL);
+        stain(&mut self.work[..sizes.work]);
         self.sizes = sizes;
         call(
             &mut self.events[..sizes.events],
@@ -465,6 +474,7 @@ impl WriterMemory {
     ) -> R {
         self.octets.fill(FILL_OCTET);
         self.work.fill(FILL);
+        stain(&mut self.work[..sizes.work]);
         self.sizes = sizes;
         call(
             &mut self.octets[..sizes.octets],

@@ -5,7 +5,7 @@ use Rattle.settings.specs.Meant.{settingsFrom}
 use Rattle.mem_initial.specs.Initial.{startRows}
 use Rattle.open_elements.specs.Opened.{noneOpen}
 use Rattle.reader.proofs.Stream.{header-refused, header-inside, header-passed, filled-as}
-use Rattle.reader.proofs.Start.{heads-ask, rows-ask, text-asks, events-ask, body-ready}
+use Rattle.reader.proofs.Start.{counts-ask, rows-ask, text-asks, events-ask, body-ready}
 use Rattle.reader.proofs.Start.{body-answer}
 use Rattle.reader.proofs.read_stream.Statement.{statement}
 use Rattle.reader.proofs.read_stream.Tie as tie
@@ -24,10 +24,10 @@ returns c =
     header-refused (settingsFrom (start .args .o)) (read-header .read-header .ensures) ((start .pre)
     .cleared) (if1 .if1 .taken) (c .refused .ensures)
 
-clear-heads-requires : tie.Need-clear-heads-requires
-clear-heads-requires c κs =
+clear-counts-requires : tie.Need-clear-counts-requires
+clear-counts-requires c κs =
     let start = c .before .before .before .before .before .before .before .before in
-    heads-ask (start .pre)
+    counts-ask (start .pre)
 
 lay-rows-requires : tie.Need-lay-rows-requires
 lay-rows-requires c κs =
@@ -57,12 +57,12 @@ read-events-requires c κs =
     let work2 = lay-text .before .before .before in
     let lay-rows = work2 .before in
     let work = lay-rows .before .before .before in
-    let clear-heads = work .before in
-    let if1 = clear-heads .before .before in
+    let clear-counts = work .before in
+    let if1 = clear-counts .before .before in
     let read-header = if1 .before .before in
     let start′ = read-header .before .before .before .before .before in
     let begins = (none-open .none-open .ensures ∙ ap noneOpen (start .start .ensures)) in
-    events-ask (start′ .pre) (read-header .read-header .result .at) (clear-heads .clear-heads
+    events-ask (start′ .pre) (read-header .read-header .result .at) (clear-counts .clear-counts
     .ensures) (lay-rows .lay-rows .ensures) (lay-text .lay-text .ensures) begins (work .work .given)
     (work2 .work2 .given) (text .text .given) (header-inside (settingsFrom (start′ .args .o))
     (read-header .read-header .ensures) (if1 .if1 .left))
@@ -96,18 +96,18 @@ returns-2 c =
     let work2 = lay-text .before .before .before in
     let lay-rows = work2 .before in
     let work = lay-rows .before .before .before in
-    let clear-heads = work .before in
-    let if1 = clear-heads .before .before in
+    let clear-counts = work .before in
+    let if1 = clear-counts .before .before in
     let read-header = if1 .before .before in
     let start′ = read-header .before .before .before .before .before in
     let begins = (none-open .none-open .ensures ∙ ap noneOpen (start .start .ensures)) in
-    filled-as (body-answer (start′ .pre) (read-header .read-header .result .at) (clear-heads
-    .clear-heads .ensures) (lay-rows .lay-rows .ensures) (lay-text .lay-text .ensures) begins (work
+    filled-as (body-answer (start′ .pre) (read-header .read-header .result .at) (clear-counts
+    .clear-counts .ensures) (lay-rows .lay-rows .ensures) (lay-text .lay-text .ensures) begins (work
     .work .given) (work2 .work2 .given) (text .text .given) (settingsFrom (start′ .args .o)) ∙
     header-passed (settingsFrom (start′ .args .o)) (read-header .read-header .ensures) (if1 .if1
     .left)) refl (text .text .given)
     (read-events .read-events .ensures .meant startRows (body-ready (start′ .pre) (read-header
-    .read-header .result .at) (clear-heads .clear-heads .ensures) (lay-rows .lay-rows .ensures)
+    .read-header .result .at) (clear-counts .clear-counts .ensures) (lay-rows .lay-rows .ensures)
     (lay-text .lay-text .ensures) begins (work .work .given) (work2 .work2 .given) (text .text
     .given)))
 
@@ -118,7 +118,7 @@ read-stream-spec =
     read-header-requires
     refused-requires
     returns
-    clear-heads-requires
+    clear-counts-requires
     lay-rows-requires
     lay-text-requires
     start-requires

@@ -1,5 +1,5 @@
 -- `begin` meets its contract.
-use Rattle.receiver_read.proofs.Beginning.{heads-ask, rows-ask, text-asks, begins}
+use Rattle.receiver_read.proofs.Beginning.{counts-ask, rows-ask, text-asks, begins}
 use mathlib.Core.Path.{_∙_}
 use borrow.Author.Needs.{needs}
 use Rattle.receiver_read.proofs.begin.Statement.{statement}
@@ -11,11 +11,11 @@ cells-requires c κs = search needs
 cells-requires-2 : tie.Need-cells-requires-2
 cells-requires-2 c κs = search needs
 
-clear-heads-requires : tie.Need-clear-heads-requires
-clear-heads-requires c κs =
+clear-counts-requires : tie.Need-clear-counts-requires
+clear-counts-requires c κs =
     let start = c .before .before .before .before .before .before .before .before .before .before
     .before .before in
-    heads-ask (start .pre)
+    counts-ask (start .pre)
 
 lay-rows-requires : tie.Need-lay-rows-requires
 lay-rows-requires c κs =
@@ -57,11 +57,11 @@ returns c =
     let work2 = lay-text .before .before .before in
     let lay-rows = work2 .before in
     let work = lay-rows .before .before .before in
-    let clear-heads = work .before in
-    let text = clear-heads .before .before .before in
+    let clear-counts = work .before in
+    let text = clear-counts .before .before .before in
     let cells2 = text .before in
     let cells = cells2 .before .before .before .before in
-    begins (cells .cells .ensures) (cells2 .cells2 .ensures) (clear-heads .clear-heads .ensures)
+    begins (cells .cells .ensures) (cells2 .cells2 .ensures) (clear-counts .clear-counts .ensures)
     (lay-rows .lay-rows .ensures) (lay-text .lay-text .ensures) (text .text .given) (work .work
     .given) (work2 .work2 .given) (text2 .text2 .given)
 
@@ -71,7 +71,7 @@ begin-spec =
     (tie.spec
     cells-requires
     cells-requires-2
-    clear-heads-requires
+    clear-counts-requires
     lay-rows-requires
     lay-text-requires
     same-length

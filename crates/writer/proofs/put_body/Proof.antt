@@ -2,17 +2,17 @@
 use mathlib.Core.Path.{ap, _∙_}
 use borrow.Author.Needs.{needs}
 use Rattle.open_elements.specs.Opened.{noneOpen}
-use Rattle.writer.proofs.Start.{heads-ask, rows-ask, events-ask, body-put}
+use Rattle.writer.proofs.Start.{counts-ask, rows-ask, events-ask, body-put}
 use Rattle.writer.proofs.put_body.Statement.{statement}
 use Rattle.writer.proofs.put_body.Tie as tie
 
 opening-text-requires : tie.Need-opening-text-requires
 opening-text-requires c κs = search needs
 
-clear-heads-requires : tie.Need-clear-heads-requires
-clear-heads-requires c κs =
+clear-counts-requires : tie.Need-clear-counts-requires
+clear-counts-requires c κs =
     let start = c .before .before .before .before .before .before in
-    heads-ask (start .pre)
+    counts-ask (start .pre)
 
 lay-rows-requires : tie.Need-lay-rows-requires
 lay-rows-requires c κs =
@@ -36,11 +36,11 @@ put-events-requires c κs =
     let work2 = start .before .before in
     let lay-rows = work2 .before in
     let work = lay-rows .before .before .before in
-    let clear-heads = work .before in
-    let opening-text = clear-heads .before .before in
+    let clear-counts = work .before in
+    let opening-text = clear-counts .before .before in
     let start′ = opening-text .before .before .before .before .before in
     let begins = none-open .none-open .ensures ∙ ap noneOpen (start .start .ensures) in
-    events-ask (start′ .pre) (opening-text .opening-text .ensures) (clear-heads .clear-heads
+    events-ask (start′ .pre) (opening-text .opening-text .ensures) (clear-counts .clear-counts
     .ensures) (lay-rows .lay-rows .ensures) begins (work .work .given) (work2 .work2 .given)
 
 same-length : tie.Need-same-length
@@ -64,11 +64,11 @@ returns c =
     let work2 = start .before .before in
     let lay-rows = work2 .before in
     let work = lay-rows .before .before .before in
-    let clear-heads = work .before in
-    let opening-text = clear-heads .before .before in
+    let clear-counts = work .before in
+    let opening-text = clear-counts .before .before in
     let start′ = opening-text .before .before .before .before .before in
     let begins = none-open .none-open .ensures ∙ ap noneOpen (start .start .ensures) in
-    body-put (start′ .pre) (opening-text .opening-text .ensures) (clear-heads .clear-heads .ensures)
+    body-put (start′ .pre) (opening-text .opening-text .ensures) (clear-counts .clear-counts .ensures)
     (lay-rows .lay-rows .ensures) begins (work .work .given) (work2 .work2 .given) (put-events
     .put-events .ensures)
 
@@ -77,7 +77,7 @@ put-body-spec =
     tie.close
     (tie.spec
     opening-text-requires
-    clear-heads-requires
+    clear-counts-requires
     lay-rows-requires
     start-requires
     none-open-requires

@@ -2,7 +2,7 @@
 
 use super::{Call, Receiver};
 use crate::event::{stored_strings, CELLS};
-use crate::lent::{ReadReply, ReaderPart, ReaderSizes, BEYOND, FILL, FILL_OCTET, GUARD};
+use crate::lent::{stain, ReadReply, ReaderPart, ReaderSizes, BEYOND, FILL, FILL_OCTET, GUARD};
 use crate::sizes::MAX_STREAM;
 
 /// How much is lent to a receiver.
@@ -144,6 +144,7 @@ impl PacketMemory {
         self.events.refill();
         self.text.refill();
         self.work.refill();
+        stain(&mut self.work.cells);
     }
 
     /// A call as it says.
