@@ -1,4 +1,5 @@
 use crate::refusal::Refusal;
+use crate::sizes::MAX_VALUES;
 
 /// The settings as numbers. A bound n is n + 1, and 0 is none.
 #[derive(Clone, Copy, Debug, PartialEq, Eq, Default)]
@@ -13,12 +14,12 @@ pub struct Settings {
     pub instructions: u32,
     /// 1 for fragments: any number of elements, and not one root.
     pub fragment: u32,
-    /// The longest value that joins the tables; this and all below are not done yet, and have to
-    /// be 0.
+    /// The longest value that joins the tables.
     pub value_length: u32,
     /// How many values the tables hold.
     pub value_capacity: u32,
-    /// Whether forms are taken that are not strict.
+    /// Whether forms are taken that are not strict; this and all below are not done yet, and have
+    /// to be 0.
     pub loose: u32,
     /// Whether prefixes are kept.
     pub prefixes: u32,
@@ -40,6 +41,8 @@ pub struct Options {
     pub comments: bool,
     pub instructions: bool,
     pub fragment: bool,
+    pub value_length: Option<u32>,
+    pub value_capacity: Option<u32>,
 }
 
 impl Options {
@@ -58,14 +61,11 @@ impl TryFrom<Settings> for Options {
     type Error = Refusal;
 
     fn try_from(s: Settings) -> Result<Self, Refusal> {
-        let not_done = [
-            s.value_length,
-            s.value_capacity,
-            s.loose,
-            s.prefixes,
-            s.grammar_cap,
-        ];
-        if not_done != [0; 5] {
+        if [s.loose, s.prefixes, s.grammar_cap] != [0; 3] {
+            return Err(Refusal::Settings);
+        }
+        let value_capacity = bound(s.value_capacity);
+        if value_capacity.is_some_and(|capacity| capacity as usize > MAX_VALUES) {
             return Err(Refusal::Settings);
         }
         let alignment = if flag(s.alignment)? {
@@ -79,8 +79,14 @@ impl TryFrom<Settings> for Options {
             comments: flag(s.comments)?,
             instructions: flag(s.instructions)?,
             fragment: flag(s.fragment)?,
+            value_length: bound(s.value_length),
+            value_capacity,
         })
     }
+}
+
+fn bound(number: u32) -> Option<u32> {
+    number.checked_sub(1)
 }
 
 fn flag(number: u32) -> Result<bool, Refusal> {

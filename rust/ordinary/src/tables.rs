@@ -4,6 +4,7 @@
 
 use crate::buckets::{hash, Buckets, Link};
 use crate::refusal::Refusal;
+use crate::settings::Options;
 use crate::sizes::{MAX_NAMES, MAX_URIS, MAX_VALUES};
 use crate::text::Span;
 
@@ -74,7 +75,7 @@ struct Name {
     /// The compact identifier among the local names of the URI.
     local_id: usize,
     text: Span,
-    /// Global identifiers of the values in the local partition of this name.
+    /// Global identifiers of the values in the local partition of this name, or [`TAKEN`].
     values: Vec<u16>,
     next_in_bucket: Link,
 }
@@ -85,8 +86,12 @@ pub struct Value {
     pub text: Span,
     pub owner: NameId,
     pub local_id: usize,
+    bucket: u16,
     next_in_bucket: Link,
 }
+
+/// In place of a global identifier: the value has been replaced.
+const TAKEN: u16 = u16::MAX;
 
 type ValueBuckets = Buckets<1_024>;
 
@@ -105,17 +110,28 @@ pub struct StringTable {
     names_by_text: Buckets<128>,
     values: Vec<Value>,
     values_by_text: ValueBuckets,
+    /// The longest value that joins; 0 if none does.
+    longest_value: usize,
+    /// The most values that are present at once.
+    capacity: usize,
+    /// The oldest value, which is the next to be replaced; none if nothing is replaced.
+    oldest_value: Option<usize>,
 }
 
 impl StringTable {
     /// The initial entries, over a store that begins with [`INITIAL_TEXT`].
-    pub fn new() -> Self {
+    pub fn new(options: &Options) -> Self {
+        let capacity = options.value_capacity.map(|capacity| capacity as usize);
+        let longest = options.value_length.map_or(usize::MAX, |it| it as usize);
         let mut table = StringTable {
             uris: Vec::with_capacity(4),
             names: Vec::with_capacity(16),
             names_by_text: Buckets::new(),
             values: Vec::new(),
             values_by_text: ValueBuckets::new(),
+            longest_value: if capacity == Some(0) { 0 } else { longest },
+            capacity: capacity.unwrap_or(MAX_VALUES),
+            oldest_value: capacity.map(|_| 0),
         };
         let mut place = 0;
         let mut next = |length| {
@@ -227,12 +243,18 @@ impl StringTable {
         (self.uris[name.uri.index()].text, name.text)
     }
 
-    /// All values, by global identifier.
+    /// Whether values of this length join the tables: not empty ones, and none that is too long.
+    pub fn takes_value(&self, length: usize) -> bool {
+        length.wrapping_sub(1) < self.longest_value
+    }
+
+    /// All values that are present, by global identifier.
     pub fn values(&self) -> &[Value] {
         &self.values
     }
 
-    /// Global identifiers of the values local to a name, by local identifier.
+    /// Global identifiers of the values local to a name, by local identifier; of one that has been
+    /// replaced a number that is none.
     pub fn local_values(&self, name: NameId) -> &[u16] {
         &self.names[name.index()].values
     }
@@ -248,21 +270,48 @@ impl StringTable {
         found.ok_or(hash)
     }
 
-    /// Adds a value to the global partition and to the local one of `owner`.
+    /// Adds a value to the global partition and to the local one of `owner`. It has to be one that
+    /// the tables take, and replaces the oldest where they are full.
     pub fn add_value(&mut self, owner: NameId, text: Span, hash: u32) -> Result<(), Refusal> {
         let id = self.values.len();
-        if id == MAX_VALUES {
-            return Err(Refusal::Limit);
+        if id == self.capacity {
+            return self.replace_value(owner, text, hash);
         }
+        let value = self.new_value(id, owner, text, hash);
+        self.values.push(value);
+        Ok(())
+    }
+
+    fn replace_value(&mut self, owner: NameId, text: Span, hash: u32) -> Result<(), Refusal> {
+        let id = self.oldest_value.ok_or(Refusal::Limit)?;
+        let old = self.values[id];
+        self.names[old.owner.index()].values[old.local_id] = TAKEN;
+        let last = self
+            .values_by_text
+            .remove_oldest(usize::from(old.bucket), id, |id| {
+                self.values[id].next_in_bucket
+            });
+        if let Some(last) = last {
+            self.values[last].next_in_bucket = Link::NONE;
+        }
+        self.values[id] = self.new_value(id, owner, text, hash);
+        self.oldest_value = Some(if id + 1 == self.capacity { 0 } else { id + 1 });
+        Ok(())
+    }
+
+    /// Gives a value the next local number, and puts it into its bucket.
+    #[inline]
+    fn new_value(&mut self, id: usize, owner: NameId, text: Span, hash: u32) -> Value {
         let local = &mut self.names[owner.index()].values;
-        self.values.push(Value {
+        let local_id = local.len();
+        local.push(id as u16);
+        Value {
             text,
             owner,
-            local_id: local.len(),
+            local_id,
+            bucket: ValueBuckets::bucket(hash) as u16,
             next_in_bucket: self.values_by_text.add(hash, id),
-        });
-        local.push(id as u16);
-        Ok(())
+        }
     }
 }
 
