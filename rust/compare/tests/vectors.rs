@@ -178,9 +178,11 @@ fn asks_for(request: &str) -> Vec<u32> {
     all
 }
 
-/// Whether all that a line of `cross.txt` asks for has landed.
+/// Whether all that a line of `cross.txt` asks for has landed: what it names, and its events, which
+/// may have prefixes (P11) without the setting.
 fn has_landed(request: &str) -> bool {
-    asks_for(request).iter().all(|it| LANDED.contains(it))
+    let is_landed = |it: &u32| LANDED.contains(it);
+    Request::parse(request).is_ok() && asks_for(request).iter().all(is_landed)
 }
 
 /// Settings of several requests in one line: each line is put once all that it names has landed.
@@ -193,8 +195,8 @@ fn settings_of_several_requests() {
     };
     let (now, later): (Vec<_>, Vec<_>) =
         lines(CROSS).partition(|(request, answer)| at_once(request, answer) || has_landed(request));
-    assert_eq!((now.len(), later.len()), (81, 709));
-    run(now.into_iter(), 81);
+    assert_eq!((now.len(), later.len()), (80, 710));
+    run(now.into_iter(), 80);
 }
 
 /// The requests of `cross.txt` that are understood, whatever settings they name: those to read,
