@@ -382,11 +382,11 @@ fn turning_list(rng: &mut Prng, texts: usize, count: usize) -> Vec<Event> {
     let value = |rng: &mut Prng| {
         let number = rng.below(texts);
         // Some over the length.
-        format!("{}{number}", if number % 5 == 0 { "long" } else { "" })
+        format!("{}{number}", if number < 2 { "long" } else { "" })
     };
     let mut all = vec![element("", "r")];
     while all.len() < count {
-        all.push(element("", *rng.pick(&["r", "s", "t"])));
+        all.push(element("", rng.pick(&["r", "s", "t"])));
         for name in ["k", "s"] {
             if rng.one_in(2) {
                 all.push(attribute("", name, &value(rng)));

@@ -60,7 +60,7 @@ fn run(
     }
     let mut reader = Reader {
         bits: BitReader::new(stream, options.alignment),
-        strings: StringTable::new(&options),
+        strings: StringTable::new(options.values),
         grammars: Grammars::new(&options),
         events,
         complete,

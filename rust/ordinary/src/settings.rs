@@ -41,8 +41,18 @@ pub struct Options {
     pub comments: bool,
     pub instructions: bool,
     pub fragment: bool,
-    pub value_length: Option<u32>,
-    pub value_capacity: Option<u32>,
+    pub values: ValueBounds,
+}
+
+/// Which values join the tables, and how many of them.
+#[derive(Clone, Copy)]
+pub struct ValueBounds {
+    /// The longest that joins; 0 if none does.
+    pub longest: u32,
+    /// The most that are present at once.
+    pub capacity: u32,
+    /// Whether the oldest is replaced where there are so many; else one more is refused.
+    pub replaces: bool,
 }
 
 impl Options {
@@ -64,10 +74,6 @@ impl TryFrom<Settings> for Options {
         if [s.loose, s.prefixes, s.grammar_cap] != [0; 3] {
             return Err(Refusal::Settings);
         }
-        let value_capacity = bound(s.value_capacity);
-        if value_capacity.is_some_and(|capacity| capacity as usize > MAX_VALUES) {
-            return Err(Refusal::Settings);
-        }
         let alignment = if flag(s.alignment)? {
             Alignment::ByteAligned
         } else {
@@ -79,14 +85,33 @@ impl TryFrom<Settings> for Options {
             comments: flag(s.comments)?,
             instructions: flag(s.instructions)?,
             fragment: flag(s.fragment)?,
-            value_length: bound(s.value_length),
-            value_capacity,
+            values: value_bounds(s.value_length, s.value_capacity)?,
         })
     }
 }
 
-fn bound(number: u32) -> Option<u32> {
-    number.checked_sub(1)
+/// From the two numbers: without a bound the longest is longer than any string.
+fn value_bounds(length: u32, capacity: u32) -> Result<ValueBounds, Refusal> {
+    const MOST: u32 = MAX_VALUES as u32;
+    let longest = length.wrapping_sub(1);
+    match capacity {
+        0 => Ok(ValueBounds {
+            longest,
+            capacity: MOST,
+            replaces: false,
+        }),
+        1 => Ok(ValueBounds {
+            longest: 0,
+            capacity: 0,
+            replaces: true,
+        }),
+        n if n - 1 <= MOST => Ok(ValueBounds {
+            longest,
+            capacity: n - 1,
+            replaces: true,
+        }),
+        _ => Err(Refusal::Settings),
+    }
 }
 
 fn flag(number: u32) -> Result<bool, Refusal> {

@@ -4,8 +4,8 @@
 
 use crate::buckets::{hash, Buckets, Link};
 use crate::refusal::Refusal;
-use crate::settings::Options;
-use crate::sizes::{MAX_NAMES, MAX_URIS, MAX_VALUES};
+use crate::settings::ValueBounds;
+use crate::sizes::{MAX_NAMES, MAX_URIS};
 use crate::text::Span;
 
 /// What every text store begins with: the initial URIs, then the initial local names.
@@ -110,28 +110,22 @@ pub struct StringTable {
     names_by_text: Buckets<128>,
     values: Vec<Value>,
     values_by_text: ValueBuckets,
-    /// The longest value that joins; 0 if none does.
-    longest_value: usize,
-    /// The most values that are present at once.
-    capacity: usize,
-    /// The oldest value, which is the next to be replaced; none if nothing is replaced.
-    oldest_value: Option<usize>,
+    bounds: ValueBounds,
+    /// The oldest value, which is the next to be replaced.
+    oldest_value: u32,
 }
 
 impl StringTable {
     /// The initial entries, over a store that begins with [`INITIAL_TEXT`].
-    pub fn new(options: &Options) -> Self {
-        let capacity = options.value_capacity.map(|capacity| capacity as usize);
-        let longest = options.value_length.map_or(usize::MAX, |it| it as usize);
+    pub fn new(bounds: ValueBounds) -> Self {
         let mut table = StringTable {
             uris: Vec::with_capacity(4),
             names: Vec::with_capacity(16),
             names_by_text: Buckets::new(),
             values: Vec::new(),
             values_by_text: ValueBuckets::new(),
-            longest_value: if capacity == Some(0) { 0 } else { longest },
-            capacity: capacity.unwrap_or(MAX_VALUES),
-            oldest_value: capacity.map(|_| 0),
+            bounds,
+            oldest_value: 0,
         };
         let mut place = 0;
         let mut next = |length| {
@@ -245,7 +239,7 @@ impl StringTable {
 
     /// Whether values of this length join the tables: not empty ones, and none that is too long.
     pub fn takes_value(&self, length: usize) -> bool {
-        length.wrapping_sub(1) < self.longest_value
+        (length as u32).wrapping_sub(1) < self.bounds.longest
     }
 
     /// All values that are present, by global identifier.
@@ -272,9 +266,10 @@ impl StringTable {
 
     /// Adds a value to the global partition and to the local one of `owner`. It has to be one that
     /// the tables take, and replaces the oldest where they are full.
+    #[inline(always)]
     pub fn add_value(&mut self, owner: NameId, text: Span, hash: u32) -> Result<(), Refusal> {
         let id = self.values.len();
-        if id == self.capacity {
+        if id == self.bounds.capacity as usize {
             return self.replace_value(owner, text, hash);
         }
         let value = self.new_value(id, owner, text, hash);
@@ -282,8 +277,12 @@ impl StringTable {
         Ok(())
     }
 
+    #[inline(never)]
     fn replace_value(&mut self, owner: NameId, text: Span, hash: u32) -> Result<(), Refusal> {
-        let id = self.oldest_value.ok_or(Refusal::Limit)?;
+        if !self.bounds.replaces {
+            return Err(Refusal::Limit);
+        }
+        let id = self.oldest_value as usize;
         let old = self.values[id];
         self.names[old.owner.index()].values[old.local_id] = TAKEN;
         let last = self
@@ -295,12 +294,15 @@ impl StringTable {
             self.values[last].next_in_bucket = Link::NONE;
         }
         self.values[id] = self.new_value(id, owner, text, hash);
-        self.oldest_value = Some(if id + 1 == self.capacity { 0 } else { id + 1 });
+        self.oldest_value += 1;
+        if self.oldest_value == self.bounds.capacity {
+            self.oldest_value = 0;
+        }
         Ok(())
     }
 
     /// Gives a value the next local number, and puts it into its bucket.
-    #[inline]
+    #[inline(always)]
     fn new_value(&mut self, id: usize, owner: NameId, text: Span, hash: u32) -> Value {
         let local = &mut self.names[owner.index()].values;
         let local_id = local.len();

@@ -20,7 +20,7 @@ pub fn write(
     store.extend_from_slice(&INITIAL_TEXT);
     let mut writer = Writer {
         bits: BitWriter::new(octets, options.alignment),
-        strings: StringTable::new(&options),
+        strings: StringTable::new(options.values),
         grammars: Grammars::new(&options),
         text,
         store,
