@@ -222,6 +222,7 @@ impl<'a> Writer<'a> {
         }
     }
 
+    #[inline(never)]
     fn value_outside_the_tables(&mut self, text: &[u32]) -> Result<(), Refusal> {
         if text.is_empty() {
             self.bits.unsigned(2);
