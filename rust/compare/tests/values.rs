@@ -386,7 +386,8 @@ fn turning_list(rng: &mut Prng, texts: usize, count: usize) -> Vec<Event> {
     };
     let mut all = vec![element("", "r")];
     while all.len() < count {
-        all.push(element("", rng.pick(&["r", "s", "t"])));
+        let name = *rng.pick(&["r", "s", "t"]);
+        all.push(element("", name));
         for name in ["k", "s"] {
             if rng.one_in(2) {
                 all.push(attribute("", name, &value(rng)));
