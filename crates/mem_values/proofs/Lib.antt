@@ -9,4 +9,3 @@ pub mod Formed
 pub mod Tables
 pub mod Stands
 pub mod Entry
-pub mod Replaced
