@@ -1,4 +1,5 @@
 pub mod Order
+pub mod Bounds
 pub mod Turn
 pub mod Local
 pub mod Joined

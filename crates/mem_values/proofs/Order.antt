@@ -165,11 +165,15 @@ ordered closed =
 
 -- ---- the numbers of `replaced` and `newest_numbers`
 
+newest-ring : (c n : ℕ) → 0 < c → newestIn (some c) n ≡ n % c
+unfolding newestIn
+newest-ring zero n pos = absurd (omega arith)
+newest-ring (suc c) n pos = refl
+
 pub newest-is : {cap : Option ℕ} {n : ℕ} → Capacity cap n → newestIn cap n ≡ globalId cap n
 unfolding newestIn globalId
 newest-is unbounded = refl
-newest-is (bounded {zero} pos) = absurd (omega arith)
-newest-is {n = n} (bounded {suc c} pos) = sym (global-id (suc c) pos n)
+newest-is {n = n} (bounded {c} pos) = newest-ring c n pos ∙ sym (global-id c pos n)
 newest-is closed = refl
 
 pub newest-few : (cap : Option ℕ) (n : ℕ) → newestIn cap n ≤ n - replaced cap n

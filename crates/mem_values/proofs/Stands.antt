@@ -29,7 +29,7 @@ pub capacity-is : (cap : Option ℕ) (n : ℕ) → (isZero cap ≡ true → n �
 unfolding isZero
 capacity-is none n h = unbounded
 capacity-is (some zero) n h = let z : n ≡ 0 = h refl in rw z closed
-capacity-is (some (suc c)) n h = bounded (omega arith)
+capacity-is (some (suc c)) n h = bounded {c = suc c} (omega arith)
 
 pub stand-grown : {work before after : List ℕ} {stored more n low newer : ℕ} {es : Entries}
     {cap : Option ℕ}
