@@ -15,7 +15,7 @@ use Rattle.spec_exi.specs.Sizes.{sizes, maxStore, maxUris, maxNames, maxValues}
 use Rattle.spec_exi.specs.Tables.{Placed, Tables, Role, replaced, gone}
 use Rattle.spec_exi.specs.Lists.{withinTables}
 use Rattle.mem_entries.specs.Texts.{hashOf, Grown, Lies, upTo}
-use Rattle.mem_rows.specs.Rows.{Rows, valuesIn, tablesOf}
+use Rattle.mem_rows.specs.Rows.{Rows, tablesOf}
 use Rattle.mem_rows.specs.Valid.{Valid, goneIn}
 use Rattle.mem_rows.proofs.Within.{names-count, values-count}
 use Rattle.mem_state.specs.Strung.{Lain, Joins}
@@ -42,7 +42,7 @@ store-fits w store d = d
 -- The values that are present.
 values-fit : (w : Rows) (store : Text) → length (w .values) - goneIn w ≤ maxValues
     → length (tablesOf w store .values .added) - gone (tablesOf w store .values) ≤ maxValues
-unfolding tablesOf valuesIn gone
+unfolding tablesOf gone
 values-fit w store c =
     subst (λ n. n - replaced (w .capacity) n ≤ maxValues) (sym (values-count w store)) c
 

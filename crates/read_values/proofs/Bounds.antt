@@ -42,9 +42,9 @@ module _ {stream : List ℕ} {at : ℕ} {stored : ℕ} {work : List ℕ} {values
   unfolding maxStream
   choice-asks h = omega (arith, fit .size, fit .place)
 
-  pub all-asks : {low : ℕ} → NumberIn stream at (values - low) 65536
+  pub all-asks : (low : ℕ) → NumberIn stream at (values - low) 65536
   unfolding maxStore
-  all-asks = choice-asks (omega (arith, fit .few, fit .store))
+  all-asks low = choice-asks (omega (arith, fit .few, fit .store))
 
   pub count-asks : Askable work owner 0
   count-asks = record { room = fit .room; low = fit .low; few = omega arith }

@@ -30,7 +30,7 @@ use Rattle.mem_values.specs.Forms.{nthOf, ValuesStand}
 use Rattle.mem_values.proofs.Order.{ordered}
 use Rattle.mem_values.proofs.Tables.{form-is, local-count, global-count}
 use Rattle.mem_values.proofs.Entry.{local-entry-is, local-entry-none, global-entry-is}
-use Rattle.mem_rows.specs.Rows.{Rows, nameAt, valuesIn, tablesOf}
+use Rattle.mem_rows.specs.Rows.{Rows, nameAt, tablesOf}
 use Rattle.mem_rows.specs.Valid.{Valid}
 use Rattle.mem_rows.proofs.Owners.{isName, is-name, name-keys, value-keys, values-alike}
 use Rattle.read_partition.specs.Strings.{Tabled}
@@ -38,12 +38,12 @@ use Rattle.read_partition.proofs.Hits.{Chosen, Loose}
 use Rattle.read_values.specs.Values.{ValueRows, valueRole}
 
 bound-is : (w : Rows) (store : Text) → tablesOf w store .values .capacity ≡ w .capacity
-unfolding tablesOf valuesIn
+unfolding tablesOf
 bound-is w store = refl
 
 values-are : (w : Rows) (store : Text)
     → tablesOf w store .values .added ≡ map (named (nameAt w)) (w .values)
-unfolding tablesOf valuesIn
+unfolding tablesOf
 values-are w store = refl
 
 values-tabled : {w : Rows} → Valid w → (store : Text)
@@ -80,23 +80,23 @@ pub record NthValue (n low newer i r : ℕ) : Type 0 where
   pub inside : i < n - low
   pub is : r - 1 ≡ insertion n low newer i
 
-module _ {n low newer i r : ℕ} (e : r ≡ nthOf n low newer i) where
+module _ (n low newer i : ℕ) {r : ℕ} (e : r ≡ nthOf n low newer i) where
   pub nth-some : (r ≡ 0 → ⊥) → NthValue n low newer i r
   unfolding nthOf
-  nth-some some =
+  nth-some found =
       split (ltb i (n - low))
       (λ h.
       let z : r ≡ insertion n low newer i + 1 = rw h at e in
       record { inside = ltb-true i (n - low) h; is = omega (arith, z) })
-      (λ h. let z : r ≡ 0 = rw h at e in absurd (some z))
+      (λ h. let z : r ≡ 0 = rw h at e in absurd (found z))
 
   pub nth-none : r ≡ 0 → n - low ≤ i
   unfolding nthOf
-  nth-none none =
+  nth-none z =
       split (ltb i (n - low))
       (λ h.
-      let z : r ≡ insertion n low newer i + 1 = rw h at e in
-      absurd (omega (arith, z, none)))
+      let y : r ≡ insertion n low newer i + 1 = rw h at e in
+      absurd (omega (arith, y, z)))
       (λ h. ltb-false i (n - low) h)
 
 -- ---- where memory holds the values

@@ -4,12 +4,12 @@ use native.Mathlib.Omega.{arith}
 use native.Mathlib.Decide.{ℕ-discrete}
 use native.Mathlib.Nat.{le-refl}
 use mathlib.Core.Path.{_≡_, refl, sym, ap, subst, _∙_}
-use mathlib.Core.Bool.{true, false, true≢false}
+use mathlib.Core.Bool.{Bool, true, false, _&&_, true≢false}
 use mathlib.Core.List.{List, [], _∷_}
 use mathlib.Core.Option.{Option}
 use lib.ListN.{length, take, replicate}
 use lib.Dec.{eqb, leb}
-use borrow.Author.Tests.{le-leb, lt-leb}
+use borrow.Author.Tests.{eqb-true, eq-eqb, le-leb, lt-leb, leb-true, leb-false}
 use Rattle.spec_fields.specs.Refusal.{numberOf, loose, limit}
 use Rattle.spec_fields.specs.Field.{Alignment}
 use Rattle.spec_fields.proofs.Tests.{split}
@@ -28,7 +28,7 @@ use Rattle.mem_values.specs.Hold.{FoundText}
 use Rattle.mem_values.proofs.Bounds.{empty-not, joins-is}
 use Rattle.mem_values.proofs.Answers.{found-none}
 use Rattle.mem_values.proofs.Joined.{values-grown}
-use Rattle.mem_rows.specs.Rows.{Rows, nameAt, valuesIn, tablesOf, withValue}
+use Rattle.mem_rows.specs.Rows.{Rows, nameAt, tablesOf, withValue}
 use Rattle.mem_rows.specs.Valid.{goneIn}
 use Rattle.mem_rows.proofs.Joins.{value-joins, nothing-joins}
 use Rattle.mem_rows.proofs.Grown.{value-grows}
@@ -46,19 +46,32 @@ use Rattle.read_values.proofs.Meaning.{count-is, form-of}
 -- ---- what joins
 
 -- A value that joins has a code point.
-pub joins-some : {n longest capacity : ℕ} → joinsBy n longest capacity ≡ true → 0 < n
-joins-some {n} {longest} {capacity} j = elim (ℕ-discrete n 0) [
+joins-some : (n longest capacity : ℕ) → joinsBy n longest capacity ≡ true → 0 < n
+joins-some n longest capacity j = elim (ℕ-discrete n 0) [
   | yes e ↦ absurd (true≢false (sym j ∙ sym (empty-not n longest capacity e)))
   | no e ↦ omega (arith, e)
 ]
 
-joins-open : {n longest capacity : ℕ} → joinsBy n longest capacity ≡ true
+joins-open : (n longest capacity : ℕ) → joinsBy n longest capacity ≡ true
     → isZero (boundOf capacity) ≡ false
 unfolding joinsBy
-joins-open {capacity = capacity} j =
+joins-open n longest capacity j =
     split (isZero (boundOf capacity))
     (λ e. absurd (true≢false (sym j ∙ rw e refl)))
     (λ e. e)
+
+-- The test of the table's size: without a capacity alone.
+abbrev isFull : ℕ → ℕ → Bool
+isFull capacity n = eqb capacity 0 && leb maxValues n
+
+full-is : (capacity n : ℕ) → isFull capacity n ≡ true → (capacity ≡ 0) × (maxValues ≤ n)
+full-is capacity n e =
+    split (eqb capacity 0)
+    (λ z. (eqb-true capacity 0 z, leb-true maxValues n (rw z at e)))
+    (λ z. absurd (true≢false (sym (rw z at e))))
+
+full-not : (capacity n : ℕ) → isFull capacity n ≡ false → capacity ≡ 0 → n < maxValues
+full-not capacity n e z = leb-false maxValues n (rw (eq-eqb capacity 0 z) at e)
 
 -- The table has room for one value more: under a capacity always, else up to its size.
 room-more : (n capacity : ℕ) → capacity ≤ maxValues + 1 → (capacity ≡ 0 → n < maxValues)
@@ -153,7 +166,7 @@ module _ {text : List ℕ} {stored : ℕ} {w : Rows} {store : Text} (t : Tabled 
 
   -- Whether it joins.
   joins-as : joins (tablesOf w store .values) x ≡ joinsBy n longest capacity
-  unfolding tablesOf valuesIn
+  unfolding tablesOf
   joins-as =
       sym (joins-is (tablesOf w store .values) x longest capacity (p .longest-is)
       (p .capacity-is))
@@ -178,7 +191,7 @@ module _ {text : List ℕ} {stored : ℕ} {w : Rows} {store : Text} (t : Tabled 
   module _ (j : joinsBy n longest capacity ≡ true) where
     within-is : withinTables sizes (added (tablesOf w store) (valueRole owner w) x)
         ≡ leb (suc values - replaced (boundOf capacity) (suc values)) maxValues
-    unfolding tablesOf valuesIn
+    unfolding tablesOf
     within-is =
         within-value (tablesOf w store) x (t .within) store-fits (nameAt w owner) (joins-as ∙ j)
         ∙ ap (λ m. leb (suc m - replaced (w .capacity) (suc m)) maxValues)
@@ -206,7 +219,7 @@ module _ {text : List ℕ} {stored : ℕ} {w : Rows} {store : Text} (t : Tabled 
           valid = λ _.
               value-grows (t .valid) owner _ (p .row)
               (λ i l m y. found-none (w .values) (goneIn w) x absent i l m y)
-              (ap isZero (sym (p .capacity-is)) ∙ joins-open j)
+              (ap isZero (sym (p .capacity-is)) ∙ joins-open n longest capacity j)
               (subst (λ m. suc m - replaced (w .capacity) (suc m) ≤ maxValues)
               (sym (count-is t p))
               (subst (λ b. suc values - replaced b (suc values) ≤ maxValues) (p .capacity-is) room));
@@ -254,12 +267,12 @@ module _ {stream : List ℕ} {at : ℕ} {text : List ℕ} {stored : ℕ} {work :
           (λ w store t p x b f. stays-passes t p (text-laid x b f) (r .hashed .is z) s absent e)
 
       module _ (j : joinsBy n longest capacity ≡ true) where
-        pub new-full : capacity ≡ 0 → maxValues ≤ values → {text″ : List ℕ}
+        pub new-full : isFull capacity values ≡ true → {text″ : List ℕ}
             → text″ ≡ laidAt text′ stored (replicate n 0) → {a : Alignment} {owner : ℕ}
             → ValuePost a (asNew n) stream at text stored work values longest capacity owner text″
             (refusedAs (numberOf limit) (l .next) 0 stored)
         unfolding laid numberOf nameAllowed textAllowed tablesAfter
-        new-full u h c {owner = owner} =
+        new-full h c {owner = owner} =
             literal-judged (valueRole owner) r z (fit .literal .room) (numberOf limit)
             (omega arith) c
             (λ w store t p x e f.
@@ -268,21 +281,23 @@ module _ {stream : List ℕ} {at : ℕ} {text : List ℕ} {stored : ℕ} {work :
             (absent-strict t p d (r .hashed .is z) s absent) refl
             (within-is t p d (r .hashed .is z) s j
             ∙ lt-leb (suc values - replaced (boundOf capacity) (suc values)) maxValues
-            (no-room values capacity u h)))
+            (no-room values capacity (full-is capacity values h .0) (full-is capacity values h .1))))
 
-        pub new-joins : (capacity ≡ 0 → values < maxValues) → {a : Alignment} {owner : ℕ}
+        pub new-joins : isFull capacity values ≡ false → {a : Alignment} {owner : ℕ}
             → ValuePost a (asNew n) stream at text stored work values longest capacity owner text′
             (literalAs (l .next) stored n values true (l .hash))
         new-joins h {owner = owner} =
             literal-passed (valueRole owner) r z (fit .literal .room) values true (l .hash)
             (λ w store t p x e f.
-            new-passes t p (text-laid x e f) (r .hashed .is z) s j absent h)
+            new-passes t p (text-laid x e f) (r .hashed .is z) s j absent
+            (full-not capacity values h))
 
-        -- On every memory it has a code point in the store.
-        pub new-within : JoinsWithin values text′ (literalAs (l .next) stored n values true (l .hash))
-        new-within =
-            record {
-              left = λ _. omega (arith, fit .few, joins-some j);
-              room = λ _. r .ends z;
-              hashed = record { is = λ _. r .hashed .is z };
-            }
+  -- On every memory a value that joins has a code point in the store.
+  pub new-within : (longest capacity : ℕ) → joinsBy n longest capacity ≡ true
+      → JoinsWithin values text′ (literalAs (l .next) stored n values true (l .hash))
+  new-within longest capacity j =
+      record {
+        left = λ _. omega (arith, fit .few, joins-some n longest capacity j);
+        room = λ _. r .ends z;
+        hashed = record { is = λ _. r .hashed .is z };
+      }

@@ -94,17 +94,18 @@ module _ {a : Alignment} {stream : List ℕ} {at stored : ℕ} {work : List ℕ}
         post-missing (valueRole owner) 1 anyList text (fit .place) (fit .store) answer
         (λ w store t p. any-count t p gone) z
         (λ w store t p x s.
-        let y = at-none (anyList w store) i (omega (arith, any-count t p gone, nth-none n e)) in
+        let y = at-none (anyList w store) i 
+        (omega (arith, any-count t p gone, nth-none values low newer i n e)) in
         let w : _≡_ {A = ℕ} 0 1 = cc in omega arith)
 
-    module _ (some : r ≡ 0 → ⊥) {v : table.Value} (h : ValueAt work (r - 1) v) where
+    module _ (found : r ≡ 0 → ⊥) {v : table.Value} (h : ValueAt work (r - 1) v) where
       pub any-own : v .owner ≡ owner
           → ValuePost a asAny stream at text stored work values longest capacity owner text
           (refusedAs (numberOf loose) q 0 stored)
       any-own e =
           post-loose (valueRole owner) 1 anyList text (fit .place) (fit .store) answer
           (λ w store t p. any-count t p gone) z
-          (λ w store t p. any-loose t p gone new (nth-some n some) h e)
+          (λ w store t p. any-loose t p gone new (nth-some values low newer i n found) h e)
 
       pub any-found : (v .owner ≡ owner → ⊥)
           → ValuePost a asAny stream at text stored work values longest capacity owner text
@@ -113,7 +114,7 @@ module _ {a : Alignment} {stream : List ℕ} {at stored : ℕ} {work : List ℕ}
           post-chosen (valueRole owner) 1 anyList text (fit .place) (fit .store) answer
           (λ w store t p. any-count t p gone) z
           (v .place) (v .size) (r - 1)
-          (λ w store t p. any-chosen t p gone new (nth-some n some) h e)
+          (λ w store t p. any-chosen t p gone new (nth-some values low newer i n found) h e)
 
 -- ---- from the number on
 
