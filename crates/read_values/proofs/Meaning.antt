@@ -79,6 +79,7 @@ since-last low c e =
 pub record NthValue (n low newer i r : ℕ) : Type 0 where
   pub inside : i < n - low
   pub is : r - 1 ≡ insertion n low newer i
+  pub answer : suc (r - 1) ≡ nthOf n low newer i
 
 module _ (n low newer i : ℕ) {r : ℕ} (e : r ≡ nthOf n low newer i) where
   pub nth-some : (r ≡ 0 → ⊥) → NthValue n low newer i r
@@ -87,7 +88,8 @@ module _ (n low newer i : ℕ) {r : ℕ} (e : r ≡ nthOf n low newer i) where
       split (ltb i (n - low))
       (λ h.
       let z : r ≡ insertion n low newer i + 1 = rw h at e in
-      record { inside = ltb-true i (n - low) h; is = omega (arith, z) })
+      let one : suc (r - 1) ≡ r = omega (arith, z) in
+      record { inside = ltb-true i (n - low) h; is = omega (arith, z); answer = one ∙ e })
       (λ h. let z : r ≡ 0 = rw h at e in absurd (found z))
 
   pub nth-none : r ≡ 0 → n - low ≤ i
@@ -259,11 +261,10 @@ module _ {text : List ℕ} {stored : ℕ} {w : Rows} {store : Text} (t : Tabled 
         (some (entryAt (w .values) (r - 1) .string))
     any-slot =
         global-entry-is (name-keys (t .valid)) (tablesOf w store) (w .values) (bound-is w store)
-        (values-are w store) (value-keys (t .valid)) (listed .capacity) i
-        (subst (λ n. i < n - replaced (w .capacity) n) (sym count-is) inside)
-        ∙ ap (λ n. some (some (entryAt (w .values)
-        (insertion n (replaced (w .capacity) n) (globalId (w .capacity) n) i) .string))) count-is
-        ∙ ap (λ k. some (some (entryAt (w .values) k .string))) (sym value-is)
+        (values-are w store) (value-keys (t .valid)) (listed .capacity)
+        (newer-is ∙ ap (globalId (w .capacity)) (sym count-is)) i (r - 1)
+        (nth .answer ∙ ap (λ k. nthOf values k newer i) (gone-is gone)
+        ∙ ap (λ n. nthOf n (replaced (w .capacity) n) newer i) (sym count-is))
 
     module _ {v : Value} (a : ValueAt work (r - 1) v) where
       pub any-loose : v .owner ≡ owner

@@ -1,7 +1,6 @@
 -- A value that is a literal: whether a value has its text, and what it leaves.
 use Prim.Native.Nat.{ℕ, zero, suc, _+_, _-_, _≤_, _<_}
 use native.Mathlib.Omega.{arith}
-use native.Mathlib.Decide.{ℕ-discrete}
 use native.Mathlib.Nat.{le-refl}
 use mathlib.Core.Path.{_≡_, refl, sym, ap, subst, _∙_}
 use mathlib.Core.Bool.{Bool, true, false, _&&_, true≢false}
@@ -25,7 +24,7 @@ use Rattle.mem_entries.specs.Texts.{hashOf, Grown}
 use Rattle.mem_entries.specs.Entries.{Entries, keyAt, hasTextAt}
 use Rattle.mem_values.specs.Window.{valueForm, joinsBy}
 use Rattle.mem_values.specs.Hold.{FoundText}
-use Rattle.mem_values.proofs.Bounds.{empty-not, joins-is}
+use Rattle.mem_values.proofs.Bounds.{joins-some, joins-is}
 use Rattle.mem_values.proofs.Answers.{found-none}
 use Rattle.mem_values.proofs.Joined.{values-grown}
 use Rattle.mem_rows.specs.Rows.{Rows, nameAt, tablesOf, withValue}
@@ -45,13 +44,7 @@ use Rattle.read_values.proofs.Meaning.{count-is, form-of}
 
 -- ---- what joins
 
--- A value that joins has a code point.
-joins-some : (n longest capacity : ℕ) → joinsBy n longest capacity ≡ true → 0 < n
-joins-some n longest capacity j = elim (ℕ-discrete n 0) [
-  | yes e ↦ absurd (true≢false (sym j ∙ sym (empty-not n longest capacity e)))
-  | no e ↦ omega (arith, e)
-]
-
+-- Where a value joins, the capacity is not zero.
 joins-open : (n longest capacity : ℕ) → joinsBy n longest capacity ≡ true
     → isZero (boundOf capacity) ≡ false
 unfolding joinsBy
