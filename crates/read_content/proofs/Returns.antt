@@ -39,7 +39,7 @@ use Rattle.mem_state.specs.Holds.{inStore, Holds, Bounded, Counts}
 use Rattle.mem_state.specs.Strung.{valueAdded, StringsJoin}
 use Rattle.mem_state.proofs.Joins.{holds-grown}
 use Rattle.mem_state.proofs.Strung.{uris-counted, names-counted, values-counted, value-names}
-use Rattle.mem_state.proofs.Strung.{strings-values, strings-longest, strings-capacity, none-join}
+use Rattle.mem_state.proofs.Strung.{strings-values, strings-ahead, none-join}
 use Rattle.read_contract.specs.Outcome.{Declined, Gotten, Outcome}
 use Rattle.read_contract.proofs.Outcome.{return-outcome, declined-then, gotten-declined}
 use Rattle.read_contract.proofs.Outcome.{outcome-then, outcome-map}
@@ -377,8 +377,8 @@ module _ {stream : List ℕ} {at : ℕ} {text work : List ℕ} {c : Core} {p : P
       name-values m =
           record {
             values = strings-values (m .joins) no-value;
-            longest = strings-longest (m .joins);
-            capacity = strings-capacity (m .joins);
+            longest = strings-ahead (m .joins) .longest;
+            capacity = strings-ahead (m .joins) .capacity;
           }
 
       -- The rows with the name.

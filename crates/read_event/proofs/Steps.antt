@@ -155,7 +155,8 @@ module _ {stream events text work : List ℕ} {c : Core} {cell n : ℕ}
           record {
             bounded = after-bounded (s .fragment) (r .next) (r .stored) after-asks join-asks
                 (post .bounds z .fits)
-                (omega (arith, post .bounds z .name, post .bounds z .strings .name)) stored-few;
+                (omega (arith, post .bounds z .name, post .bounds z .strings .name))
+                (omega (arith, t .stored-is)) stored-few (post .bounds z .strings .values);
             inside = post .inside;
             refused = λ h. absurd (omega arith);
             laid = λ _. record {
