@@ -30,12 +30,13 @@ use Rattle.write_content.specs.Writing.{namedBits, valuedBits, contentBi
 use Rattle.write_content.specs.Writing.{ValuePuttable, Puttable, PutContentPre}
 use Rattle.write_content.proofs.Puts.{named-length, named-asks}
 
-module _ (c : Core) (x : Content) (text work : List ℕ) (few : c .values ≤ maxValues) (a : Alignment)
+module _ (c : Core) (x : Content) (text work : List ℕ) (few : c .values ≤ maxStore) (a : Alignment)
   where
     value-length : (v : Part) → ValuePuttable x (partAt text v)
         → length (valuedBits work c x (partAt text v) a) ≤ maxStringBits
-    unfolding valuedBits valueBits hitBits maxString maxValues
+    unfolding valuedBits valueBits hitBits maxString maxStore
     value-length v p =
+        let among : ℕ = c .values - replaced (boundOf (c .capacity)) (c .values) in
         split (eqb (x .partition) own)
         (λ e. rw e (omega (
           arith,
@@ -44,9 +45,9 @@ module _ (c : Core) (x : Content) (text work : List ℕ) (few : c .values ≤ ma
         (λ e. split (eqb (x .partition) all)
         (λ f. rw (e, f) (omega (
           arith,
-          length-append (unsignedBits 1) (choiceBits a (c .values) (below (c .values) (x .id))),
+          length-append (unsignedBits 1) (choiceBits a among (below among (x .id))),
           unsigned-length 1,
-          choice-length a (c .values) (below (c .values) (x .id)) (omega arith),
+          choice-length a among (below among (x .id)) (omega arith),
         )))
         (λ f. rw (e, f) (omega (
           arith,

@@ -77,7 +77,8 @@ module _ {stream work : List ℕ} {c : Core} (pre : StepPre stream work c 0) {na
 
     module _ (i : not b ≡ false) {y : Text}
         (look : y ≡ part text (record { place = value .place; size = value .size }))
-        {v : ValueJudged} (post : ValuePost text y name (c .values) (c .stored) work v) where
+        {v : ValueJudged} (post : ValuePost text y name (c .values) (c .longest) (c .capacity) (c .stored) work v)
+      where
       pub attribute-stopped : 0 < v .number → {a : Alignment}
           → AttributePost a text value name stream work c stream work (steppedAs (v .number) c)
       unfolding kindOf meaning kindNumber
@@ -93,7 +94,7 @@ module _ {stream work : List ℕ} {c : Core} (pre : StepPre stream work c 0) {na
           {mid : List ℕ} {next : ℕ}
           → LearnedPut a stream work (c .at) (c .mode) (c .top) row mid next
           → {stream′ work₁ work′ : List ℕ} {at : ℕ}
-          → ValueKept a mid next y value v name (c .values) work stream′ work₁ at
+          → ValueKept a mid next y value v name (c .values) (c .capacity) work stream′ work₁ at
           → work′ ≡ withMark work₁ (c .tag) name
           → AttributePost a text value name stream work c stream′ work′
           (steppedAs 0
