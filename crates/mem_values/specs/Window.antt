@@ -79,9 +79,10 @@ valueForm cap es k (suc g) =
 
 -- ---- as tables of the definitions
 
--- The tables have these values, by the rows of their names.
-pub record Tabled (name : ℕ → QName Text) (isKey : ℕ → Bool) (t : Tables) (es : Entries) : Type 0
-  where
-    pub alike : Alike name (t .values .added) es
-    pub keys : Keys name isKey
-    pub keyed : Keyed isKey es
+-- The tables have these values, by the rows of their names, under this capacity.
+pub record Tabled (name : ℕ → QName Text) (isKey : ℕ → Bool) (t : Tables) (es : Entries)
+    (cap : Option ℕ) : Type 0 where
+  pub capacity : t .values .capacity ≡ cap
+  pub alike : Alike name (t .values .added) es
+  pub keys : Keys name isKey
+  pub keyed : Keyed isKey es

@@ -116,17 +116,26 @@ pub fn add(work: &mut [u32], n: u32, owner: u32, place: u32, size: u32, h: u32)
 pub fn joins(size: usize, longest: u32, capacity: u32) -> bool
     ensures { λ r. ⌜ r ≡ joinsBy size longest capacity ⌝ }
 {
-    if (size == 0) | (capacity == 1) {
+    if size == 0 {
         return false;
     }
-    (longest == 0) | (size < longest as usize)
+    if capacity == 1 {
+        return false;
+    }
+    if longest == 0 {
+        return true;
+    }
+    size < longest as usize
 }
 
 // How many of n values are replaced.
 pub fn replaced(n: u32, capacity: u32) -> u32
     ensures { λ r. ⌜ Replaced n capacity r ⌝ }
 {
-    if (capacity == 0) | (n < capacity) {
+    if capacity == 0 {
+        return 0;
+    }
+    if n < capacity {
         return 0;
     }
     n - (capacity - 1)

@@ -4,6 +4,9 @@ ghost use Rattle.spec_exi.specs.Settings.{meaningful};
 ghost use Rattle.settings.specs.Meant.{numbersOf, settingsMeant};
 use sizes::MAX_VALUES;
 
+// The greatest capacity, as its number has it.
+const MOST: u32 = MAX_VALUES as u32 + 1;
+
 // All 0 is the base. Alignment 1 is byte-aligned; cookie, comments, instructions and fragment are 1
 // for yes; of the two for values (EXI 5.4; P5) 0 is unbounded, and n + 1 a bound n. The last three
 // are reserved: no number but 0 has a meaning yet.
@@ -42,7 +45,7 @@ pub fn are_meaningful(s: SettingNumbers) -> bool
         & (s.comments <= 1)
         & (s.instructions <= 1)
         & (s.fragment <= 1)
-        & (s.value_capacity <= MAX_VALUES as u32 + 1)
+        & (s.value_capacity <= MOST)
         & (s.loose == 0)
         & (s.prefixes == 0)
         & (s.grammar_cap == 0)
