@@ -156,8 +156,8 @@ module _ {opening text work : List ℕ} {c : Core} (pre : ContentPre work c) whe
 
           few-named : Few named
           few-named =
-              few-strings (pre .bounded) (p .counts) (p .holds .values .near) (attribute-means p i .leaves z .joins)
-              (λ j. post .bounds z .uris j .0) (λ j. post .bounds z .names j .0) (no-value z)
+              few-strings (pre .bounded) (p .counts) (attribute-means p i .leaves z .joins)
+              (λ j. post .bounds z .uris j .0) (λ j. post .bounds z .names j .0)
 
           of-owner : StringMeans (value (nameAt named (n .strings .«name_row»))) named valued
               (n .stored) (partAt text x) (v .number) (v .stored)

@@ -65,14 +65,14 @@ module _ {opening text work : List ℕ} {c : Core} (pre : ContentPre work c) (x 
         (valueBits work (v .partition) (v .id) (c .top) (c .values) (c .capacity) (partAt text x))
     of-top =
         value-means p (none-join (listStores opening text) (p .valid)) refl x post
-        (p .writable) (few-rows (pre .bounded) (p .counts) (p .holds .values .near)) row
+        (p .writable) (few-rows (pre .bounded) (p .counts) (p .valid)) row
 
     top-joins : v .number ≡ 0 → Inside text x
         → StringsJoin (listStores opening text) (withValue noStrings (c .top) x v .strings) w
         (valueAdded (v .joins) (c .top) w (placedIn text x))
     top-joins =
         value-joins p (none-join (listStores opening text) (p .valid)) refl x post
-        (p .writable) (few-rows (pre .bounded) (p .counts) (p .holds .values .near)) row
+        (p .writable) (few-rows (pre .bounded) (p .counts) (p .valid)) row
 
 module _ {opening text work : List ℕ} {c : Core} (pre : ContentPre work c) (x : Part) {y : Text}
     (look : y ≡ part text (record { place = x .place; size = x .size })) {v : ValueJudged}
@@ -193,7 +193,7 @@ module _ {opening text work : List ℕ} {c : Core} (pre : ContentPre work c) whe
       → ItemsMean (tablesIn w stored) (item role x ∷ []) (r .number) (tablesIn w (r .stored))
       (λ a. stringBits 0 x)
   text-items post {w} p =
-      one-item (post .meant w (p .valid) (p .writable) (few-rows (pre .bounded) (p .counts) (p .holds .values .near)))
+      one-item (post .meant w (p .valid) (p .writable) (few-rows (pre .bounded) (p .counts) (p .valid)))
 
   module _ (x : Part) {y : Text} (look : y ≡ part text (record { place = x .place; size = x .size }))
       {r : StringJudged} (given : TextPost commentText y (c .stored) r) where

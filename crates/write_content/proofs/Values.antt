@@ -6,17 +6,15 @@ use mathlib.Core.Bool.{Bool, true, false, cond}
 use mathlib.Core.List.{List}
 use mathlib.Core.Option.{Option}
 use lib.ListN.{length}
-use Rattle.spec_exi.specs.Sizes.{maxUris, maxNames, maxValues}
+use Rattle.spec_exi.specs.Sizes.{maxUris, maxNames}
 use Rattle.spec_exi.specs.Tables.{Placed, replaced, value}
 use Rattle.text.specs.Text.{Text, part}
 use Rattle.event.specs.declared.Part.{Part}
 use Rattle.event.specs.Cells.{asSpan}
-use Rattle.mem_layout.specs.Layout.{valueRing}
 use Rattle.mem_entries.specs.Entries.{Entries}
 use Rattle.mem_values.specs.Window.{newestIn}
 use Rattle.mem_values.specs.Forms.{ValuesStand}
 use Rattle.mem_rows.specs.Rows.{Rows, placedAt, nameAt, withValue}
-use Rattle.mem_rows.specs.Valid.{goneIn}
 use Rattle.mem_state.specs.declared.Core.{Core}
 use Rattle.mem_state.specs.declared.Strings.{Strings}
 use Rattle.mem_state.specs.Holds.{Stores, Bounded, Counts}
@@ -42,20 +40,14 @@ within true few left e = omega (arith, left refl, e)
 within false few left e = omega (arith, few, e)
 
 pub few-strings : {from : Stores} {c : Core} {s : Strings} {w v : Rows} → Bounded c
-    → Counts c w → length (w .values) ≤ goneIn w + valueRing → StringsJoin from s w v
+    → Counts c w → StringsJoin from s w v
     → (s .«new_uri» ≡ true → c .uris < maxUris) → (s .«new_name» ≡ true → c .names < maxNames)
-    → s .«new_value» ≡ false → Few v
-unfolding maxValues
-few-strings {s = s} {w} {v} b n near j uris names f =
+    → Few v
+few-strings {s = s} b n j uris names =
     record {
       uris = within (s .«new_uri») (b .uris) uris (uris-counted j n);
       names = within (s .«new_name») (b .names) names (names-counted j n);
-      values = omega (
-        arith,
-        ap length (strings-values j f),
-        ap (λ cap. replaced cap (length (v .values))) (strings-capacity j),
-        ap (replaced (w .capacity)) (ap length (strings-values j f)),
-      );
+      values = j .valid .window .few;
     }
 
 -- ---- a value more

@@ -27,13 +27,14 @@ use Rattle.mem_values.specs.declared.Form.{Form}
 use Rattle.mem_values.specs.declared.Form.the-variants.{Local, Global, Absent}
 use Rattle.mem_values.specs.Window.{newestIn, joinsBy, Replaced, Newest}
 use Rattle.mem_values.specs.Forms.{formIn, Formable, Formed}
+use Rattle.mem_values.proofs.Bounds.{joins-is}
 use Rattle.mem_rows.specs.Rows.{Rows, nameAt, tablesOf}
 use Rattle.mem_rows.proofs.Joins.{nothing-joins}
 use Rattle.mem_rows.proofs.Alike.{value-joins-alike}
 use Rattle.mem_rows.proofs.Grown.{value-grows}
-use Rattle.mem_rows.proofs.Within.{values-count, within-value, within-none}
+use Rattle.mem_rows.proofs.Within.{values-count, within-value, within-none, room-bounded}
+use Rattle.mem_rows.proofs.Within.{room-unbounded}
 use Rattle.mem_state.specs.Strung.{valueAdded}
-use Rattle.names.proofs.Laws.{is-empty}
 use Rattle.write_partition.specs.Writable.{Written, tablesIn}
 use Rattle.write_partition.specs.Judged.{faultNumber, literalTests, StringMeans}
 use Rattle.write_partition.proofs.Tests.{number-then, number-first, passed-test, first-passes, Passed}
@@ -147,6 +148,13 @@ joins-some size longest capacity j =
     both-not true c e = true≢false (sym e)
     both-not false c e = true≢false (sym e)
 
+joins-open : (size longest capacity : ℕ) → joinsBy size longest capacity ≡ true
+    → isZero (boundOf capacity) ≡ false
+unfolding joinsBy
+joins-open size longest capacity j =
+    split (isZero (boundOf capacity)) (λ t. let z = rw t at j in absurd (true≢false (sym z)))
+    (λ t. t)
+
 row-free : (size values longest capacity : ℕ) → joinsBy size longest capacity ≡ true
     → hasRow size values longest capacity ≡ true → capacity ≡ 0 → values < maxValues
 unfolding hasRow
@@ -158,9 +166,10 @@ row-is : (values capacity : ℕ) → capacity ≤ maxValues + 1
     → leb (suc values - replaced (boundOf capacity) (suc values)) maxValues
     ≡ cond (eqb capacity 0) (ltb values maxValues) true
 unfolding boundOf replaced
-row-is values zero h =
-    let e : suc values - 0 ≡ suc values = omega arith in ap (λ n. leb n maxValues) e
-row-is values (suc c) h = le-leb (suc values - (suc values - c)) maxValues (omega arith)
+row-is values zero h = room-unbounded values
+row-is values (suc c) h =
+    le-leb (suc values - (suc values - c)) maxValues
+    (room-bounded (suc c) (suc values) (λ e. omega arith) h)
 
 -- ---- any value
 
@@ -273,9 +282,11 @@ module _ {text : List ℕ} {x : Text} {owner values longest capacity stored : �
         store-fits l = omega (arith, store-count w stored)
 
         -- Whether it joins, by the settings' numbers.
-        joins-is : joins (tablesIn w stored .values) x ≡ joinsBy (length x) longest capacity
-        unfolding joins joinsBy tablesOf
-        joins-is = rw (s .longest-is, s .capacity-is, is-empty x)
+        in-rows : joins (tablesIn w stored .values) x ≡ joinsBy (length x) longest capacity
+        unfolding tablesOf
+        in-rows =
+            sym (joins-is (tablesIn w stored .values) x longest capacity (s .longest-is)
+            (s .capacity-is))
 
         row-left : joins (tablesIn w stored .values) x ≡ true → stored + length x ≤ maxStore
             → withinTables sizes (added (tablesIn w stored) (value (nameAt w owner)) x)
@@ -294,9 +305,9 @@ module _ {text : List ℕ} {x : Text} {owner values longest capacity stored : �
         unfolding hasRow newUri newName newValue newEntry laid
         within-is l =
             split (joins (tablesIn w stored .values) x)
-            (λ j. rw (sym joins-is ∙ j) (row-left j l))
+            (λ j. rw (sym in-rows ∙ j) (row-left j l))
             (λ j.
-            rw (sym joins-is ∙ j)
+            rw (sym in-rows ∙ j)
             (within-none (tablesIn w stored) x within (store-fits l) (value (nameAt w owner)) refl refl (rw j)))
 
         new-tests : {number : ℕ} → length x ≤ maxString
@@ -313,26 +324,41 @@ module _ {text : List ℕ} {x : Text} {owner values longest capacity stored : �
             (passed-test (literalTests x stored)
             ((hasRow (length x) values longest capacity, limit) ∷ []) true name refl)))
 
-        new-means : (joins : Bool) → joinsBy (length x) longest capacity ≡ joins → (place : ℕ)
-            → Written x
+        -- One row more is within the size.
+        room-for : joinsBy (length x) longest capacity ≡ true
+            → hasRow (length x) values longest capacity ≡ true
+            → leb (suc (length (w .values)) - replaced (w .capacity) (suc (length (w .values))))
+            maxValues ≡ true
+        unfolding hasRow
+        room-for j r =
+            let k : cond (eqb capacity 0) (ltb values maxValues) true ≡ true = rw j at r in
+            ap (λ cap. leb (suc (length (w .values)) - replaced cap (suc (length (w .values)))) maxValues)
+            (sym (s .capacity-is))
+            ∙ ap (λ n. leb (suc n - replaced (boundOf capacity) (suc n)) maxValues) (s .stand .holds .count)
+            ∙ row-is values capacity (ask .capacity) ∙ k
+
+        new-means : (joins : Bool) → joinsBy (length x) longest capacity ≡ joins
+            → hasRow (length x) values longest capacity ≡ true → (place : ℕ) → Written x
             → 0 ≡ faultNumber
             (firstFailed (stringTests sizes (tablesIn w stored) (item (value (nameAt w owner)) x)))
             → StringMeans (value (nameAt w owner)) w
             (valueAdded joins owner w (record { place = place; text = x })) stored x 0
             (stored + length x) (valueBits work neither 0 owner values capacity x)
         unfolding valueAdded newUri newName newValue newEntry laid
-        new-means true j place judged e =
+        new-means true j r place judged e =
             let y : Placed = record { place = place; text = x } in
             literal-means (value (nameAt w owner)) w stored x form e
             (literal-bits s stored x)
-            (value-joins-alike w (s .valid .refers) (replicate stored 0) y owner (joins-is ∙ j))
-            (value-grows (s .valid) owner y (s .row) (absent-fresh s stored b f absent))
+            (value-joins-alike w (s .valid .refers) (replicate stored 0) y owner (in-rows ∙ j))
+            (value-grows (s .valid) owner y (s .row) (absent-fresh s stored b f absent)
+            (subst (λ cap. isZero cap ≡ false) (s .capacity-is) (joins-open (length x) longest capacity j))
+            (leb-true _ _ (room-for j r)))
             (value-writable (s .writable) y judged owner)
-        new-means false j place judged e =
+        new-means false j r place judged e =
             literal-means (value (nameAt w owner)) w stored x form e
             (literal-bits s stored x)
             (rw (nothing-joins w (replicate stored 0) x (value (nameAt w owner)) refl refl
-            (rw (joins-is ∙ j))) (alike-same _))
+            (rw (in-rows ∙ j))) (alike-same _))
             (s .valid) (s .writable)
 
       module _ (short : length x ≤ maxString) {j : ValueJudged}
@@ -363,7 +389,7 @@ module _ {text : List ℕ} {x : Text} {owner values longest capacity stored : �
                   };
               meant = λ w valid writable few meant row place.
                   let s : Stands w = standing valid writable few meant row in
-                  new-means s enters refl place judged (sym z ∙ new-tests s short (p .number-is));
+                  new-means s enters refl l place judged (sym z ∙ new-tests s short (p .number-is));
             }
 
         pub value-new : Post j
