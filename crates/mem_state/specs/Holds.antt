@@ -69,6 +69,8 @@ pub record Ahead (w v : Rows) : Type 0 where
   pub learned : v .learned ≡ w .learned
   pub grammars : v .grammars ≡ w .grammars
   pub attributes : v .attributes ≡ w .attributes
+  pub longest : v .longest ≡ w .longest
+  pub capacity : v .capacity ≡ w .capacity
 
 -- ---- the numbers
 
