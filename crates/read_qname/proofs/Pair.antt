@@ -1,5 +1,5 @@
 -- A URI and a local name, read one after the other, over rows.
-use Prim.Native.Nat.{ℕ, suc, _+_, _*_, _≤_, _<_}
+use Prim.Native.Nat.{ℕ, suc, _+_, _*_, _-_, _≤_, _<_}
 use native.Mathlib.Omega.{arith}
 use mathlib.Core.Path.{_≡_, refl, sym, ap, subst, _∙_}
 use mathlib.Core.Bool.{Bool, true, false, cond, true≢false}
@@ -25,7 +25,7 @@ use Rattle.mem_entries.proofs.Entries.{entry-old, entry-new}
 use Rattle.mem_names.specs.Uris.{uriAt, uriText, UrisHold}
 use Rattle.mem_names.specs.Names.{NamesHold}
 use Rattle.mem_rows.specs.Rows.{Rows, placedAt, tablesOf, withUri, withName}
-use Rattle.mem_rows.specs.Valid.{Refers, Valid}
+use Rattle.mem_rows.specs.Valid.{Refers, Valid, goneIn}
 use Rattle.mem_rows.proofs.Joins.{uri-new, name-new}
 use Rattle.mem_state.specs.declared.Core.{Core}
 use Rattle.mem_state.specs.Joining.{uriJoining}
@@ -83,14 +83,16 @@ lies-grown {text} {text′} {stored} {stored′} {place} {size} g l =
 pub record Few (w : Rows) : Type 0 where
   pub uris : length (w .uris) ≤ maxUris
   pub names : length (w .names) ≤ maxNames
-  pub values : length (w .values) ≤ maxValues
+  pub values : length (w .values) - goneIn w ≤ maxValues
 
-pub few-rows : {c : Core} {w : Rows} → Bounded c → Counts c w → Few w
-few-rows b n =
+pub few-rows : {work text : List ℕ} {c : Core} {w : Rows} → Bounded c → Prepared work text c w
+    → Few w
+unfolding maxValues
+few-rows b p =
     record {
-      uris = omega (arith, b .uris, n .uris);
-      names = omega (arith, b .names, n .names);
-      values = omega (arith, b .values, n .values);
+      uris = omega (arith, b .uris, p .counts .uris);
+      names = omega (arith, b .names, p .counts .names);
+      values = omega (arith, p .holds .values .near);
     }
 
 pub tabled : {text : List ℕ} {stored : ℕ} {w : Rows} → Valid w → Few w → stored ≤ maxStore
@@ -137,7 +139,7 @@ module _ {a : Alignment} {stream : List ℕ} {at : ℕ} {text work : List ℕ} {
         outcome-weaken
         (λ _ v m. string-is (λ w. uri) adds-uri room (b .stored) post w (p .valid) v m)
         (post .meant s e w (take (c .stored) text)
-        (tabled (p .valid) (few-rows b (p .counts)) (b .stored) room)
+        (tabled (p .valid) (few-rows b p) (b .stored) room)
         (record { hold = uris-held }))
 
     module _ (z : u .number ≡ 0) {v : Placed × Tables} (i : StringIs uriAdded w text₁ u v) where
@@ -189,7 +191,7 @@ module _ {a : Alignment} {stream : List ℕ} {at : ℕ} {text work : List ℕ} {
 
       few-with : Few with-uri
       few-with =
-          few-uri (u .joins) (v .0) (few-rows b (p .counts))
+          few-uri (u .joins) (v .0) (few-rows b p)
           (λ j. omega (arith, rowed .left j, p .counts .uris))
 
       names-held : NamesHold work (throughout text₁ (u .stored)) (c .names) (with-uri .names)

@@ -8,9 +8,10 @@ use Rattle.spec_fields.specs.Field.{Alignment}
 use Rattle.text.specs.Text.{Text, part}
 use Rattle.spec_exi.specs.Settings.{boundOf}
 use Rattle.spec_exi.specs.Sizes.{maxStream, maxStore, maxValues}
-use Rattle.spec_exi.specs.Tables.{Role, value, replaced, globalId, valuesOf, allValues}
+use Rattle.spec_exi.specs.Tables.{Role, value, replaced, valuesOf, allValues}
 use Rattle.mem_layout.specs.Layout.{nameRows, workCells}
 use Rattle.mem_entries.specs.Texts.{hashOf}
+use Rattle.mem_values.specs.Window.{newestIn}
 use Rattle.mem_values.specs.Forms.{ValuesStand}
 use Rattle.mem_rows.specs.Rows.{Rows, nameAt, tablesOf, withValue}
 use Rattle.read_literal.specs.Literal.{LiteralFit}
@@ -56,7 +57,7 @@ pub record SoughtPre (text : List ℕ) (stored n hash : ℕ) (work : List ℕ) (
 pub record ValueRows (work text : List ℕ) (stored values longest capacity owner : ℕ) (w : Rows) :
     Type 0 where
   pub stand : ValuesStand work text stored values (replaced (w .capacity) values)
-      (globalId (w .capacity) values) (w .values) (w .capacity)
+      (newestIn (w .capacity) values) (w .values) (w .capacity)
   pub longest-is : boundOf longest ≡ w .longest
   pub capacity-is : boundOf capacity ≡ w .capacity
   pub row : owner < length (w .names)
@@ -86,5 +87,6 @@ ValuePost a read stream at text stored work values longest capacity owner text�
 -- store.
 pub record JoinsWithin (values capacity : ℕ) (text : List ℕ) (r : StringRead) : Type 0 where
   pub left : r .joins ≡ true → values < r .stored
+  pub room : r .joins ≡ true → r .stored ≤ maxStore
   pub unbounded : r .joins ≡ true → capacity ≡ 0 → values < maxValues
   pub hashed : Hashed text r

@@ -146,7 +146,7 @@ fn new_value(
     if row != 0 {
         return read_partition::dropped(LOOSE, read.next, n, stored, text);
     }
-    if !mem_values::joins(n, longest, capacity) {
+    if !mem_values::joins(n as usize, longest, capacity) {
         return read_partition::laid(read.next, stored, n, 0, false, 0);
     }
     if (capacity == 0) & (MAX_VALUES <= values as usize) {
