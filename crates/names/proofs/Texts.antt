@@ -9,7 +9,8 @@ use borrow.Author.Tests.{eq-eqb, ne-eqb}
 use Rattle.spec_fields.specs.Refusal.{numberOf, character, name}
 use Rattle.spec_fields.proofs.Tests.{split}
 use Rattle.text.specs.Text.{Text}
-use Rattle.spec_exi.specs.Tables.{Placed, Tables, Role, target, commentText, instructionText}
+use Rattle.spec_exi.specs.Tables.{Placed, Values, Tables, Role, target, commentText}
+use Rattle.spec_exi.specs.Tables.{instructionText}
 use Rattle.spec_exi.specs.Tables.{literals, partitionsOf, newUri, newName, newValue, nameAllowed}
 use Rattle.spec_exi.specs.Tables.{textAllowed}
 use Rattle.names.specs.Texts.{roleOf, faultOf}

@@ -9,7 +9,7 @@ use lib.ListN.{length, take}
 use Rattle.spec_fields.specs.Parser.{Parser, return, _>>=_}
 use Rattle.spec_fields.specs.Field.{Alignment, bitPacked}
 use Rattle.spec_exi.specs.Settings.{Settings}
-use Rattle.spec_exi.specs.Sizes.{sizes, maxStore, maxValues}
+use Rattle.spec_exi.specs.Sizes.{sizes, maxStore}
 use Rattle.spec_exi.specs.Event.{QName, Event, startDocument, endDocument, endElement}
 use Rattle.spec_exi.specs.Event.{startElement, attribute, characters, comment, instruction}
 use Rattle.spec_exi.specs.Event.{Kind, SD, ED, SE, AT, EE, CH, CM, PI, kindOf, nameOf, mapEvent}

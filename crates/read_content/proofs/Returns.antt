@@ -1,5 +1,5 @@
 -- The answers of the functions of each kind, with what they leave.
-use Prim.Native.Nat.{ℕ, _+_, _*_, _-_, _≤_, _<_}
+use Prim.Native.Nat.{ℕ, _+_, _*_, _≤_, _<_}
 use native.Mathlib.Omega.{arith}
 use mathlib.Core.Path.{_≡_, refl, sym, ap, subst, _∙_}
 use mathlib.Core.Bool.{Bool, true, false, cond, true≢false}
@@ -9,7 +9,7 @@ use lib.ListN.{length, take}
 use Rattle.spec_fields.specs.Parser.{Parser, return, _>>=_}
 use Rattle.spec_fields.specs.Field.{Alignment, bitPacked}
 use Rattle.spec_exi.specs.Settings.{Settings}
-use Rattle.spec_exi.specs.Sizes.{sizes, maxStore, maxUris, maxNames, maxValues}
+use Rattle.spec_exi.specs.Sizes.{sizes, maxStore, maxUris, maxNames}
 use Rattle.spec_exi.specs.Event.{QName, Event, startDocument, endDocument, endElement}
 use Rattle.spec_exi.specs.Event.{startElement, attribute, characters, comment, instruction}
 use Rattle.spec_exi.specs.Event.{Kind, SD, ED, SE, AT, EE, CH, CM, PI, kindOf, nameOf, mapEvent}
@@ -71,14 +71,6 @@ record SameValues (w v : Rows) : Type 0 where
   longest : v .longest ≡ w .longest
   capacity : v .capacity ≡ w .capacity
 
-few-values : {w v : Rows} → Few w → SameValues w v → length (v .values) - goneIn v ≤ maxValues
-few-values {w} {v} f s =
-    subst
-    (λ (b : Option ℕ). length (v .values) - replaced b (length (v .values)) ≤ maxValues)
-    (sym (s .capacity))
-    (subst (λ (es : Entries). length es - replaced (w .capacity) (length es) ≤ maxValues)
-    (sym (s .values)) (f .values))
-
 module _ {stream : List ℕ} {at : ℕ} {text work : List ℕ} {c : Core} {p : ProductionRead}
     (pre : ContentPre stream at text work c p) where
   abbrev room : maxStore ≤ length text
@@ -96,7 +88,6 @@ module _ {stream : List ℕ} {at : ℕ} {text work : List ℕ} {c : Core} {p : P
         uris = λ j. absurd (true≢false (sym j));
         names = λ j. absurd (true≢false (sym j));
         values = λ j. absurd (true≢false (sym j));
-        unbounded = λ j. absurd (true≢false (sym j));
         uri = omega arith;
         name = omega arith;
         owner = omega arith;
@@ -151,7 +142,6 @@ module _ {stream : List ℕ} {at : ℕ} {text work : List ℕ} {c : Core} {p : P
             uris = b .uris;
             names = b .names;
             values = λ j. absurd (true≢false (sym j ∙ ap (λ x. x .joins) (b .value)));
-            unbounded = λ j. absurd (true≢false (sym j ∙ ap (λ x. x .joins) (b .value)));
             uri = b .uri;
             name = b .name;
             owner = omega (arith, b .owner, b .name);
@@ -232,6 +222,7 @@ module _ {stream : List ℕ} {at : ℕ} {text work : List ℕ} {c : Core} {p : P
             (ap length (same .values) ∙ sym (q .counts .values)) (stand-of same);
         longest-is = q .counts .longest ∙ sym (same .longest);
         capacity-is = q .counts .capacity ∙ sym (same .capacity);
+        few = pre .pair .bounded .capacity;
         row = low;
       }
     where
@@ -254,7 +245,7 @@ module _ {stream : List ℕ} {at : ℕ} {text work : List ℕ} {c : Core} {p : P
   module _ {a : Alignment} {text₁ : List ℕ} {x : StringRead}
       (post : ValuePost a asValue stream at text (c .stored) work (c .values) (c .longest)
       (c .capacity) (c .top) text₁ x)
-      (joins : JoinsWithin (c .values) (c .capacity) text₁ x) (i : kindAt (p .kind) ≡ CH)
+      (joins : JoinsWithin (c .values) text₁ x) (i : kindAt (p .kind) ≡ CH)
       (j : p .kind ≡ kindNumber CH) where
       abbrev charactersAs : Content
       charactersAs =
@@ -282,7 +273,7 @@ module _ {stream : List ℕ} {at : ℕ} {text work : List ℕ} {c : Core} {p : P
           subst
           (λ (o : Role). Outcome (readString sizes s (tablesAt text (c .stored) w) o) stream at
           (x .number) (x .next) (StringIs (λ b w y. valueAdded b (c .top) w y) w text₁ x)) (sym role)
-          (value-outcome room stored-few post s e (q .valid) (few-rows (pre .pair .bounded) q)
+          (value-outcome room stored-few post s e (q .valid) (few-rows (pre .pair .bounded) (q .counts))
           (own-rows q row))
 
       pub characters-refused : 0 < x .number → ContentPost a stream at text work c p text₁
@@ -319,7 +310,6 @@ module _ {stream : List ℕ} {at : ℕ} {text work : List ℕ} {c : Core} {p : P
             uris = λ b. absurd (true≢false (sym b));
             names = λ b. absurd (true≢false (sym b));
             values = joins .left;
-            unbounded = joins .unbounded;
             uri = omega arith;
             name = omega arith;
             owner = pre .pair .bounded .top;
@@ -408,7 +398,6 @@ module _ {stream : List ℕ} {at : ℕ} {text work : List ℕ} {c : Core} {p : P
                 few-one (n .strings .«new_name») (c .names) maxNames (b .names) (bounds .names),
                 names-counted (m .joins) (q .counts),
               );
-              values = few-values (few-rows (pre .pair .bounded) q) (name-values m);
             }
 
         named-rows :
@@ -427,7 +416,7 @@ module _ {stream : List ℕ} {at : ℕ} {text work : List ℕ} {c : Core} {p : P
       module _ {text₂ : List ℕ} {x : StringRead}
           (post₂ : ValuePost a asValue stream (n .next) text₁ (n .stored) work (c .values)
           (c .longest) (c .capacity) (n .strings .owner) text₂ x)
-          (joins : JoinsWithin (c .values) (c .capacity) text₂ x) where
+          (joins : JoinsWithin (c .values) text₂ x) where
         abbrev attributeAs : Content
         attributeAs =
             record {
@@ -519,7 +508,6 @@ module _ {stream : List ℕ} {at : ℕ} {text work : List ℕ} {c : Core} {p : P
               uris = bounds .uris;
               names = bounds .names;
               values = joins .left;
-              unbounded = joins .unbounded;
               uri = bounds .uri;
               name = bounds .name;
               owner = omega (arith, bounds .owner, bounds .name);
@@ -535,7 +523,7 @@ module _ {stream : List ℕ} {at : ℕ} {text work : List ℕ} {c : Core} {p : P
   -- ---- a comment
 
   few-of : {w : Rows} → Prepared work text c w → Few w
-  few-of q = few-rows (pre .pair .bounded) q
+  few-of q = few-rows (pre .pair .bounded) (q .counts)
 
   module _ {text₁ : List ℕ} {x : StringRead}
       (post : TextPost (asString commentText) stream at text (c .stored) text₁ x)

@@ -7,7 +7,7 @@ use mathlib.Core.Option.{Option, none, some}
 use lib.ListN.{length}
 use Rattle.spec_fields.specs.Field.{Alignment}
 use Rattle.spec_exi.specs.Settings.{Settings}
-use Rattle.spec_exi.specs.Sizes.{sizes, maxUris, maxNames, maxValues}
+use Rattle.spec_exi.specs.Sizes.{sizes, maxUris, maxNames}
 use Rattle.spec_exi.specs.Event.{QName, Event, kindOf, nameOf, mapEvent, CH}
 use Rattle.spec_exi.specs.Tables.{Placed, spanOf, Tables, value}
 use Rattle.spec_exi.specs.Grammar.{State, kindNumber}
@@ -85,7 +85,6 @@ pub record ContentBounds (c : Core) (stored : ℕ) (s : Strings) : Type 0 where
   pub uris : s .«new_uri» ≡ true → c .uris < maxUris
   pub names : s .«new_name» ≡ true → c .names < maxNames
   pub values : s .«new_value» ≡ true → c .values < stored
-  pub unbounded : s .«new_value» ≡ true → c .capacity ≡ 0 → c .values < maxValues
   pub uri : s .«uri_row» < uriRows
   pub name : s .«name_row» < nameRows
   pub owner : s .owner < nameRows

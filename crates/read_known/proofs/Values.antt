@@ -89,7 +89,7 @@ module _ {stream events text work : List ℕ} {c : Core} {cell n : ℕ}
 
   -- Where it joins there is room.
   pub join-asks : {text₁ : List ℕ} {x : StringRead} {owner : ℕ}
-      → JoinsWithin (c .values) (c .capacity) text₁ x → owner < nameRows
+      → JoinsWithin (c .values) text₁ x → owner < nameRows
       → commit.ValuePre work (c .values) owner (joiningOf x)
   unfolding maxStore
   join-asks joins low =
@@ -103,7 +103,7 @@ module _ {s : Settings} {stream events text work : List ℕ} {c : Core} {cell n 
     (pre : StepPre stream events text work c cell n) {p : ProductionRead}
     (code : CodeRead s stream work c p) (learned : p .learned ≡ true)
     {a : Alignment} (same : s .alignment ≡ a) {text₁ : List ℕ} {x : StringRead}
-    (joins : JoinsWithin (c .values) (c .capacity) text₁ x) where
+    (joins : JoinsWithin (c .values) text₁ x) where
   abbrev ValueRead : ℕ → Type 0
   ValueRead owner = ValueOf (s .alignment) stream text work c p owner text₁ x
 

@@ -1,5 +1,5 @@
 -- A URI and a local name, read one after the other, over rows.
-use Prim.Native.Nat.{ℕ, suc, _+_, _*_, _-_, _≤_, _<_}
+use Prim.Native.Nat.{ℕ, suc, _+_, _*_, _≤_, _<_}
 use native.Mathlib.Omega.{arith}
 use mathlib.Core.Path.{_≡_, refl, sym, ap, subst, _∙_}
 use mathlib.Core.Bool.{Bool, true, false, cond, true≢false}
@@ -11,7 +11,7 @@ use Rattle.spec_fields.specs.Field.{Alignment}
 use Rattle.text.specs.Text.{Text, Span, part}
 use Rattle.text.proofs.Parts.{part-take}
 use Rattle.spec_exi.specs.Settings.{Settings}
-use Rattle.spec_exi.specs.Sizes.{sizes, maxStore, maxUris, maxNames, maxValues}
+use Rattle.spec_exi.specs.Sizes.{sizes, maxStore, maxUris, maxNames}
 use Rattle.spec_exi.specs.Event.{QName}
 use Rattle.spec_exi.specs.Tables.{Placed, Entry, Tables, spanOf, Role, uri, local}
 use Rattle.spec_exi.specs.Reader.{readString, readName}
@@ -25,7 +25,7 @@ use Rattle.mem_entries.proofs.Entries.{entry-old, entry-new}
 use Rattle.mem_names.specs.Uris.{uriAt, uriText, UrisHold}
 use Rattle.mem_names.specs.Names.{NamesHold}
 use Rattle.mem_rows.specs.Rows.{Rows, placedAt, tablesOf, withUri, withName}
-use Rattle.mem_rows.specs.Valid.{Refers, Valid, goneIn}
+use Rattle.mem_rows.specs.Valid.{Refers, Valid}
 use Rattle.mem_rows.proofs.Joins.{uri-new, name-new}
 use Rattle.mem_state.specs.declared.Core.{Core}
 use Rattle.mem_state.specs.Joining.{uriJoining}
@@ -83,17 +83,10 @@ lies-grown {text} {text′} {stored} {stored′} {place} {size} g l =
 pub record Few (w : Rows) : Type 0 where
   pub uris : length (w .uris) ≤ maxUris
   pub names : length (w .names) ≤ maxNames
-  pub values : length (w .values) - goneIn w ≤ maxValues
 
-pub few-rows : {work text : List ℕ} {c : Core} {w : Rows} → Bounded c → Prepared work text c w
-    → Few w
-unfolding maxValues
-few-rows b p =
-    record {
-      uris = omega (arith, b .uris, p .counts .uris);
-      names = omega (arith, b .names, p .counts .names);
-      values = omega (arith, p .holds .values .near);
-    }
+pub few-rows : {c : Core} {w : Rows} → Bounded c → Counts c w → Few w
+few-rows b n =
+    record { uris = omega (arith, b .uris, n .uris); names = omega (arith, b .names, n .names) }
 
 pub tabled : {text : List ℕ} {stored : ℕ} {w : Rows} → Valid w → Few w → stored ≤ maxStore
     → maxStore ≤ length text → Tabled text stored w (take stored text)
@@ -103,7 +96,7 @@ tabled {text} {stored} {w} v f h room =
       valid = v;
       is = refl;
       size = n;
-      within = rows-within w (take stored text) (f .uris) (f .names) (f .values) (omega arith);
+      within = rows-within w (take stored text) (f .uris) (f .names) (v .window .few) (omega arith);
     }
 
 -- ---- the URI
@@ -115,7 +108,6 @@ few-uri true {w} y f h =
     record {
       uris = omega (arith, h refl, length-append (w .uris) (y ∷ []));
       names = f .names;
-      values = f .values;
     }
 few-uri false y f h = f
 
@@ -139,7 +131,7 @@ module _ {a : Alignment} {stream : List ℕ} {at : ℕ} {text work : List ℕ} {
         outcome-weaken
         (λ _ v m. string-is (λ w. uri) adds-uri room (b .stored) post w (p .valid) v m)
         (post .meant s e w (take (c .stored) text)
-        (tabled (p .valid) (few-rows b p) (b .stored) room)
+        (tabled (p .valid) (few-rows b (p .counts)) (b .stored) room)
         (record { hold = uris-held }))
 
     module _ (z : u .number ≡ 0) {v : Placed × Tables} (i : StringIs uriAdded w text₁ u v) where
@@ -191,7 +183,7 @@ module _ {a : Alignment} {stream : List ℕ} {at : ℕ} {text work : List ℕ} {
 
       few-with : Few with-uri
       few-with =
-          few-uri (u .joins) (v .0) (few-rows b p)
+          few-uri (u .joins) (v .0) (few-rows b (p .counts))
           (λ j. omega (arith, rowed .left j, p .counts .uris))
 
       names-held : NamesHold work (throughout text₁ (u .stored)) (c .names) (with-uri .names)

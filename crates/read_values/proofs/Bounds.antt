@@ -102,12 +102,11 @@ module _ {stream : List ℕ} {at : ℕ} {text : List ℕ} {stored : ℕ} {work :
       }
 
 -- A string that does not join.
-pub joins-not : {values capacity : ℕ} {text : List ℕ} {r : StringRead} → r .joins ≡ false
-    → JoinsWithin values capacity text r
+pub joins-not : {values : ℕ} {text : List ℕ} {r : StringRead} → r .joins ≡ false
+    → JoinsWithin values text r
 joins-not e =
     record {
       left = λ j. absurd (true≢false (sym j ∙ e));
       room = λ j. absurd (true≢false (sym j ∙ e));
-      unbounded = λ j. absurd (true≢false (sym j ∙ e));
       hashed = record { is = λ j. absurd (true≢false (sym j ∙ e)) };
     }

@@ -1,5 +1,5 @@
 -- What reading a value asks and leaves.
-use Prim.Native.Nat.{ℕ, _*_, _≤_, _<_}
+use Prim.Native.Nat.{ℕ, _+_, _*_, _≤_, _<_}
 use mathlib.Core.Path.{_≡_}
 use mathlib.Core.Bool.{true}
 use mathlib.Core.List.{List}
@@ -52,14 +52,15 @@ pub record SoughtPre (text : List ℕ) (stored n hash : ℕ) (work : List ℕ) (
 
 -- ---- what is left
 
--- Memory holds the values of w, of which no two present are the same; the numbers mean the bounds
--- of w (P5); the name has a row in w.
+-- Memory holds the values of w, of which no two present are the same; the numbers mean the settings
+-- of w (P5), and the capacity is within its size; the name has a row in w.
 pub record ValueRows (work text : List ℕ) (stored values longest capacity owner : ℕ) (w : Rows) :
     Type 0 where
   pub stand : ValuesStand work text stored values (replaced (w .capacity) values)
       (newestIn (w .capacity) values) (w .values) (w .capacity)
   pub longest-is : boundOf longest ≡ w .longest
   pub capacity-is : boundOf capacity ≡ w .capacity
+  pub few : capacity ≤ maxValues + 1
   pub row : owner < length (w .names)
 
 abbrev pub valueRole : ℕ → Rows → Role
@@ -85,8 +86,7 @@ ValuePost a read stream at text stored work values longest capacity owner text�
 
 -- On every memory: the table has room for a value that is to join, which has a code point in the
 -- store.
-pub record JoinsWithin (values capacity : ℕ) (text : List ℕ) (r : StringRead) : Type 0 where
+pub record JoinsWithin (values : ℕ) (text : List ℕ) (r : StringRead) : Type 0 where
   pub left : r .joins ≡ true → values < r .stored
   pub room : r .joins ≡ true → r .stored ≤ maxStore
-  pub unbounded : r .joins ≡ true → capacity ≡ 0 → values < maxValues
   pub hashed : Hashed text r

@@ -43,7 +43,7 @@ fn own_value(
         ((text : List ℕ) (longest : ℕ) → ValuePost (alignmentOf aligned) asOwn
         (now (stream .entry)) at text stored (now (work .entry)) values longest capacity owner text
         r) ⌝ }
-    ensures { λ r. ⌜ ((text : List ℕ) → JoinsWithin values capacity text r) ⌝ }
+    ensures { λ r. ⌜ ((text : List ℕ) → JoinsWithin values text r) ⌝ }
 {
     let among = mem_values::count_local(work, owner);
     match read_field::choice(aligned, stream, at, among) {
@@ -76,7 +76,7 @@ fn any_value(
         ((text : List ℕ) (longest : ℕ) → ValuePost (alignmentOf aligned) asAny
         (now (stream .entry)) at text stored (now (work .entry)) values longest capacity owner text
         r) ⌝ }
-    ensures { λ r. ⌜ ((text : List ℕ) → JoinsWithin values capacity text r) ⌝ }
+    ensures { λ r. ⌜ ((text : List ℕ) → JoinsWithin values text r) ⌝ }
 {
     let low = mem_values::replaced(values, capacity);
     match read_field::choice(aligned, stream, at, values - low) {
@@ -136,7 +136,7 @@ fn new_value(
         ((a : Alignment) (owner : ℕ) → ValuePost a (asNew n) (now (stream .entry)) at
         (now (text .entry)) stored (now (work .entry)) values longest capacity owner
         (now (text .exit)) r) ⌝ }
-    ensures { λ r. ⌜ JoinsWithin values capacity (now (text .exit)) r ⌝ }
+    ensures { λ r. ⌜ JoinsWithin values (now (text .exit)) r ⌝ }
 {
     let read = read_literal::read_literal(stream, at, text, stored, n);
     if read.number != 0 {
@@ -173,7 +173,7 @@ pub fn read_value(
     ensures { λ r. ⌜
         ValuePost (alignmentOf aligned) asValue (now (stream .entry)) at (now (text .entry)) stored
         (now (work .entry)) values longest capacity owner (now (text .exit)) r ⌝ }
-    ensures { λ r. ⌜ JoinsWithin values capacity (now (text .exit)) r ⌝ }
+    ensures { λ r. ⌜ JoinsWithin values (now (text .exit)) r ⌝ }
 {
     match read_field::unsigned(stream, at) {
         Field::Refused(k) => read_partition::refused(k as u32, at, 0, stored),
