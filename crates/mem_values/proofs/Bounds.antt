@@ -3,11 +3,11 @@
 use Prim.Native.Nat.{ℕ, zero, suc, _-_, _%_, _≤_, _<_}
 use native.Mathlib.Omega.{arith}
 use mathlib.Core.Path.{_≡_, refl, sym, ap, _∙_}
-use mathlib.Core.Bool.{Bool, true, false, not, _&&_, and-true}
+use mathlib.Core.Bool.{Bool, true, false, not, _&&_, true≢false}
 use mathlib.Core.List.{[], _∷_}
 use lib.ListN.{length}
-use lib.Dec.{eqb, ltb, leb}
-use borrow.Author.Tests.{eq-eqb, ne-eqb, ltb-true, ltb-false, le-leb, lt-leb}
+use lib.Dec.{eqb, ltb}
+use borrow.Author.Tests.{eqb-true, eqb-false, eq-eqb, ne-eqb, ltb-true, ltb-false, le-leb, lt-leb}
 use Rattle.text.specs.Text.{Text, isEmpty}
 use Rattle.mem_chain.proofs.Last.{split}
 use Rattle.spec_exi.specs.Settings.{boundOf}
@@ -55,6 +55,13 @@ short-joins size (suc l) capacity a b c =
     ∙ le-leb size l (omega (arith, ltb-true size (suc l) t))))
     (λ t. t ∙ sym (joins-by size (suc l) capacity a b
     ∙ lt-leb size l (omega (arith, ltb-false size (suc l) t))))
+
+-- What joins has a code point.
+pub joins-some : (size longest capacity : ℕ) → joinsBy size longest capacity ≡ true → 0 < size
+joins-some size longest capacity e =
+    split (eqb size 0)
+    (λ t. absurd (true≢false (sym (empty-not size longest capacity (eqb-true size 0 t) ∙ e))))
+    (λ t. omega (arith, eqb-false size 0 t))
 
 empty-is : (x : Text) → isEmpty x ≡ eqb (length x) 0
 unfolding isEmpty

@@ -1,22 +1,25 @@
 -- The string of a number, as the definitions have it: what a hit that is read stands for.
-use Prim.Native.Nat.{ℕ, zero, suc, _-_, _<_}
+use Prim.Native.Nat.{ℕ, zero, suc, _+_, _-_, _<_}
 use native.Mathlib.Omega.{arith}
 use mathlib.Core.Path.{_≡_, refl, sym, ap, _∙_}
 use mathlib.Core.Bool.{Bool, true}
 use mathlib.Core.List.{List, [], _∷_, _++_, map, map-map}
 use mathlib.Core.Option.{Option, some, Option·map}
 use lib.ListN.{length, take, drop, getElem?, length-map}
-use lib.Dec.{eqb}
+use lib.Dec.{eqb, ltb}
+use borrow.Author.Tests.{ltb-true}
 use Rattle.text.specs.Text.{Text}
 use Rattle.spec_exi.specs.Event.{QName, eqName}
 use Rattle.spec_exi.specs.Tables.{Placed, Entry, Tables, replaced, globalId, gone}
 use Rattle.spec_exi.specs.Tables.{presentValues, valuesOf, byNumber, allValues}
 use Rattle.spec_exi.proofs.Codes.{eqName-refl, eqName-eq}
 use Rattle.mem_chain.specs.Chain.{lastThat, since}
+use Rattle.mem_chain.proofs.Last.{split}
 use Rattle.mem_index.specs.Index.{isNumbered}
 use Rattle.mem_entries.specs.Entries.{Entries, entryAt, keyAt, slots, named, Keys, Keyed}
 use Rattle.mem_entries.proofs.Alike.{at-map, at-entry, key-test, named-slots, map-append}
 use Rattle.mem_values.specs.Window.{insertion, Ordered, presentStrings, Capacity}
+use Rattle.mem_values.specs.Forms.{nthOf}
 use Rattle.mem_values.proofs.Answers.{local-string, local-gone}
 use Rattle.mem_values.proofs.Order.{ordered}
 use Rattle.mem_values.proofs.Global.{present-length, present-at}
@@ -112,14 +115,29 @@ module _ {name : ℕ → QName Text} {isKey : ℕ → Bool} {cap : Option ℕ} (
       ∙ sym (map-number (λ e. some (e .string)) (globalId cap (length es))
       (drop (replaced cap (length es)) es))
 
-  -- The answer of `nth_global`.
-  pub global-entry-is : Capacity cap (length es) → (i : ℕ)
+  global-at : Capacity cap (length es) → (i : ℕ)
       → i < length es - replaced cap (length es)
       → getElem? (allValues t) i
       ≡ some (some
       (entryAt es
       (insertion (length es) (replaced cap (length es)) (globalId cap (length es)) i) .string))
-  global-entry-is p i l = ap (λ ss. getElem? ss i) global-values ∙ present-slot es p i l
+  global-at p i l = ap (λ ss. getElem? ss i) global-values ∙ present-slot es p i l
+
+  -- The answer of `nth_global`.
+  pub global-entry-is : Capacity cap (length es) → {newer : ℕ}
+      → newer ≡ globalId cap (length es) → (i g : ℕ)
+      → suc g ≡ nthOf (length es) (replaced cap (length es)) newer i
+      → getElem? (allValues t) i ≡ some (some (entryAt es g .string))
+  unfolding nthOf
+  global-entry-is p {newer} q i g e =
+      split (ltb i (length es - replaced cap (length es)))
+      (λ u.
+      let z : suc g ≡ insertion (length es) (replaced cap (length es)) newer i + 1 = rw u at e in
+      let y : insertion (length es) (replaced cap (length es)) newer i ≡ g = omega arith in
+      global-at p i (ltb-true i (length es - replaced cap (length es)) u)
+      ∙ ap (λ k. some (some (entryAt es k .string)))
+      (ap (λ n. insertion (length es) (replaced cap (length es)) n i) (sym q) ∙ y))
+      (λ u. let z : suc g ≡ 0 = rw u at e in absurd (omega arith))
 
   module _ (k : ℕ) (l : isKey k ≡ true) (i : ℕ) where
     slot-entry : getElem? (slots (replaced cap (length es)) (eqb k) es) i
