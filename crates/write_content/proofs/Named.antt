@@ -99,7 +99,7 @@ module _ {opening text work : List ℕ} {c : Core} (pre : ContentPre work c) whe
           room = pre .room;
           low = post .bounds z .name;
           few = omega (arith, pre .bounded .values, post .bounds z .grows);
-          capacity = pre .bounded .capacity;
+          bound = pre .bounded .capacity;
           store = post .bounds z .store;
         }
 

@@ -6,7 +6,7 @@ use mathlib.Core.Path.{_≡_, refl, sym, ap, subst, _∙_}
 use mathlib.Core.Bool.{true}
 use mathlib.Core.List.{List}
 use mathlib.Core.Option.{Option}
-use lib.ListN.{length}
+use lib.ListN.{length, replicate}
 use lib.Dec.{eqb}
 use Rattle.spec_fields.specs.Field.{Alignment}
 use Rattle.spec_fields.proofs.Tests.{split}
@@ -127,7 +127,7 @@ module _ {work text : List ℕ} {owner values longest capacity : ℕ} {w : Rows}
   tabled =
       record {
         capacity = sym (s .capacity-is);
-        alike = values-alike w _;
+        alike = values-alike w (replicate stored 0);
         keys = name-keys (s .valid);
         keyed = value-keys (s .valid);
       }

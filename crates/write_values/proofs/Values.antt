@@ -168,8 +168,9 @@ row-is : (values capacity : ℕ) → capacity ≤ maxValues + 1
 unfolding boundOf replaced
 row-is values zero h = room-unbounded values
 row-is values (suc c) h =
-    le-leb (suc values - (suc values - c)) maxValues
-    (room-bounded (suc c) (suc values) (λ e. omega arith) h)
+    rw (ne-eqb (suc c) 0 (λ e. omega arith))
+    (le-leb (suc values - (suc values - c)) maxValues
+    (room-bounded (suc c) (suc values) (λ e. omega arith) h))
 
 -- ---- any value
 
@@ -196,21 +197,20 @@ form-given {work} {text} {x} {h} {values} {capacity} {low} {newer} {owner} {r} p
     subst (λ k. Formed work text x h values k (newestIn (boundOf capacity) values) owner r) (p .is)
     (subst (λ k. Formed work text x h values low k owner r) (n .is) f)
 
+absent-form : {r : Form} → r ≡ Absent → formIn r ≡ literal
+unfolding formIn
+absent-form e = ap formIn e
+
+pub sought-asks : {work : List ℕ} {owner values capacity stored : ℕ}
+    → ValuePre work owner values capacity stored → FormPre work values
+sought-asks ask = record { room = ask .room; few = omega (arith, ask .few, ask .store) }
+
 module _ {text : List ℕ} {x : Text} {owner values longest capacity stored : ℕ} {work : List ℕ}
     (ask : ValuePre work owner values capacity stored) where
-  abbrev Post : ValueJudged → Type 0
-  Post = ValuePost text x owner values longest capacity stored work
-
-  abbrev Stands : Rows → Type 0
-  Stands = Standing work text owner values longest capacity
-
-  pub sought-asks : FormPre work values
-  sought-asks = record { room = ask .room; few = omega (arith, ask .few, ask .store) }
-
   value-refused : {number : ℕ} → 0 < number
-      → ((w : Rows) → Stands w → (v : Rows) (bits : Alignment → Bits)
+      → ((w : Rows) → Standing work text owner values longest capacity w → (v : Rows) (bits : Alignment → Bits)
       → StringMeans (value (nameAt w owner)) w v stored x number stored bits)
-      → Post (refusedAs number stored)
+      → ValuePost text x owner values longest capacity stored work (refusedAs number stored)
   value-refused h means =
       record {
         refused = λ _. refl;
@@ -219,7 +219,7 @@ module _ {text : List ℕ} {x : Text} {owner values longest capacity stored : �
             means w (standing valid writable few meant row) _ _;
       }
 
-  pub value-long : maxString < length x → Post (refusedAs numberLimit stored)
+  pub value-long : maxString < length x → ValuePost text x owner values longest capacity stored work (refusedAs numberLimit stored)
   value-long h =
       value-refused (omega arith) (λ w _ _ _. long-means (value (nameAt w owner)) w stored x h)
 
@@ -228,10 +228,10 @@ module _ {text : List ℕ} {x : Text} {owner values longest capacity stored : �
   module _ {h : ℕ} (b : h ≡ hashOf x) {r : Form}
       (f : FormPost work text x h values capacity owner r) where
     value-found : {j i : ℕ} → formIn r ≡ hit j i → j < neither
-        → ((w : Rows) → Stands w → (a : Alignment)
+        → ((w : Rows) → Standing work text owner values longest capacity w → (a : Alignment)
         → formBits a (partitionsOf (tablesIn w stored) (value (nameAt w owner))) (hit j i) x
         ≡ valueBits work j i owner values capacity x a)
-        → Post (foundAs j i stored)
+        → ValuePost text x owner values longest capacity stored work (foundAs j i stored)
     unfolding nameAllowed textAllowed valueAdded
     value-found {j} {i} e l bits =
         record {
@@ -248,17 +248,17 @@ module _ {text : List ℕ} {x : Text} {owner values longest capacity stored : �
                 store = ask .store;
               };
           meant = λ w valid writable few meant row place.
-              let s : Stands w = standing valid writable few meant row in
+              let s : Standing work text owner values longest capacity w = standing valid writable few meant row in
               hit-means (value (nameAt w owner)) w stored x (form-is s stored b f ∙ e) few (ask .store)
               (hit-written s stored b f e) refl refl valid writable (bits w s);
         }
 
-    pub value-own : {i : ℕ} → r ≡ Local i → Post (foundAs own i stored)
+    pub value-own : {i : ℕ} → r ≡ Local i → ValuePost text x owner values longest capacity stored work (foundAs own i stored)
     unfolding formIn
     value-own e =
         value-found (ap formIn e) (omega arith) (λ w s. own-bits s stored b f (ap formIn e) (ask .low))
 
-    pub value-all : {i : ℕ} → r ≡ Global i → Post (foundAs all i stored)
+    pub value-all : {i : ℕ} → r ≡ Global i → ValuePost text x owner values longest capacity stored work (foundAs all i stored)
     unfolding formIn
     value-all e =
         value-found (ap formIn e) (omega arith) (λ w s. all-bits s stored b f (ap formIn e))
@@ -266,13 +266,9 @@ module _ {text : List ℕ} {x : Text} {owner values longest capacity stored : �
     -- ---- a literal
 
     module _ (e : r ≡ Absent) where
-      absent : formIn r ≡ literal
-      unfolding formIn
-      absent = ap formIn e
-
-      module _ {w : Rows} (s : Stands w) where
+      module _ {w : Rows} (s : Standing work text owner values longest capacity w) where
         form : formOf (partitionsOf (tablesIn w stored) (value (nameAt w owner))) x ≡ literal
-        form = form-is s stored b f ∙ absent
+        form = form-is s stored b f ∙ (absent-form e)
 
         within : withinTables sizes (tablesIn w stored) ≡ true
         within = few-within (s .few) (ask .store)
@@ -297,7 +293,7 @@ module _ {text : List ℕ} {x : Text} {owner values longest capacity stored : �
             (values-count w (replicate stored 0) ∙ s .stand .holds .count)
             ∙ ap (λ cap. leb (suc values - replaced cap (suc values)) maxValues)
             (tables-capacity w (replicate stored 0) ∙ sym (s .capacity-is))
-            ∙ row-is values capacity (ask .capacity)
+            ∙ row-is values capacity (ask .bound)
 
         within-is : stored + length x ≤ maxStore
             → withinTables sizes (added (tablesIn w stored) (value (nameAt w owner)) x)
@@ -335,7 +331,7 @@ module _ {text : List ℕ} {x : Text} {owner values longest capacity stored : �
             ap (λ cap. leb (suc (length (w .values)) - replaced cap (suc (length (w .values)))) maxValues)
             (sym (s .capacity-is))
             ∙ ap (λ n. leb (suc n - replaced (boundOf capacity) (suc n)) maxValues) (s .stand .holds .count)
-            ∙ row-is values capacity (ask .capacity) ∙ k
+            ∙ row-is values capacity (ask .bound) ∙ k
 
         new-means : (joins : Bool) → joinsBy (length x) longest capacity ≡ joins
             → hasRow (length x) values longest capacity ≡ true → (place : ℕ) → Written x
@@ -345,17 +341,17 @@ module _ {text : List ℕ} {x : Text} {owner values longest capacity stored : �
             (valueAdded joins owner w (record { place = place; text = x })) stored x 0
             (stored + length x) (valueBits work neither 0 owner values capacity x)
         unfolding valueAdded newUri newName newValue newEntry laid
-        new-means true j r place judged e =
+        new-means true j r place judged k =
             let y : Placed = record { place = place; text = x } in
-            literal-means (value (nameAt w owner)) w stored x form e
+            literal-means (value (nameAt w owner)) w stored x form k
             (literal-bits s stored x)
             (value-joins-alike w (s .valid .refers) (replicate stored 0) y owner (in-rows ∙ j))
-            (value-grows (s .valid) owner y (s .row) (absent-fresh s stored b f absent)
+            (value-grows (s .valid) owner y (s .row) (absent-fresh s stored b f (absent-form e))
             (subst (λ cap. isZero cap ≡ false) (s .capacity-is) (joins-open (length x) longest capacity j))
             (leb-true _ _ (room-for j r)))
             (value-writable (s .writable) y judged owner)
-        new-means false j r place judged e =
-            literal-means (value (nameAt w owner)) w stored x form e
+        new-means false j r place judged k =
+            literal-means (value (nameAt w owner)) w stored x form k
             (literal-bits s stored x)
             (rw (nothing-joins w (replicate stored 0) x (value (nameAt w owner)) refl refl
             (rw (in-rows ∙ j))) (alike-same _))
@@ -367,7 +363,7 @@ module _ {text : List ℕ} {x : Text} {owner values longest capacity stored : �
         enters = joinsBy (length x) longest capacity
 
         value-taken : j .number ≡ 0
-            → Post (literalAs stored (length x) enters (cond enters h 0))
+            → ValuePost text x owner values longest capacity stored work (literalAs stored (length x) enters (cond enters h 0))
         value-taken z =
             let q : Passed x stored ((hasRow (length x) values longest capacity, limit) ∷ []) =
             literal-passes x stored _ (p .number-is) z in
@@ -388,18 +384,18 @@ module _ {text : List ℕ} {x : Text} {owner values longest capacity stored : �
                     store = q .store;
                   };
               meant = λ w valid writable few meant row place.
-                  let s : Stands w = standing valid writable few meant row in
+                  let s : Standing work text owner values longest capacity w = standing valid writable few meant row in
                   new-means s enters refl l place judged (sym z ∙ new-tests s short (p .number-is));
             }
 
-        pub value-new : Post j
+        pub value-new : ValuePost text x owner values longest capacity stored work j
         value-new =
             split (eqb (j .number) 0)
             (λ t.
             let z : j .number ≡ 0 = eqb-true (j .number) 0 t in
-            subst Post (sym (p .judged z)) (value-taken z))
+            subst (ValuePost text x owner values longest capacity stored work) (sym (p .judged z)) (value-taken z))
             (λ t.
             let l : 0 < j .number = omega (arith, eqb-false (j .number) 0 t) in
-            subst Post (sym (p .refused l))
+            subst (ValuePost text x owner values longest capacity stored work) (sym (p .refused l))
             (value-refused l (λ w s v bits.
             refused-means (value (nameAt w owner)) w stored x l (new-tests s short (p .number-is)))))

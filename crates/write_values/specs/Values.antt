@@ -105,7 +105,7 @@ pub record ValuePre (work : List ℕ) (owner values capacity stored : ℕ) : Typ
   pub room : workCells ≤ length work
   pub low : owner < nameRows
   pub few : values ≤ stored
-  pub capacity : capacity ≤ maxValues + 1
+  pub bound : capacity ≤ maxValues + 1
   pub store : stored ≤ maxStore
 
 -- The bits by what the judgement answers, and by cells: all numbers that a name gave, or the values
