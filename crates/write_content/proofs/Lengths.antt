@@ -1,5 +1,5 @@
 -- The content of an event is at most three strings long.
-use Prim.Native.Nat.{ℕ, _*_, _≤_}
+use Prim.Native.Nat.{ℕ, _-_, _*_, _≤_}
 use native.Mathlib.Omega.{arith}
 use mathlib.Core.Bool.{Bool}
 use mathlib.Core.List.{List}
@@ -8,8 +8,9 @@ use lib.Dec.{eqb}
 use borrow.Author.Tests.{eqb-false}
 use Rattle.spec_fields.specs.Field.{Alignment, unsignedBits, choiceBits}
 use Rattle.spec_fields.proofs.Tests.{split}
-use Rattle.spec_exi.specs.Sizes.{maxString, maxValues}
-use Rattle.spec_exi.specs.Tables.{stringBits}
+use Rattle.spec_exi.specs.Sizes.{maxString, maxStore}
+use Rattle.spec_exi.specs.Settings.{boundOf}
+use Rattle.spec_exi.specs.Tables.{replaced, stringBits}
 use Rattle.event.specs.declared.Part.{Part}
 use Rattle.event.specs.declared.Event as declared
 use Rattle.event.specs.declared.Event.the-variants.{StartDocument, EndDocument, StartElement}

@@ -149,6 +149,7 @@ module _ {opening text work : List ℕ} {c : Core} (pre : ContentPre work c) (e 
           uris = λ j. absurd (true≢false (sym j));
           names = λ j. absurd (true≢false (sym j));
           values = λ j. absurd (true≢false (sym j));
+          row = λ j. absurd (true≢false (sym j));
           uri = omega arith;
           name = omega arith;
           owner = omega arith;

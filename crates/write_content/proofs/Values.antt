@@ -19,8 +19,8 @@ use Rattle.mem_state.specs.declared.Core.{Core}
 use Rattle.mem_state.specs.declared.Strings.{Strings}
 use Rattle.mem_state.specs.Holds.{Stores, Bounded, Counts}
 use Rattle.mem_state.specs.Strung.{valueAdded, StringsJoin}
-use Rattle.mem_state.proofs.Strung.{uris-counted, names-counted, strings-values, value-more}
-use Rattle.mem_state.proofs.Strung.{strings-longest, strings-capacity}
+use Rattle.mem_state.proofs.Strung.{uris-counted, names-counted, strings-ahead, strings-values}
+use Rattle.mem_state.proofs.Strung.{value-more}
 use Rattle.write_partition.specs.Writable.{Writable, Few}
 use Rattle.write_partition.specs.Judged.{StringMeans}
 use Rattle.write_values.specs.declared.ValueJudged.{ValueJudged}
@@ -81,12 +81,12 @@ module _ {opening text work : List ℕ} {c : Core} {w : Rows} (p : Prepared open
   values-meant =
       record {
         stand =
-            subst (stand-under (c .values) (w₂ .values)) (sym (strings-capacity j))
+            subst (stand-under (c .values) (w₂ .values)) (sym (strings-ahead j .capacity))
             (subst (λ es. stand-under (c .values) es (w .capacity)) (sym (strings-values j f))
             (subst (λ n. stand-under n (w .values) (w .capacity)) (sym (p .counts .values))
             (p .holds .values)));
-        longest-is = p .counts .longest ∙ sym (strings-longest j);
-        capacity-is = p .counts .capacity ∙ sym (strings-capacity j);
+        longest-is = p .counts .longest ∙ sym (strings-ahead j .longest);
+        capacity-is = p .counts .capacity ∙ sym (strings-ahead j .capacity);
       }
 
   module _ (x : Part) {owner stored : ℕ} {v : ValueJudged}

@@ -8,7 +8,7 @@ use lib.Dec.{T}
 use Rattle.spec_fields.specs.Bits.{Bits}
 use Rattle.spec_fields.specs.Field.{Alignment}
 use Rattle.text.specs.Text.{Text}
-use Rattle.spec_exi.specs.Sizes.{maxUris, maxValues}
+use Rattle.spec_exi.specs.Sizes.{maxUris, maxStore}
 use Rattle.spec_exi.specs.Tables.{stringBits}
 use Rattle.event.specs.declared.Part.{Part}
 use Rattle.event.specs.declared.Event as declared
