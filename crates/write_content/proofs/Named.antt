@@ -68,7 +68,6 @@ module _ {opening text work : List ℕ} {c : Core} (pre : ContentPre work c) whe
             uris = λ j. d .uris j .0;
             names = λ j. d .names j .0;
             values = λ j. absurd (true≢false (sym j ∙ ap (λ (v : Joining). v .joins) (d .value)));
-            row = λ j. absurd (true≢false (sym j ∙ ap (λ (v : Joining). v .joins) (d .value)));
             uri = d .uri;
             name = d .name;
             owner = omega (arith, d .owner, d .name);
@@ -230,7 +229,6 @@ module _ {opening text work : List ℕ} {c : Core} (pre : ContentPre work c) whe
                 uris = λ j. d .uris j .0;
                 names = λ j. d .names j .0;
                 values = λ j. b .new j .1;
-                row = b .row;
                 uri = d .uri;
                 name = d .name;
                 owner = d .name;

@@ -100,7 +100,6 @@ module _ {opening text work : List ℕ} {c : Core} (pre : ContentPre work c) (x 
           uris = λ j. absurd (true≢false (sym j));
           names = λ j. absurd (true≢false (sym j));
           values = λ j. b .new j .1;
-          row = b .row;
           uri = omega arith;
           name = omega arith;
           owner = pre .bounded .top;
@@ -149,7 +148,6 @@ module _ {opening text work : List ℕ} {c : Core} (pre : ContentPre work c) (e 
           uris = λ j. absurd (true≢false (sym j));
           names = λ j. absurd (true≢false (sym j));
           values = λ j. absurd (true≢false (sym j));
-          row = λ j. absurd (true≢false (sym j));
           uri = omega arith;
           name = omega arith;
           owner = omega arith;

@@ -107,8 +107,8 @@ module _ {opening text work : List ℕ} {c : Core} {w : Rows} (p : Prepared open
 
 -- ---- what the writing asks
 
-pub value-puttable : {x : Text} {values capacity stored : ℕ} {v : ValueJudged}
-    → ValueBounds x values capacity stored v → (r : Content) → r .partition ≡ v .partition → ValuePuttable r x
+pub value-puttable : {x : Text} {values stored : ℕ} {v : ValueJudged} → ValueBounds x values stored v
+    → (r : Content) → r .partition ≡ v .partition → ValuePuttable r x
 value-puttable {v = v} b r e =
     record {
       literal = λ f g.

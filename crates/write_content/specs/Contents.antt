@@ -7,7 +7,7 @@ use mathlib.Core.Option.{some}
 use lib.ListN.{length}
 use Rattle.spec_fields.specs.Field.{Alignment}
 use Rattle.text.specs.Text.{Text, inside, part}
-use Rattle.spec_exi.specs.Sizes.{sizes, maxStore, maxUris, maxNames, maxValues}
+use Rattle.spec_exi.specs.Sizes.{sizes, maxStore, maxUris, maxNames}
 use Rattle.spec_exi.specs.Event.{Event, CH, startDocument, endDocument, endElement}
 use Rattle.spec_exi.specs.Event.{startElement, attribute, characters, comment, instruction}
 use Rattle.spec_exi.specs.Event.{kindOf, nameOf, mapEvent, stringsOf}
@@ -95,7 +95,6 @@ pub record ContentBounds (c : Core) (stored : ℕ) (s : Strings) : Type 0 where
   pub uris : s .«new_uri» ≡ true → c .uris < maxUris
   pub names : s .«new_name» ≡ true → c .names < maxNames
   pub values : s .«new_value» ≡ true → c .values < stored
-  pub row : s .«new_value» ≡ true → c .capacity ≡ 0 → c .values < maxValues
   pub uri : s .«uri_row» < uriRows
   pub name : s .«name_row» < nameRows
   pub owner : s .owner < nameRows

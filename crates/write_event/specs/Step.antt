@@ -71,6 +71,7 @@ pub record RowBounds (c : Core) (s : Strings) (g : Growth) (stored : ℕ) : Type
   pub site : g .site < sites
   pub name : g .name ≡ s .«name_row»
   pub store : stored ≤ maxStore
+  pub grows : c .stored ≤ stored
 
 -- The event's bits are written; its strings and its growth are all that joins work memory, and the
 -- numbers are those after it, in a fragment or not.

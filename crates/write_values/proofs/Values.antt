@@ -155,13 +155,6 @@ joins-open size longest capacity j =
     split (isZero (boundOf capacity)) (λ t. let z = rw t at j in absurd (true≢false (sym z)))
     (λ t. t)
 
-row-free : (size values longest capacity : ℕ) → joinsBy size longest capacity ≡ true
-    → hasRow size values longest capacity ≡ true → capacity ≡ 0 → values < maxValues
-unfolding hasRow
-row-free size values longest capacity j h z =
-    let k : ltb values maxValues ≡ true = rw (j, eq-eqb capacity 0 z) at h in
-    ltb-true values maxValues k
-
 row-is : (values capacity : ℕ) → capacity ≤ maxValues + 1
     → leb (suc values - replaced (boundOf capacity) (suc values)) maxValues
     ≡ cond (eqb capacity 0) (ltb values maxValues) true
@@ -241,7 +234,6 @@ module _ {text : List ℕ} {x : Text} {owner values longest capacity stored : �
                 which = omega arith;
                 literal = λ z. absurd (omega arith);
                 new = λ z. absurd (true≢false (sym z));
-                row = λ z. absurd (true≢false (sym z));
                 unhashed = λ _. refl;
                 unnumbered = λ z. absurd (omega arith);
                 stored-is = rw (ne-eqb j neither (λ z. omega arith)) (omega arith);
@@ -376,8 +368,11 @@ module _ {text : List ℕ} {x : Text} {owner values longest capacity stored : �
                   record {
                     which = omega arith;
                     literal = λ _. judged;
-                    new = λ j. (refl, omega (arith, joins-some (length x) longest capacity j, ask .few), rw j b);
-                    row = λ j. row-free (length x) values longest capacity j l;
+                    new = λ j. (
+                      refl,
+                      omega (arith, joins-some (length x) longest capacity j, ask .few),
+                      rw j b,
+                    );
                     unhashed = λ j. rw j;
                     unnumbered = λ _. refl;
                     stored-is = refl;

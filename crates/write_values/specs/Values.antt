@@ -117,12 +117,11 @@ valueBits work partition id owner values capacity x a =
     (stringBits 2 x))
 
 -- On every memory.
-pub record ValueBounds (x : Text) (values capacity stored : ℕ) (r : ValueJudged) : Type 0 where
+pub record ValueBounds (x : Text) (values stored : ℕ) (r : ValueJudged) : Type 0 where
   pub which : r .partition ≤ neither
   pub literal : r .partition ≡ neither → Written x
   pub new : r .joins ≡ true
       → (r .partition ≡ neither) × (values < r .stored) × (r .hash ≡ hashOf x)
-  pub row : r .joins ≡ true → capacity ≡ 0 → values < maxValues
   pub unhashed : r .joins ≡ false → r .hash ≡ 0
   pub unnumbered : r .partition ≡ neither → r .id ≡ 0
   pub stored-is : r .stored ≡ stored + cond (eqb (r .partition) neither) (length x) 0
@@ -139,7 +138,7 @@ pub record ValuesMeant (work text : List ℕ) (values longest capacity : ℕ) (w
 pub record ValuePost (text : List ℕ) (x : Text) (owner values longest capacity stored : ℕ)
     (work : List ℕ) (r : ValueJudged) : Type 0 where
   pub refused : 0 < r .number → r ≡ refusedAs (r .number) stored
-  pub bounds : r .number ≡ 0 → ValueBounds x values capacity stored r
+  pub bounds : r .number ≡ 0 → ValueBounds x values stored r
   -- w may be ahead of memory in its URIs and names
   pub meant : (w : Rows) → Valid w → Writable w → Few w
       → ValuesMeant work text values longest capacity w
