@@ -56,11 +56,7 @@ pub fn started(s: SettingNumbers) -> Receiver
             events: 0,
             code_points: 0,
         },
-        state: open_elements::none_open(mem_initial::start(
-            0,
-            s.value_length,
-            s.value_capacity,
-        )),
+        state: open_elements::none_open(mem_initial::start(0, s.value_length, s.value_capacity)),
         wait: Wait { at: 0, left: 0 },
     }
 }

@@ -8,7 +8,7 @@ use borrow.Author.Tests.{not-false}
 use Rattle.text.specs.Text.{Text, inside, part}
 use Rattle.spec_fields.specs.Refusal.{numberOf, limit}
 use Rattle.spec_exi.specs.Settings.{Settings}
-use Rattle.spec_exi.specs.Sizes.{maxValues, maxLearned}
+use Rattle.spec_exi.specs.Sizes.{maxStore, maxLearned}
 use Rattle.spec_exi.specs.Event.{kindOf, mapEvent, stringsOf}
 use Rattle.spec_exi.specs.Grammar.{kindNumber}
 use Rattle.spec_exi.specs.Lists.{every}

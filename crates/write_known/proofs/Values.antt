@@ -9,7 +9,7 @@ use Rattle.spec_fields.specs.Field.{Alignment}
 use Rattle.spec_fields.specs.Refusal.{numberOf, place}
 use Rattle.text.specs.Text.{Text, inside, part}
 use Rattle.spec_exi.specs.Settings.{Settings}
-use Rattle.spec_exi.specs.Sizes.{maxEvents, maxString, maxValues}
+use Rattle.spec_exi.specs.Sizes.{maxEvents, maxString, maxStore}
 use Rattle.spec_exi.specs.Event.{Kind, CH, kindOf, stringsOf}
 use Rattle.spec_exi.specs.Grammar.{kindNumber}
 use Rattle.spec_exi.specs.Lists.{every}

@@ -171,12 +171,32 @@ pub fn known_characters(
         return stepped::answer(PLACE, c);
     }
     let x = text::look_up(text, value.place, value.size);
-    let v = write_values::judge_value(text, x, c.top, c.values, c.longest, c.capacity, c.stored, work);
+    let v = write_values::judge_value(
+        text,
+        x,
+        c.top,
+        c.values,
+        c.longest,
+        c.capacity,
+        c.stored,
+        work,
+    );
     if v.number != 0 {
         return stepped::answer(v.number, c);
     }
     let next = put_learned(aligned, stream, c.at, c.mode, c.top, row, work);
-    let at = keep_value(aligned, stream, next, x, value, v, c.top, c.values, c.capacity, work);
+    let at = keep_value(
+        aligned,
+        stream,
+        next,
+        x,
+        value,
+        v,
+        c.top,
+        c.values,
+        c.capacity,
+        work,
+    );
     let mode = mem_state::content_after(c.mode);
     let tag = stepped::next_tag(n);
     stepped::moved_on(c, at, v.stored, v.joins, false, mode, c.top, c.depth, tag)
@@ -206,12 +226,32 @@ pub fn known_attribute(
         return stepped::answer(PLACE, c);
     }
     let x = text::look_up(text, value.place, value.size);
-    let v = write_values::judge_value(text, x, name, c.values, c.longest, c.capacity, c.stored, work);
+    let v = write_values::judge_value(
+        text,
+        x,
+        name,
+        c.values,
+        c.longest,
+        c.capacity,
+        c.stored,
+        work,
+    );
     if v.number != 0 {
         return stepped::answer(v.number, c);
     }
     let next = put_learned(aligned, stream, c.at, c.mode, c.top, row, work);
-    let at = keep_value(aligned, stream, next, x, value, v, name, c.values, c.capacity, work);
+    let at = keep_value(
+        aligned,
+        stream,
+        next,
+        x,
+        value,
+        v,
+        name,
+        c.values,
+        c.capacity,
+        work,
+    );
     mem_marks::mark(work, name, c.tag);
     stepped::moved_on(
         c,
