@@ -1,7 +1,7 @@
-// Rows of work memory by a code, and by a key and a number: row i has the code key * 16384 + number,
-// where its number is how many rows of the key are before it, and the key's count stands beside.
-// A row that a function answers is its insertion number and 1, or 0 for none. Every function is
-// safe and ends on any memory. What the contracts cite is in specs/Index.antt.
+// Rows of work memory by a code, and by a key and a number: row i has the code key * 16384 and its
+// number, which is how many rows of the key are before it, and the key's count stands beside. A row
+// that a function answers is its insertion number and 1, or 0 for none. Every function is safe and
+// ends on any memory. What the contracts cite is in specs/Index.antt.
 ghost use mathlib.Core.Path.{_≡_};
 ghost use Prim.Native.Nat.{_<_};
 ghost use Rattle.mem_index.specs.Index.{spotOf, entered, joined};

@@ -88,7 +88,12 @@ module _ (w : Rows) (r : Refers w) (store x : Text) where
       (λ u h. ap (λ (p : Placed). p .text) (sym (uri-old w y u h))) (w .names) (r .names) in
       let values = keyed-same (nameAt w) (nameAt (withUri w y)) (length (w .names))
       (λ n h. name-text w (withUri w y) n n (sym (uri-names w y r n h))) (w .values) (r .values) in
-      λ i. record { uris = w .uris ++ (y ∷ []); names = (append-nil _ ∙ names) i; values = with-added ((append-nil _ ∙ values) i); store = store ++ x }
+      λ i. record {
+        uris = w .uris ++ (y ∷ []);
+        names = (append-nil _ ∙ names) i;
+        values = with-added ((append-nil _ ∙ values) i);
+        store = store ++ x;
+      }
 
   pub name-joins : (attr : Bool) (u : ℕ)
       → added (tablesOf w store) (local attr (uriText (w .uris) u)) x
@@ -99,7 +104,12 @@ module _ (w : Rows) (r : Refers w) (store x : Text) where
       let names = sym (map-snoc (named (uriText (w .uris))) (w .names) (record { key = u; string = y })) in
       let values = keyed-same (nameAt w) (nameAt (withName w u y)) (length (w .names))
       (λ n h. name-text w (withName w u y) n n (sym (name-old w u y n h))) (w .values) (r .values) in
-      λ i. record { uris = append-nil (w .uris) i; names = names i; values = with-added ((append-nil _ ∙ values) i); store = store ++ x }
+      λ i. record {
+        uris = append-nil (w .uris) i;
+        names = names i;
+        values = with-added ((append-nil _ ∙ values) i);
+        store = store ++ x;
+      }
 
   pub value-joins : (n : ℕ) → joins (tablesOf w store .values) x ≡ true
       → added (tablesOf w store) (value (nameAt w n)) x
@@ -108,12 +118,18 @@ module _ (w : Rows) (r : Refers w) (store x : Text) where
   value-joins n e =
       let y : Placed = record { place = length store; text = x } in
       let values = sym (map-snoc (named (nameAt w)) (w .values) (record { key = n; string = y })) in
-      rw e (λ i. record { uris = append-nil (w .uris) i; names = append-nil (map (named (uriText (w .uris))) (w .names)) i; values = with-added (values i); store = store ++ x })
+      rw e (λ i. record {
+        uris = append-nil (w .uris) i;
+        names = append-nil (map (named (uriText (w .uris))) (w .names)) i;
+        values = with-added (values i);
+        store = store ++ x;
+      })
 
 -- A value that does not join, a target, a comment or an instruction's text is laid, and joins no table.
 pub nothing-joins : (w : Rows) (store x : Text) (role : Role)
     → (newUri role (laid (tablesOf w store) x) ≡ []) → (newName role (laid (tablesOf w store) x) ≡ [])
-    → (newValue (tablesOf w store .values) role (laid (tablesOf w store) x) ≡ []) → added (tablesOf w store) role x ≡ tablesOf w (store ++ x)
+    → (newValue (tablesOf w store .values) role (laid (tablesOf w store) x) ≡ [])
+    → added (tablesOf w store) role x ≡ tablesOf w (store ++ x)
 unfolding added withValues tablesOf
 nothing-joins w store x role a b c =
     λ i. record {

@@ -1,6 +1,6 @@
 -- The whole state of the value table after the store grows and after other tables change, and the
 -- strict form by it.
-use Prim.Native.Nat.{ℕ, zero, suc, _≤_}
+use Prim.Native.Nat.{ℕ, zero, suc}
 use native.Mathlib.Omega.{arith}
 use mathlib.Core.Path.{_≡_, refl, sym, ap, subst, _∙_}
 use mathlib.Core.Bool.{Bool, true}
@@ -19,11 +19,6 @@ use Rattle.mem_values.specs.Window.{Tabled}
 use Rattle.mem_values.specs.Forms.{formIn, ValuesStand, Formed}
 use Rattle.mem_values.proofs.Joined.{SameValues, values-grown, values-kept}
 use Rattle.mem_values.proofs.Tables.{form-is}
-
-pub replaced-more : (cap : Option ℕ) (n : ℕ) → replaced cap n ≤ replaced cap (suc n)
-unfolding replaced
-replaced-more none n = omega arith
-replaced-more (some c) n = omega arith
 
 pub capacity-is : (cap : Option ℕ) (n : ℕ) → (isZero cap ≡ true → n ≡ 0) → Capacity cap n
 unfolding isZero

@@ -1,5 +1,5 @@
--- The window of the values present: those before it are replaced (EXI 7.3.3; P5), and global numbers
--- go round.
+-- The window of the values present: those before it are replaced (EXI 7.3.3; P5), and global
+-- numbers go round.
 use Prim.Native.Nat.{ℕ, zero, suc, _+_, _-_, _%_, _≤_, _<_}
 use mathlib.Core.Path.{_≡_}
 use mathlib.Core.Bool.{Bool, cond, _&&_, not}
