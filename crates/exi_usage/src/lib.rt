@@ -48,8 +48,7 @@ pub fn wrong_word(at: usize, fault: u32) {
     tell(b"; exi --help tells the words\n");
 }
 
-// What help prints. A flag that the library does not take yet gets its line here once it does:
-// --max-length N, no longer value joins the tables; --capacity N, so many values stay in them.
+// What help prints.
 pub fn usage(fd: i32) {
     io::write_all(
         fd,
@@ -78,6 +77,8 @@ before or after them, but not after --, and say how the stream is written:
   --comments        comments are kept
   --instructions    processing instructions are kept
   --fragment        elements in any number stand in the place of one root
+  --max-length N    values of more than N code points join no table
+  --capacity N      at most N values, 0 to 2048, stay in the tables; the oldest go
 
 and how it is shown:
 

@@ -81,12 +81,12 @@ local-unplaced (suc g) q (e ∷ es) =
     (λ t. rw t (local-unplaced (suc g - 1) q es))
 
 module _ {A B : Type 0} (f : A → B) where
-  map-take : (n : ℕ) (l : List A) → take n (map f l) ≡ map f (take n l)
+  pub map-take : (n : ℕ) (l : List A) → take n (map f l) ≡ map f (take n l)
   map-take zero l = refl
   map-take (suc n) [] = refl
   map-take (suc n) (x ∷ l) = ap (λ m. f x ∷ m) (map-take n l)
 
-  map-drop : (n : ℕ) (l : List A) → drop n (map f l) ≡ map f (drop n l)
+  pub map-drop : (n : ℕ) (l : List A) → drop n (map f l) ≡ map f (drop n l)
   map-drop zero l = refl
   map-drop (suc n) [] = refl
   map-drop (suc n) (x ∷ l) = map-drop n l
