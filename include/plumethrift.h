@@ -76,8 +76,8 @@ extern "C" {
  * bit-packed, no cookie, nothing kept: name the members that differ, and leave out the others, as
  * in `= {.alignment = PLUMETHRIFT_BYTE_ALIGNED}`; in C++17, assign to members of a `= {}`.
  *
- * The last five are for what this version does not do: as yet, a number other than 0 is refused. The
- * struct stays as it is when they get their meanings.
+ * The last three are for what this version does not do: as yet, a number other than 0 is refused.
+ * The struct stays as it is when they get their meanings.
  */
 typedef struct plumethrift_settings {
   uint32_t alignment;      /* PLUMETHRIFT_BIT_PACKED or PLUMETHRIFT_BYTE_ALIGNED */
@@ -85,8 +85,11 @@ typedef struct plumethrift_settings {
   uint32_t comments;       /* 1: comments are kept; 0: no list or stream has any */
   uint32_t instructions;   /* 1: processing instructions are kept; 0: no list or stream has any */
   uint32_t fragment;       /* 1: a fragment, elements in any number; 0: a document, one root */
-  uint32_t value_length;   /* PLUMETHRIFT_UNBOUNDED: values of any length join the tables */
-  uint32_t value_capacity; /* PLUMETHRIFT_UNBOUNDED: no value in the tables is replaced */
+  uint32_t value_length;   /* PLUMETHRIFT_BOUND(n): no value of more than n code points joins the
+                              tables; PLUMETHRIFT_UNBOUNDED: values of any length do */
+  uint32_t value_capacity; /* PLUMETHRIFT_BOUND(n), n at most PLUMETHRIFT_MAX_VALUES: a value that
+                              joins n others replaces the oldest; PLUMETHRIFT_UNBOUNDED: none is
+                              replaced, and the one after PLUMETHRIFT_MAX_VALUES is refused */
   uint32_t loose;          /* 0: the reader takes strict forms alone */
   uint32_t prefixes;       /* 0: prefixes are not kept */
   uint32_t grammar_cap;    /* PLUMETHRIFT_UNBOUNDED: element grammars are not capped */
@@ -325,7 +328,7 @@ plumethrift_write_reply plumethrift_write_readings(plumethrift_settings settings
  *   plumethrift_read does for the whole of it; `held` is zero then, too.
  */
 #define PLUMETHRIFT_HELD_OCTETS 16384 /* receiver: octets of the stream so far */
-#define PLUMETHRIFT_RECEIVER_WORDS 44 /* 64-bit words of a receiver's record */
+#define PLUMETHRIFT_RECEIVER_WORDS 45 /* 64-bit words of a receiver's record */
 
 /* A receiver between its calls. What the words are is the library's affair. */
 typedef struct plumethrift_receiver {

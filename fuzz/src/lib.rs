@@ -428,6 +428,8 @@ mod tests {
             "r 2 0 0 0 fragment=1 vmax=0 vcap=4294967294 loose=7 prefixes=300 cap=5 short=work 80",
             "r 1 0 0 0 cap=0 short=events -",
             "r 1 0 1 0 fragment=1 800200000102610002",
+            "r 1 0 0 0 vcap=2 800102610303780101037900037a00000201",
+            "w 0 0 0 0 vmax=1 vcap=1 SD,SE:0:0:0:1,CH:0:1,CH:0:2,CH:1:1,EE,ED 61,62",
             "w 0 0 0 0 fragment=1 SD,SE:0:0:0:1,EE,SE:0:0:0:1,EE,ED 61",
             "w 1 1 0 0 vmax=70000 short=octets BAD 61",
             "m SD,SE:0:0:0:8,EE,ED 72,65,61,64,69,6e,67,73",

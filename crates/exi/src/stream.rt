@@ -31,7 +31,7 @@ fn refuse_octets(
     exi_verdict::finish(buffer, a);
     exi_say::refused(file, r.number, r.index);
     exi_verdict::explain(t, r.number, r.index, stream, good);
-    tries::suggestions(stream, cells, store, work);
+    tries::suggestions(t.settings, stream, cells, store, work);
 }
 
 // A stream that is refused.

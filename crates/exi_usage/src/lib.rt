@@ -59,8 +59,7 @@ pub fn hint() {
     );
 }
 
-// What help prints, on standard output. A flag that the library does not take yet gets its line here once it does:
-// --max-length N, no longer value joins the tables; --capacity N, so many values stay in them.
+// What help prints, on standard output.
 pub fn usage() {
     let written = io::write_all(
         STDOUT_FILENO,
@@ -90,6 +89,8 @@ before or after them, but not after --, and say how the stream is written:
   --comments        comments are kept
   --instructions    processing instructions are kept
   --fragment        elements in any number stand in the place of one root
+  --max-length N    values of more than N code points join no table
+  --capacity N      at most N values, 0 to 2048, stay in the tables; the oldest go
 
 and how it is shown:
 

@@ -69,7 +69,8 @@ fn full(n: usize, most: usize, of: &[u8]) {
 }
 
 // What of the sizes is used up before the event that would pass one. Events are counted before
-// anything of the next one is read.
+// anything of the next one is read. (Under a capacity values are replaced, and their size is never
+// used up.)
 pub fn limits(events: u32, c: Core) {
     let n = events as usize;
     if MAX_EVENTS <= n {
@@ -79,7 +80,9 @@ pub fn limits(events: u32, c: Core) {
     full(c.depth, MAX_OPEN, b" open elements\n");
     full(c.uris as usize, MAX_URIS, b" URIs\n");
     full(c.names as usize, MAX_NAMES, b" names\n");
-    full(c.values as usize, MAX_VALUES, b" distinct values\n");
+    if c.capacity == 0 {
+        full(c.values as usize, MAX_VALUES, b" distinct values\n");
+    }
     full(c.grammars as usize, MAX_GRAMMARS, b" element grammars\n");
     full(c.learned as usize, MAX_LEARNED, b" learned productions\n");
     tell(b"  code points so far: ");

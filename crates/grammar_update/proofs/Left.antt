@@ -49,6 +49,8 @@ module _ {from : Stores} {c : Core} {s : Strings} {g : Growth} {w v : Rows} {ope
             (counts .grammars ∙ sym (ap length (a .grammars)))
             ∙ ap (λ b. length (v .grammars) + cond b 1 0) (grows .enters)
             ∙ sym (grammars-after v (g .kind) (g .name) (g .teaches) (learntOf g));
+        longest = counts .longest ∙ sym (ls .3 ∙ a .longest);
+        capacity = counts .capacity ∙ sym (ls .4 ∙ a .capacity);
       }
 
   -- The event has come after n others, and marks are older.

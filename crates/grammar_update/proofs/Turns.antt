@@ -6,7 +6,7 @@ use mathlib.Core.Bool.{Bool, true}
 use mathlib.Core.List.{List}
 use lib.Dec.{eqb}
 use Rattle.spec_fields.proofs.Tests.{split}
-use Rattle.spec_exi.specs.Sizes.{maxUris, maxNames, maxValues, maxLearned, maxGrammars, maxOpen}
+use Rattle.spec_exi.specs.Sizes.{maxUris, maxNames, maxLearned, maxGrammars, maxOpen}
 use Rattle.spec_exi.specs.Sizes.{maxStore, maxEvents}
 use Rattle.spec_exi.specs.Event.{AT}
 use Rattle.spec_exi.specs.Grammar.{kindNumber}
@@ -39,35 +39,36 @@ after-late f c at stored s g n h =
 pub after-bounded : (f : Bool) {work : List ℕ} {c : Core} {s : Strings} {g : Growth} {n : ℕ}
     (at stored : ℕ)
     → AfterPre c g n → StringsPre work c s → fitsIn c g ≡ true → g .name < nameRows
-    → stored ≤ maxStore → Bounded (coreAfter f c at stored s g n)
-unfolding turned counted maxUris maxNames maxValues
-after-bounded f {c = c} {s} {g} {n} at stored a p fits low h =
+    → c .stored ≤ stored → stored ≤ maxStore → (s .«new_value» ≡ true → c .values < stored)
+    → Bounded (coreAfter f c at stored s g n)
+unfolding turned counted maxUris maxNames
+after-bounded f {c = c} {s} {g} {n} at stored a p fits low more h joins =
     let b = a .bounded in
     record {
       stored = h;
       uris = raise (s .«new_uri») (c .uris) maxUris (b .uris) (λ j. omega (arith, p .uris j));
       names = raise (s .«new_name») (c .names) maxNames (b .names) (λ j. omega (arith, p .names j));
-      values = raise (s .«new_value») (c .values) maxValues (b .values)
-          (λ j. omega (arith, p .values j));
+      values = raise (s .«new_value») (c .values) stored (omega (arith, b .values)) joins;
       learned = raise (g .teaches) (c .learned) maxLearned (b .learned) (fits-learned c g fits);
       grammars = raise (g .enters) (c .grammars) maxGrammars (b .grammars) (fits-grammars c g fits);
       top = top-low (g .kind) (g .name) (c .top) low (b .top);
       depth = depth-few (g .kind) (c .depth) (b .depth) (fits-open c g fits);
       fits = mode-fits f (g .kind) (a .stands) (b .fits);
       tag = tag-few (g .kind) n (c .tag) (a .early) (b .tag);
+      capacity = b .capacity;
     }
 
 -- ---- `after`
 
 pub count-asks : {c : Core} {g : Growth} {n : ℕ} (at stored : ℕ) → AfterPre c g n
     → CountPre (movedTo c at stored)
-unfolding maxUris maxNames maxValues maxLearned maxGrammars
+unfolding maxUris maxNames maxStore maxLearned maxGrammars
 count-asks at stored p =
     let b = p .bounded in
     record {
       uris = omega (arith, b .uris);
       names = omega (arith, b .names);
-      values = omega (arith, b .values);
+      values = omega (arith, b .values, b .stored);
       learned = omega (arith, b .learned);
       grammars = omega (arith, b .grammars);
     }

@@ -23,6 +23,8 @@ movedTo c at stored =
       top = c .top;
       depth = c .depth;
       tag = c .tag;
+      longest = c .longest;
+      capacity = c .capacity;
     }
 
 -- So many events have come before it, in a fragment or not.

@@ -5,13 +5,13 @@ use mathlib.Core.Path.{_≡_, refl, sym, ap, _∙_}
 use mathlib.Core.Bool.{Bool, true, false, true≢false}
 use mathlib.Core.List.{List, [], _∷_, _++_, map}
 use mathlib.Core.Option.{Option, some, Option·map}
-use lib.ListN.{length, getElem?, length-append}
+use lib.ListN.{length, getElem?, take, drop, length-append}
 use lib.Dec.{eqb, T}
 use borrow.Author.Tests.{eqb-true, eqb-false}
 use Rattle.text.specs.Text.{Text}
-use Rattle.spec_exi.specs.Tables.{Placed, Entry, partition, hasText, indexOf}
+use Rattle.spec_exi.specs.Tables.{Placed, Entry, partition, slotAfter, hasText, indexOf}
 use Rattle.mem_chain.proofs.Last.{split}
-use Rattle.mem_entries.specs.Entries.{Entries, entryAt, keyAt, given, slotAfter, slots, Alike}
+use Rattle.mem_entries.specs.Entries.{Entries, entryAt, keyAt, given, slots, Alike}
 use Rattle.mem_entries.specs.Entries.{alike-none, alike-more, named, Keys, Keyed}
 use Rattle.mem_entries.proofs.Entries.{entry-old, entry-new}
 
@@ -101,6 +101,16 @@ module _ {K : Type 0} {name : ℕ → K} {isKey : ℕ → Bool} (hasT : K → Bo
       let q : hasT (name (e .key)) ≡ hasE (e .key) = same (e .key) (keyed-head o) in
       split (hasE (e .key)) (λ u. rw (q, u, r)) (λ u. rw (q, u, r))
 
+  pub named-slots : (low : ℕ) (es : Entries) → Keyed isKey es
+      → slots low hasT (map (named name) es) ≡ slots low hasE es
+  unfolding slots named
+  named-slots low [] o = refl
+  named-slots low (e ∷ es) o =
+      let r : slots (low - 1) hasT (map (named name) es) ≡ slots (low - 1) hasE es =
+      named-slots (low - 1) es (keyed-tail o) in
+      let q : hasT (name (e .key)) ≡ hasE (e .key) = same (e .key) (keyed-head o) in
+      split (hasE (e .key)) (λ u. rw (q, u, r)) (λ u. rw (q, u, r))
+
 pub alike-length : {K : Type 0} {name : ℕ → K} {ts : List (Entry K)} {es : Entries}
     → Alike name ts es
     → length ts ≡ length es
@@ -111,6 +121,33 @@ pub named-alike : {K : Type 0} (name : ℕ → K) (es : Entries) → Alike name 
 unfolding named
 named-alike name [] = alike-none
 named-alike name (e ∷ es) = alike-more refl refl (named-alike name es)
+
+-- ---- some of the entries
+
+pub alike-take : {K : Type 0} {name : ℕ → K} {ts : List (Entry K)} {es : Entries} (n : ℕ)
+    → Alike name ts es → Alike name (take n ts) (take n es)
+alike-take zero a = alike-none
+alike-take (suc n) alike-none = alike-none
+alike-take (suc n) (alike-more key text rest) = alike-more key text (alike-take n rest)
+
+pub alike-drop : {K : Type 0} {name : ℕ → K} {ts : List (Entry K)} {es : Entries} (n : ℕ)
+    → Alike name ts es → Alike name (drop n ts) (drop n es)
+alike-drop zero a = a
+alike-drop (suc n) alike-none = alike-none
+alike-drop (suc n) (alike-more key text rest) = alike-drop n rest
+
+pub alike-both : {K : Type 0} {name : ℕ → K} {ts us : List (Entry K)} {es fs : Entries}
+    → Alike name ts es → Alike name us fs → Alike name (ts ++ us) (es ++ fs)
+alike-both alike-none b = b
+alike-both (alike-more key text rest) b = alike-more key text (alike-both rest b)
+
+-- The number of a text among all of them.
+pub alike-texts : {K : Type 0} {name : ℕ → K} {ts : List (Entry K)} {es : Entries} (x : Text)
+    → Alike name ts es
+    → indexOf (map (λ e. some (e .string)) ts) x ≡ indexOf (map (λ e. some (e .string)) es) x
+unfolding indexOf hasText
+alike-texts x alike-none = refl
+alike-texts x (alike-more key text rest) = rw (text, alike-texts x rest)
 
 -- ---- one entry more
 

@@ -12,7 +12,8 @@ use Rattle.mem_chain.proofs.Last.{split, last-most, last-is, last-none}
 use Rattle.mem_index.specs.Index.{tally, hasKey, isNumbered}
 use Rattle.mem_index.proofs.Tally.{tally-exists}
 use Rattle.mem_index.proofs.Codes.{numbered-is, is-numbered}
-use Rattle.mem_entries.specs.Entries.{Entries, entryAt, keyAt, slotAfter, slots, slotOf}
+use Rattle.spec_exi.specs.Tables.{slotAfter}
+use Rattle.mem_entries.specs.Entries.{Entries, entryAt, keyAt, slots, slotOf}
 use Rattle.mem_entries.proofs.Slots.{at-none, slots-tally, slot-in, slot-out, slot-at}
 
 module _ (es : Entries) (low k i : ℕ) where

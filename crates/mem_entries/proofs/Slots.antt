@@ -10,12 +10,12 @@ use mathlib.Core.Option.{none, some, Option·map}
 use lib.ListN.{length, getElem?}
 use Rattle.text.specs.Text.{Text}
 use Rattle.text.proofs.Equal.{eqText-no}
-use Rattle.spec_exi.specs.Tables.{Placed, Entry, partition, Slot, hasText, indexOf}
+use Rattle.spec_exi.specs.Tables.{Placed, Entry, partition, Slot, slotAfter, hasText, indexOf}
 use Rattle.spec_exi.specs.Context.{entryOf}
 use Rattle.mem_chain.proofs.Last.{split}
 use Rattle.mem_index.specs.Index.{tally}
 use Rattle.mem_index.proofs.Tally.{tally-zero, tally-head-in, tally-head-out}
-use Rattle.mem_entries.specs.Entries.{Entries, entryAt, keyAt, textAt, slotAfter, slots}
+use Rattle.mem_entries.specs.Entries.{Entries, entryAt, keyAt, textAt, slots}
 use Rattle.mem_entries.proofs.Texts.{is-text}
 use Rattle.mem_entries.proofs.Entries.{part-tally}
 

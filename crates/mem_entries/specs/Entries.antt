@@ -1,7 +1,7 @@
 -- Entries of a string table, by the number of the row that is their key; and what they are in the
 -- definitions' tables. The first of them may be replaced: a number that was given stays given, and
 -- stands for nothing once its entry is replaced. Where none is replaced these are the definitions'
--- partitions.
+-- partitions; of values they are those in any case.
 use Prim.Native.Nat.{ℕ, zero, suc, _-_, _<_}
 use mathlib.Core.Path.{_≡_}
 use mathlib.Core.Bool.{Bool, true, cond}
@@ -10,7 +10,7 @@ use mathlib.Core.Option.{Option, none, some}
 use lib.ListN.{length, getD}
 use lib.Dec.{eqb, ltb}
 use Rattle.text.specs.Text.{Text, eqText}
-use Rattle.spec_exi.specs.Tables.{Placed, Entry, partition, Slot}
+use Rattle.spec_exi.specs.Tables.{Placed, Entry, partition, Slot, slotAfter}
 
 abbrev pub Entries : Type 0
 Entries = List (Entry ℕ)
@@ -40,10 +40,6 @@ unfoldable pub given : Entries → ℕ → List Placed
 given es k = partition (eqb k) es
 
 -- ---- the numbers of a partition, where the first g entries are replaced
-
-unfoldable pub slotAfter : ℕ → Placed → Slot
-slotAfter zero x = some x
-slotAfter (suc g) x = none
 
 unfoldable pub slots : {K : Type 0} → ℕ → (K → Bool) → List (Entry K) → List Slot
 slots g has [] = []

@@ -11,7 +11,7 @@ use Rattle.mem_index.specs.declared.Index.{Index}
 
 -- One more than the greatest number of a key.
 abbrev pub numbers : ℕ
-numbers = 4096
+numbers = 16384
 
 -- One more than the greatest key.
 abbrev pub maxKeys : ℕ

@@ -1,7 +1,7 @@
-// Rows of work memory by a code, and by a key and a number: row i has the code key * 4096 + number,
-// where its number is how many rows of the key are before it, and the key's count stands beside.
-// A row that a function answers is its insertion number and 1, or 0 for none. Every function is
-// safe and ends on any memory. What the contracts cite is in specs/Index.antt.
+// Rows of work memory by a code, and by a key and a number: row i has the code key * 16384 and its
+// number, which is how many rows of the key are before it, and the key's count stands beside. A row
+// that a function answers is its insertion number and 1, or 0 for none. Every function is safe and
+// ends on any memory. What the contracts cite is in specs/Index.antt.
 ghost use mathlib.Core.Path.{_≡_};
 ghost use Prim.Native.Nat.{_<_};
 ghost use Rattle.mem_index.specs.Index.{spotOf, entered, joined};
@@ -9,7 +9,7 @@ ghost use Rattle.mem_index.specs.Index.{Spotting, Spot, Seeking, Found, 
 ghost use Rattle.mem_index.specs.Index.{Counting, Counted, Asking, NthFound, Joining};
 
 // One more than the greatest number.
-pub const NUMBERS: u32 = 4096;
+pub const NUMBERS: u32 = 16384;
 
 // So many buckets from the first row of a key to that of the next: an odd number, so that keys
 // share as few as can be.

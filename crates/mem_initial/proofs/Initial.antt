@@ -4,6 +4,7 @@ use native.Mathlib.Omega.{arith}
 use native.Mathlib.Nat.{le-refl}
 use mathlib.Core.Path.{_≡_, refl, sym, ap, subst, _∙_}
 use mathlib.Core.List.{List, [], _++_, append-nil}
+use mathlib.Core.Option.{Option}
 use lib.ListN.{length, getD, take, drop, replicate, length-append, length-drop, length-replicate}
 use lib.ListN.{getD-replicate, List·getD-append}
 use lib.Seq.{length-take-le, take-at, getD-append-add}
@@ -12,9 +13,10 @@ use Rattle.text.specs.Text.{Text, text, eqText}
 use Rattle.text.proofs.Names.{nameDefinitions}
 use Rattle.spec_exi.specs.Sizes.{maxStore, maxUris, maxNames, maxValues, maxLearned, maxGrammars}
 use Rattle.spec_exi.specs.Sizes.{maxOpen, maxEvents}
-use Rattle.spec_exi.specs.Settings.{Settings}
+use Rattle.spec_exi.specs.Settings.{boundOf, Settings}
 use Rattle.spec_exi.specs.Event.{eqName}
-use Rattle.spec_exi.specs.Tables.{nameAllowed, newUri, newName, newEntry, newValue, laid, added}
+use Rattle.spec_exi.specs.Tables.{nameAllowed, newUri, newName, newEntry, newValue, withValues, laid}
+use Rattle.spec_exi.specs.Tables.{added}
 use Rattle.spec_exi.specs.Tables.{xmlUri, xsiUri, initialEntries, addedAll, startTables}
 use Rattle.spec_exi.specs.Grammar.{emptyTag}
 use Rattle.spec_exi.specs.Context.{start}
@@ -29,11 +31,12 @@ use Rattle.mem_names.specs.Uris.{uriAt}
 use Rattle.mem_names.proofs.Uris.{uris-none}
 use Rattle.mem_names.proofs.Joined.{names-none}
 use Rattle.mem_marks.proofs.Marks.{marks-none}
-use Rattle.mem_values.specs.Window.{replaced, globalNumber, unbounded}
+use Rattle.mem_values.proofs.Order.{newest-is}
+use Rattle.mem_values.proofs.Stands.{capacity-is}
 use Rattle.mem_values.proofs.Joined.{values-none}
 use Rattle.mem_learned.proofs.Joined.{learned-none}
 use Rattle.mem_learned.proofs.Grammars.{grammars-none}
-use Rattle.mem_rows.specs.Rows.{placedAt, nameAt, tablesOf, backward, learnedOf, grammarsOf}
+use Rattle.mem_rows.specs.Rows.{Rows, placedAt, nameAt, tablesOf, backward, learnedOf, grammarsOf}
 use Rattle.mem_rows.specs.Rows.{tagIn, isAmong}
 use Rattle.mem_rows.specs.Rows.{stateOf, contextOf, withUri, withName}
 use Rattle.mem_rows.specs.Valid.{Valid}
@@ -52,8 +55,8 @@ use Rattle.mem_initial.proofs.Joins.{uris-stand, names-stand}
 
 -- ---- no row
 
-none-valid : Valid noRows
-none-valid =
+none-valid : (l c : Option ℕ) → Valid (noRows l c)
+none-valid l c =
     record {
       refers = record {
         names = record { below = λ i h. absurd (omega arith) };
@@ -62,10 +65,11 @@ none-valid =
         grammars = λ i h. absurd (omega arith);
         attributes = λ i h. absurd (omega arith);
       };
+      window = record { closed = λ z. refl; few = omega arith };
       distinct = record {
         uris = λ i j h k e. absurd (omega arith);
         names = λ i j h k e. absurd (omega arith);
-        values = λ i j h k e. absurd (omega arith);
+        values = λ i j a h b k e. absurd (omega arith);
         learned = λ i j h k e. absurd (omega arith);
         grammars = λ i j h k e. absurd (omega arith);
       };
@@ -74,10 +78,10 @@ none-valid =
 
 module _ (work : List ℕ) (room : workCells ≤ length work)
     (zeros : (j : ℕ) → zeroFrom ≤ j → j < zeroTo → getD work j 0 ≡ 0) where
-  none-holds : (from : Stores) → from .values .stored ≤ length (from .values .store)
-      → Holds work from noRows
-  unfolding taughtIn replaced globalNumber
-  none-holds from inside =
+  none-holds : (l c : Option ℕ) (from : Stores)
+      → from .values .stored ≤ length (from .values .store) → Holds work from (noRows l c)
+  unfolding taughtIn
+  none-holds l c from inside =
       record {
         uris = uris-none work (from .uris) room;
         names = names-none work (from .names) room
@@ -86,9 +90,9 @@ module _ (work : List ℕ) (room : workCells ≤ length work)
           holds = values-none work (from .values .store) (from .values .stored) room inside
               (λ k h. zeros (valueCounts + k) (omega arith) (omega arith));
           differ = record { texts = λ i j _ h k e. absurd (omega arith) };
-          capacity = unbounded;
+          capacity = capacity-is c 0 (λ z. refl);
           gone = refl;
-          new = refl;
+          new = newest-is (capacity-is c 0 (λ z. refl));
           near = omega arith;
         };
         learned = learned-none work room
@@ -99,20 +103,22 @@ module _ (work : List ℕ) (room : workCells ≤ length work)
 
 -- ---- the initial entries are fresh one after the other, by computation
 
-uris-fresh : (origin : ℕ) → T (freshUris noRows origin 0 initialUris)
+uris-fresh : (l c : Option ℕ) (origin : ℕ) → T (freshUris (noRows l c) origin 0 initialUris)
 unfolding freshUris freshUri firstThat uriAt eqText withUri initialUris xmlUri xsiUri text
-uris-fresh origin = tt
+uris-fresh l c origin = tt
 
-uris-counted : (origin : ℕ) → length (plusUris noRows origin 0 initialUris .names) ≡ 0
+uris-counted : (l c : Option ℕ) (origin : ℕ)
+    → length (plusUris (noRows l c) origin 0 initialUris .names) ≡ 0
 unfolding plusUris withUri initialUris
-uris-counted origin = refl
+uris-counted l c origin = refl
 
-names-fresh : (origin : ℕ)
-    → T (freshNames (plusUris noRows origin 0 initialUris) origin (length urisText) initialNames)
+names-fresh : (l c : Option ℕ) (origin : ℕ)
+    → T (freshNames (plusUris (noRows l c) origin 0 initialUris) origin (length urisText)
+    initialNames)
 unfolding freshNames freshName firstThat eqName nameAt placedAt entryAt uriAt eqText nameAllowed
     nameDefinitions withUri withName plusUris urisText together initialUris initialNames xmlUri xsiUri
     text
-names-fresh origin = tt
+names-fresh l c origin = tt
 
 -- ---- memory with them
 
@@ -193,29 +199,30 @@ zeroed-size work room =
 
 module _ (work : List ℕ) (room : workCells ≤ length work)
     (zeros : (j : ℕ) → zeroFrom ≤ j → j < zeroTo → getD work j 0 ≡ 0) {from : Stores} where
-  pub initial-stands : (origin : ℕ) → Sourced from origin
-      → Stands (withRows work origin) from (initialRows origin)
+  pub initial-stands : (l c : Option ℕ) (origin : ℕ) → Sourced from origin
+      → Stands (withRows work origin) from (initialRows l c origin)
   unfolding withRows urisLaid namesLaid initialRows initialText urisText namesText initialUris
       initialNames
-  initial-stands origin f =
+  initial-stands l c origin f =
       names-stand from (f .store) (f .stored) origin initialNames (length urisText) 0
       (uris-stand from (f .store) (f .stored) origin initialUris 0 0
       (record {
-        valid = none-valid;
-        holds = none-holds work room zeros from (f .values);
+        valid = none-valid l c;
+        holds = none-holds work room zeros l c from (f .values);
         marks = marks-none work room (λ k h. zeros (nameMarks + k) (omega arith) (omega arith))
             (omega arith);
       })
       refl (f .uris) (first-has urisText namesText (f .has) (origin + 0) (omega arith))
-      (uris-fresh origin))
-      (sym (uris-counted origin)) (f .names)
-      (rest-has urisText namesText (f .has) (origin + length urisText) refl) (names-fresh origin)
+      (uris-fresh l c origin))
+      (sym (uris-counted l c origin)) (f .names)
+      (rest-has urisText namesText (f .has) (origin + length urisText) refl) (names-fresh l c origin)
 
-  pub start-represents : Sourced from 0 → (at : ℕ)
-      → Represents (withRows work 0) from (startAt at) startRows []
+  pub start-represents : Sourced from 0 → (at longest capacity : ℕ)
+      → Represents (withRows work 0) from (startAt at longest capacity) (startRows longest capacity)
+      []
   unfolding startAt initialRows plusUris plusNames withUri withName initialUris initialNames isAmong
-  start-represents f at =
-      let s = initial-stands 0 f in
+  start-represents f at longest capacity =
+      let s = initial-stands (boundOf longest) (boundOf capacity) 0 f in
       record {
         valid = s .valid;
         holds = s .holds;
@@ -225,18 +232,21 @@ module _ (work : List ℕ) (room : workCells ≤ length work)
           values = refl;
           learned = refl;
           grammars = refl;
+          longest = refl;
+          capacity = refl;
         };
         opens = record { size = refl; rows = λ i h. absurd (omega arith) };
         marks = s .marks;
       }
 
-pub start-topped : (at : ℕ) → Topped (startAt at) []
+pub start-topped : (at longest capacity : ℕ) → Topped (startAt at longest capacity) []
 unfolding startAt
-start-topped at = record { is = λ h. absurd (omega arith) }
+start-topped at longest capacity = record { is = λ h. absurd (omega arith) }
 
-pub start-bounded : (at : ℕ) → Bounded (startAt at)
+pub start-bounded : (at longest capacity : ℕ) → capacity ≤ maxValues + 1
+    → Bounded (startAt at longest capacity)
 unfolding startAt maxStore maxUris maxNames maxValues maxLearned maxGrammars maxOpen maxEvents
-start-bounded at =
+start-bounded at longest capacity few =
     record {
       stored = omega arith;
       uris = omega arith;
@@ -252,30 +262,49 @@ start-bounded at =
         inner = λ h. absurd (omega arith);
       };
       tag = omega arith;
+      capacity = few;
     }
 
 -- ---- what it means
 
-rows-mean : (s : Settings) → contextOf startRows initialText 0 [] ≡ start s
+rows-mean : (s : Settings)
+    → contextOf (initialRows (s .longest) (s .capacity) 0) initialText 0 [] ≡ start s
 unfolding contextOf stateOf tablesOf learnedOf backward grammarsOf tagIn emptyTag named nameAt
     placedAt entryAt uriAt initialRows plusUris plusNames withUri withName initialText urisText
     namesText together initialUris initialNames start startTables addedAll initialEntries added
-    newUri newName newEntry newValue laid xmlUri xsiUri text
+    newUri newName newEntry newValue withValues laid xmlUri xsiUri text
 rows-mean s = refl
 
 text-first : (text : List ℕ) → take initialSize (withText text 0) ≡ initialText
 unfolding withText
 text-first text = take-at initialText (drop initialSize text) initialSize text-length
 
-pub start-means : (text : List ℕ) (at : ℕ) (s : Settings)
-    → contextAt (withText text 0) (startAt at) startRows [] ≡ start s
+-- The settings have these bounds.
+pub record BoundsOf (s : Settings) (longest capacity : ℕ) : Type 0 where
+  pub longest-is : boundOf longest ≡ s .longest
+  pub capacity-is : boundOf capacity ≡ s .capacity
+
+start-rows : {s : Settings} {longest capacity : ℕ} → BoundsOf s longest capacity
+    → startRows longest capacity ≡ initialRows (s .longest) (s .capacity) 0
+start-rows {s} {longest} {capacity} b =
+    ap (λ l. initialRows l (boundOf capacity) 0) (b .longest-is)
+    ∙ ap (λ c. initialRows (s .longest) c 0) (b .capacity-is)
+
+pub start-means : (text : List ℕ) (at : ℕ) {s : Settings} {longest capacity : ℕ}
+    → BoundsOf s longest capacity
+    → contextAt (withText text 0) (startAt at longest capacity) (startRows longest capacity) []
+    ≡ start s
 unfolding startAt
-start-means text at s =
-    ap (λ l. contextOf startRows l 0 []) (text-first text) ∙ rows-mean s
+start-means text at {s} {longest} {capacity} b =
+    ap (λ l. contextOf (startRows longest capacity) l 0 []) (text-first text)
+    ∙ ap (λ (w : Rows). contextOf w initialText 0 []) (start-rows b) ∙ rows-mean s
 
 -- And with any store of that length, up to the places of strings.
-pub start-alike : (store : Text) → length store ≡ initialSize → (s : Settings)
-    → Alike (contextOf startRows store inDocument []) (start s)
-start-alike store e s =
-    subst (Alike (contextOf startRows store inDocument [])) (rows-mean s)
-    (rows-context (alike-same startRows) store initialText (e ∙ sym text-length) inDocument [])
+pub start-alike : (store : Text) → length store ≡ initialSize
+    → {s : Settings} {longest capacity : ℕ} → BoundsOf s longest capacity
+    → Alike (contextOf (startRows longest capacity) store inDocument []) (start s)
+start-alike store e {s} {longest} {capacity} b =
+    subst (Alike (contextOf (startRows longest capacity) store inDocument []))
+    (ap (λ (w : Rows). contextOf w initialText 0 []) (start-rows b) ∙ rows-mean s)
+    (rows-context (alike-same (startRows longest capacity)) store initialText (e ∙ sym text-length)
+    inDocument [])

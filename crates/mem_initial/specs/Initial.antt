@@ -1,8 +1,10 @@
 -- The initial entries (EXI, appendix D.1 and D.3) in lent memory, and the rows that it then holds.
 use Prim.Native.Nat.{ℕ, suc, _+_, _-_, _≤_}
 use mathlib.Core.List.{List, [], _∷_, _++_, map}
+use mathlib.Core.Option.{Option}
 use lib.ListN.{length, take, drop, replicate}
 use Rattle.text.specs.Text.{Text, text}
+use Rattle.spec_exi.specs.Settings.{boundOf}
 use Rattle.spec_exi.specs.Tables.{xmlUri, xsiUri}
 use Rattle.mem_layout.specs.Layout.{zeroFrom, zeroTo, workCells, openingUris, openingNames}
 use Rattle.mem_entries.specs.Texts.{hashOf}
@@ -104,22 +106,33 @@ plusNames w origin k (l ∷ ls) =
     plusNames (rows.withName w (l .uri) (record { place = origin + k; text = l .name })) origin
     (k + length (l .name)) ls
 
-abbrev pub noRows : Rows
-noRows =
-    record { uris = []; names = []; values = []; learned = []; grammars = []; attributes = [] }
+-- With these settings for values, the longest and the capacity.
+abbrev pub noRows : Option ℕ → Option ℕ → Rows
+noRows longest capacity =
+    record {
+      uris = [];
+      names = [];
+      values = [];
+      learned = [];
+      grammars = [];
+      attributes = [];
+      longest = longest;
+      capacity = capacity;
+    }
 
-unfoldable pub initialRows : ℕ → Rows
-initialRows origin =
-    plusNames (plusUris noRows origin 0 initialUris) origin (length urisText) initialNames
+unfoldable pub initialRows : Option ℕ → Option ℕ → ℕ → Rows
+initialRows longest capacity origin =
+    plusNames (plusUris (noRows longest capacity) origin 0 initialUris) origin (length urisText)
+    initialNames
 
--- Where the store begins with their texts.
-abbrev pub startRows : Rows
-startRows = initialRows 0
+-- Where the store begins with their texts; the settings as their numbers have them.
+abbrev pub startRows : ℕ → ℕ → Rows
+startRows longest capacity = initialRows (boundOf longest) (boundOf capacity) 0
 
 -- ---- the numbers at the start of a stream, whose header ends at a position
 
-unfoldable pub startAt : ℕ → Core
-startAt at =
+unfoldable pub startAt : ℕ → ℕ → ℕ → Core
+startAt at longest capacity =
     record {
       at = at;
       stored = initialSize;
@@ -132,4 +145,6 @@ startAt at =
       top = 0;
       depth = 0;
       tag = 1;
+      longest = longest;
+      capacity = capacity;
     }

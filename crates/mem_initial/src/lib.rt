@@ -129,9 +129,9 @@ pub fn lay_rows(work: &mut [u32], origin: u32)
     lay_names(work, origin);
 }
 
-// The numbers that go with them, before the first event.
-pub fn start(at: usize) -> Core
-    ensures { λ r. ⌜ r ≡ startAt at ⌝ }
+// The numbers that go with them, before the first event, and the settings for values.
+pub fn start(at: usize, longest: u32, capacity: u32) -> Core
+    ensures { λ r. ⌜ r ≡ startAt at longest capacity ⌝ }
 {
     Core {
         at,
@@ -145,5 +145,7 @@ pub fn start(at: usize) -> Core
         top: 0,
         depth: 0,
         tag: 1,
+        longest,
+        capacity,
     }
 }

@@ -77,7 +77,7 @@ uriSizes = 3506
 abbrev pub uriFirsts : ℕ
 uriFirsts = 3522
 
--- ---- names: place, size, code (URI * 4096 + number), next by text, next by code, first row of
+-- ---- names: place, size, code (URI * 16384 + number), next by text, next by code, first row of
 -- the text
 
 abbrev pub namePlaces : ℕ
@@ -98,7 +98,7 @@ nameCodeNexts = 4050
 abbrev pub nameFirsts : ℕ
 nameFirsts = 4178
 
--- ---- learned productions: code (site * 4096 + kind * 128 + name), its next, code (site * 4096 +
+-- ---- learned productions: code (site * 16384 + kind * 128 + name), its next, code (site * 16384 +
 -- number), its next, the rows of the URI and the name that named it
 
 abbrev pub learnedNameCodes : ℕ
@@ -119,7 +119,7 @@ learnedUriRows = 6354
 abbrev pub learnedNameRows : ℕ
 learnedNameRows = 6866
 
--- ---- values: place, size, next by text, code (owner * 4096 + number), its next
+-- ---- values: place, size, next by text, code (owner * 16384 + number), its next
 
 abbrev pub valuePlaces : ℕ
 valuePlaces = 7378

@@ -58,7 +58,7 @@ pub const URI_SIZES: usize = 3506;
 
 pub const URI_FIRSTS: usize = 3522;
 
-// ---- names: place, size, code (URI * 4096 + number), next by text, next by code, first row of
+// ---- names: place, size, code (URI * 16384 + number), next by text, next by code, first row of
 // the text
 
 pub const NAME_PLACES: usize = 3538;
@@ -73,7 +73,7 @@ pub const NAME_CODE_NEXTS: usize = 4050;
 
 pub const NAME_FIRSTS: usize = 4178;
 
-// ---- learned productions: code (site * 4096 + kind * 128 + name), its next, code (site * 4096 +
+// ---- learned productions: code (site * 16384 + kind * 128 + name), its next, code (site * 16384 +
 // number), its next, the rows of the URI and the name that named it
 
 pub const LEARNED_NAME_CODES: usize = 4306;
@@ -88,7 +88,7 @@ pub const LEARNED_URI_ROWS: usize = 6354;
 
 pub const LEARNED_NAME_ROWS: usize = 6866;
 
-// ---- values: place, size, next by text, code (owner * 4096 + number), its next
+// ---- values: place, size, next by text, code (owner * 16384 + number), its next
 
 pub const VALUE_PLACES: usize = 7378;
 

@@ -2,18 +2,19 @@
 -- place.
 use Prim.Native.Nat.{ℕ}
 use mathlib.Core.Path.{_≡_, refl, sym, ap, fun-ext, _∙_}
-use mathlib.Core.Bool.{Bool, false}
+use mathlib.Core.Bool.{Bool, true}
 use mathlib.Core.List.{List, [], _∷_, _++_, map}
 use mathlib.Core.Option.{Option, some, Option·map}
 use lib.ListN.{length, replicate, List·getD-map}
 use Rattle.spec_fields.proofs.Tests.{split}
-use Rattle.text.specs.Text.{Text, isEmpty}
+use Rattle.text.specs.Text.{Text}
 use Rattle.spec_exi.specs.Event.{QName, Event, Kind, kindOf, nameOf, mapName}
 use Rattle.spec_exi.specs.Settings.{Settings}
-use Rattle.spec_exi.specs.Tables.{Placed, nameText, Entry, uri, local, value, added}
+use Rattle.spec_exi.specs.Tables.{Placed, nameText, Entry, uri, local, value, joins, added}
 use Rattle.spec_exi.specs.Grammar.{Code, kindNumber, codeOf}
 use Rattle.spec_exi.specs.Context.{levelsIn, items, afterItems, afterCode, next}
-use Rattle.spec_exi.specs.Alike.{unplaced, unplacedEntry, unplacedTables, unplacedName, unplacedProduction}
+use Rattle.spec_exi.specs.Alike.{unplaced, unplacedEntry, unplacedValues, unplacedTables, unplacedName}
+use Rattle.spec_exi.specs.Alike.{unplacedProduction}
 use Rattle.spec_exi.specs.Alike.{unplacedLearned, unplacedContext, SameBy, AlikeTables, Alike}
 use Rattle.spec_exi.proofs.Alike.{alike-same, after-alike, entries-alike}
 use Rattle.mem_entries.specs.Entries.{entryAt, named, noEntry}
@@ -38,6 +39,8 @@ unplacedRows w =
       learned = w .learned;
       grammars = w .grammars;
       attributes = w .attributes;
+      longest = w .longest;
+      capacity = w .capacity;
     }
 
 abbrev pub AlikeRows : Rows → Rows → Type 0
@@ -75,12 +78,17 @@ module _ (w : Rows) where
 
   tables-unplaced : (store : Text)
       → tablesOf (unplacedRows w) (replicate (length store) 0) ≡ unplacedTables (tablesOf w store)
-  unfolding tablesOf unplacedTables unplacedRows
+  unfolding tablesOf unplacedTables unplacedValues unplacedRows
   tables-unplaced store =
       λ i. record {
         uris = map unplaced (w .uris);
         names = keyed-unplaced uris-unplaced (w .names) i;
-        values = keyed-unplaced names-unplaced (w .values) i;
+        values =
+            record {
+              longest = w .longest;
+              capacity = w .capacity;
+              added = keyed-unplaced names-unplaced (w .values) i;
+            };
         store = replicate (length store) 0;
       }
 
@@ -177,7 +185,7 @@ module _ (w : Rows) (r : Refers w) (store : Text) (x : Placed) where
       rw (name-joins w r store (x .text) attr u)
       (rows-tables (alike-name (alike-same w) _ x refl u) (store ++ x .text) (store ++ x .text) refl)
 
-  pub value-joins-alike : (n : ℕ) → isEmpty (x .text) ≡ false
+  pub value-joins-alike : (n : ℕ) → joins (tablesOf w store .values) (x .text) ≡ true
       → AlikeTables (added (tablesOf w store) (value (nameAt w n)) (x .text))
       (tablesOf (withValue w n x) (store ++ x .text))
   value-joins-alike n e =

@@ -106,9 +106,10 @@ module _ (kind n : ℕ) (b : Bool) (l : Learnt) (v : Rows) where
       go false c true = refl
       go false c false = refl
 
-  -- The lists that it does not touch.
+  -- The lists that it does not touch, and the settings for values.
   pub leaves-lists : (leaves kind n b l v .uris ≡ v .uris) × (leaves kind n b l v .names ≡ v .names)
-      × (leaves kind n b l v .values ≡ v .values)
+      × (leaves kind n b l v .values ≡ v .values) × (leaves kind n b l v .longest ≡ v .longest)
+      × (leaves kind n b l v .capacity ≡ v .capacity)
   unfolding leaves withAttributes afterLearned afterGrammar withLearned withGrammar
   leaves-lists = go (eqb kind (kindNumber SE)) (isAmong n (v .grammars)) b
     where
@@ -116,12 +117,14 @@ module _ (kind n : ℕ) (b : Bool) (l : Learnt) (v : Rows) where
           → (afterLearned d l (cond a (cond c v (withGrammar v n)) v) .uris ≡ v .uris)
           × (afterLearned d l (cond a (cond c v (withGrammar v n)) v) .names ≡ v .names)
           × (afterLearned d l (cond a (cond c v (withGrammar v n)) v) .values ≡ v .values)
-      go true true true = (refl, refl, refl)
-      go true true false = (refl, refl, refl)
-      go true false true = (refl, refl, refl)
-      go true false false = (refl, refl, refl)
-      go false c true = (refl, refl, refl)
-      go false c false = (refl, refl, refl)
+          × (afterLearned d l (cond a (cond c v (withGrammar v n)) v) .longest ≡ v .longest)
+          × (afterLearned d l (cond a (cond c v (withGrammar v n)) v) .capacity ≡ v .capacity)
+      go true true true = (refl, refl, refl, refl, refl)
+      go true true false = (refl, refl, refl, refl, refl)
+      go true false true = (refl, refl, refl, refl, refl)
+      go true false false = (refl, refl, refl, refl, refl)
+      go false c true = (refl, refl, refl, refl, refl)
+      go false c false = (refl, refl, refl, refl, refl)
 
   leaves-learned : learnedOf (leaves kind n b l v) ≡ learnedOf (afterLearned b l v)
   unfolding leaves withAttributes afterLearned afterGrammar withLearned withGrammar learnedOf

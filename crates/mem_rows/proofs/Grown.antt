@@ -1,9 +1,10 @@
 -- One row more keeps the rows valid, where it refers to rows that are there and none is the same.
-use Prim.Native.Nat.{ℕ, zero, suc, _+_, _/_, _≤_, _<_}
+use Prim.Native.Nat.{ℕ, zero, suc, _+_, _-_, _/_, _≤_, _<_}
 use native.Mathlib.Omega.{arith}
 use mathlib.Core.Path.{_≡_, refl, sym, ap, subst, _∙_}
 use mathlib.Core.Bool.{Bool, true, false, cond, _||_, true≢false}
 use mathlib.Core.List.{List, [], _∷_, _++_, map}
+use mathlib.Core.Option.{Option, none, some}
 use lib.ListN.{length, getD, length-append, List·getD-append}
 use lib.Seq.{getD-append-seam}
 use lib.Dec.{eqb}
@@ -11,7 +12,8 @@ use borrow.Author.Tests.{eqb-true, eqb-false, eq-eqb}
 use Rattle.spec_fields.proofs.Tests.{split}
 use Rattle.text.specs.Text.{Text}
 use Rattle.spec_exi.specs.Event.{QName}
-use Rattle.spec_exi.specs.Tables.{Placed, Entry, local, nameAllowed}
+use Rattle.spec_exi.specs.Sizes.{maxValues}
+use Rattle.spec_exi.specs.Tables.{Placed, Entry, local, nameAllowed, replaced, isZero}
 use Rattle.mem_entries.specs.Entries.{entryAt, textAt}
 use Rattle.mem_entries.proofs.Entries.{entry-old, entry-new}
 use Rattle.mem_names.specs.Uris.{noUri, uriAt, uriText}
@@ -19,7 +21,7 @@ use Rattle.mem_rows.specs.Rows.{Learnt, Rows, placedAt, nameAt}
 use Rattle.mem_rows.specs.Rows.{isAmong, withUri, withName, withValue, withLearned, withGrammar}
 use Rattle.mem_rows.specs.Rows.{withAttributes}
 use Rattle.mem_rows.specs.Valid.{noLearnt, learntAt, KeysBelow, LearntFits, Refers, Distinct}
-use Rattle.mem_rows.specs.Valid.{Judged, Valid}
+use Rattle.mem_rows.specs.Valid.{goneIn, Windowed, Judged, Valid}
 use Rattle.mem_rows.proofs.Entries.{last-or, keys-more, keys-up}
 use Rattle.mem_rows.proofs.Joins.{uri-old, uri-new, uri-names, name-old, name-new, name-text}
 use Rattle.mem_rows.proofs.Kept.{Kept, name-kept}
@@ -92,6 +94,7 @@ module _ {w : Rows} (v : Valid w) (x : Placed) where
           grammars = r .grammars;
           attributes = r .attributes;
         };
+        window = v .window;
         distinct = record {
           uris = apart-more (w .uris) x (uriText (w .uris)) (uriText (w .uris ++ (x ∷ [])))
               (λ u h. ap (λ (p : Placed). p .text) (uri-old w x u h)) (d .uris)
@@ -141,6 +144,7 @@ module _ {w : Rows} (v : Valid w) (u : ℕ) (x : Placed) where
           grammars = λ i l. omega (arith, r .grammars i l, more);
           attributes = λ i l. omega (arith, r .attributes i l, more);
         };
+        window = v .window;
         distinct = record {
           uris = d .uris;
           names = apart-more (w .names) e (nameAt w) (nameAt (withName w u x))
@@ -164,19 +168,56 @@ module _ {w : Rows} (v : Valid w) (u : ℕ) (x : Placed) where
 
 -- ---- a value
 
+-- Texts from a row on that differ still differ with one more that none of them has.
+texts-apart : (low : ℕ) (es : List (Entry ℕ)) (e : Entry ℕ)
+    → ((i j : ℕ) → low ≤ i → i < length es → low ≤ j → j < length es → textAt es i ≡ textAt es j → i ≡ j)
+    → ((i : ℕ) → low ≤ i → i < length es → textAt es i ≡ e .string .text → ⊥)
+    → (i j : ℕ) → low ≤ i → i < length (es ++ (e ∷ [])) → low ≤ j → j < length (es ++ (e ∷ []))
+    → textAt (es ++ (e ∷ [])) i ≡ textAt (es ++ (e ∷ [])) j → i ≡ j
+texts-apart low es e once fresh i j a h b k =
+    let old : (i : ℕ) → i < length es → textAt (es ++ (e ∷ [])) i ≡ textAt es i =
+    λ i l. ap (λ (y : Entry ℕ). y .string .text) (entry-old es e i l) in
+    let new : textAt (es ++ (e ∷ [])) (length es) ≡ e .string .text =
+    ap (λ (y : Entry ℕ). y .string .text) (entry-new es e) in
+    last-or
+    {P = λ i. low ≤ i → (j : ℕ) → low ≤ j → j < length (es ++ (e ∷ []))
+    → textAt (es ++ (e ∷ [])) i ≡ textAt (es ++ (e ∷ [])) j → i ≡ j} es e
+    (λ i l a j b k. last-or
+    {P = λ j. low ≤ j → textAt (es ++ (e ∷ [])) i ≡ textAt (es ++ (e ∷ [])) j → i ≡ j} es e
+    (λ j m b z. once i j a l b m (sym (old i l) ∙ z ∙ old j m))
+    (λ b z. absurd (fresh i a l (sym (old i l) ∙ z ∙ new)))
+    j k b)
+    (λ a j b k. last-or
+    {P = λ j. low ≤ j → textAt (es ++ (e ∷ [])) (length es) ≡ textAt (es ++ (e ∷ [])) j → length es ≡ j} es e
+    (λ j m b z. absurd (fresh j b m (sym (old j m) ∙ sym z ∙ new)))
+    (λ b z. refl)
+    j k b)
+    i h a j b k
+
+replaced-more : (cap : Option ℕ) (n : ℕ) → replaced cap n ≤ replaced cap (suc n)
+unfolding replaced
+replaced-more none n = omega arith
+replaced-more (some c) n = omega arith
+
 module _ {w : Rows} (v : Valid w) (n : ℕ) (x : Placed) where
   pub value-keeps : Kept w (withValue w n x)
   unfolding withValue placedAt
   value-keeps = record { fewer = omega arith; names = λ m h. refl }
 
+  -- No value that is present has its text, the capacity is not zero, and the size has room.
   pub value-grows : n < length (w .names)
-      → ((i : ℕ) → i < length (w .values) → textAt (w .values) i ≡ x .text → ⊥)
+      → ((i : ℕ) → goneIn w ≤ i → i < length (w .values) → textAt (w .values) i ≡ x .text → ⊥)
+      → isZero (w .capacity) ≡ false
+      → suc (length (w .values)) - replaced (w .capacity) (suc (length (w .values))) ≤ maxValues
       → Valid (withValue w n x)
   unfolding withValue nameAt placedAt
-  value-grows h fresh =
+  value-grows h fresh nonzero few =
       let r = v .refers in
       let d = v .distinct in
       let e : Entry ℕ = record { key = n; string = x } in
+      let more : length (w .values ++ (e ∷ [])) ≡ suc (length (w .values)) = length-snoc (w .values) e in
+      let later : goneIn w ≤ replaced (w .capacity) (length (w .values ++ (e ∷ []))) =
+      rw more (replaced-more (w .capacity) (length (w .values))) in
       record {
         refers = record {
           names = r .names;
@@ -185,13 +226,16 @@ module _ {w : Rows} (v : Valid w) (n : ℕ) (x : Placed) where
           grammars = r .grammars;
           attributes = r .attributes;
         };
+        window = record {
+          closed = λ z. absurd (true≢false (sym z ∙ nonzero));
+          few = rw more few;
+        };
         distinct = record {
           uris = d .uris;
           names = d .names;
-          values = apart-more (w .values) e (textAt (w .values)) (textAt (w .values ++ (e ∷ [])))
-              (λ i l. ap (λ (y : Entry ℕ). y .string .text) (entry-old (w .values) e i l))
-              (d .values)
-              (λ i l z. fresh i l (z ∙ ap (λ (y : Entry ℕ). y .string .text) (entry-new (w .values) e)));
+          values = λ i j a k b l z.
+              texts-apart (goneIn w) (w .values) e (d .values) fresh i j (omega (arith, later)) k
+              (omega (arith, later)) l z;
           learned = d .learned;
           grammars = d .grammars;
         };
@@ -224,6 +268,7 @@ module _ {w : Rows} (v : Valid w) (l : Learnt) where
           grammars = r .grammars;
           attributes = r .attributes;
         };
+        window = v .window;
         distinct = record {
           uris = d .uris;
           names = d .names;
@@ -271,6 +316,7 @@ module _ {w : Rows} (v : Valid w) (n : ℕ) where
               (omega (arith, new, h));
           attributes = r .attributes;
         };
+        window = v .window;
         distinct = record {
           uris = d .uris;
           names = d .names;
@@ -303,6 +349,7 @@ module _ {w : Rows} (v : Valid w) (ns : List ℕ) where
           grammars = r .grammars;
           attributes = h;
         };
+        window = v .window;
         distinct = record {
           uris = d .uris;
           names = d .names;

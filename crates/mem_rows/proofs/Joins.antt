@@ -6,10 +6,10 @@ use mathlib.Core.Bool.{Bool, true, false, cond}
 use mathlib.Core.List.{List, [], _∷_, _++_, map, append-nil}
 use lib.ListN.{length, getD, length-append, List·getD-append}
 use lib.Seq.{getD-append-seam}
-use Rattle.text.specs.Text.{Text, isEmpty}
+use Rattle.text.specs.Text.{Text}
 use Rattle.spec_exi.specs.Event.{QName}
-use Rattle.spec_exi.specs.Tables.{Placed, Entry, Tables, Role, uri, local, value, target, plain, newUri}
-use Rattle.spec_exi.specs.Tables.{newName, newValue, newEntry, laid, added}
+use Rattle.spec_exi.specs.Tables.{Placed, Entry, Values, Tables, Role, uri, local, value, target, plain}
+use Rattle.spec_exi.specs.Tables.{newUri, newName, joins, newValue, newEntry, withValues, laid, added}
 use Rattle.mem_entries.specs.Entries.{entryAt, named}
 use Rattle.mem_names.specs.Uris.{noUri, uriAt, uriText}
 use Rattle.mem_rows.specs.Rows.{Rows, placedAt, nameAt}
@@ -75,49 +75,73 @@ name-text w w′ n m e = ap (λ (q : QName Placed). record { uri = q .uri .text;
 
 -- Rows that mean what they meant give the tables that they gave, but for what was appended.
 module _ (w : Rows) (r : Refers w) (store x : Text) where
+  abbrev with-added : List (Entry (QName Text)) → Values
+  with-added vs = record { longest = w .longest; capacity = w .capacity; added = vs }
+
   pub uri-joins :
       added (tablesOf w store) uri x
       ≡ tablesOf (withUri w (record { place = length store; text = x })) (store ++ x)
-  unfolding added newUri newName newValue laid tablesOf withUri
+  unfolding added newUri newName newValue withValues laid tablesOf withUri
   uri-joins =
       let y : Placed = record { place = length store; text = x } in
       let names = keyed-same (uriText (w .uris)) (uriText (withUri w y .uris)) (length (w .uris))
       (λ u h. ap (λ (p : Placed). p .text) (sym (uri-old w y u h))) (w .names) (r .names) in
       let values = keyed-same (nameAt w) (nameAt (withUri w y)) (length (w .names))
       (λ n h. name-text w (withUri w y) n n (sym (uri-names w y r n h))) (w .values) (r .values) in
-      λ i. record { uris = w .uris ++ (y ∷ []); names = (append-nil _ ∙ names) i; values = (append-nil _ ∙ values) i; store = store ++ x }
+      λ i. record {
+        uris = w .uris ++ (y ∷ []);
+        names = (append-nil _ ∙ names) i;
+        values = with-added ((append-nil _ ∙ values) i);
+        store = store ++ x;
+      }
 
   pub name-joins : (attr : Bool) (u : ℕ)
       → added (tablesOf w store) (local attr (uriText (w .uris) u)) x
       ≡ tablesOf (withName w u (record { place = length store; text = x })) (store ++ x)
-  unfolding added newUri newName newValue laid tablesOf withName named
+  unfolding added newUri newName newValue withValues laid tablesOf withName named
   name-joins attr u =
       let y : Placed = record { place = length store; text = x } in
       let names = sym (map-snoc (named (uriText (w .uris))) (w .names) (record { key = u; string = y })) in
       let values = keyed-same (nameAt w) (nameAt (withName w u y)) (length (w .names))
       (λ n h. name-text w (withName w u y) n n (sym (name-old w u y n h))) (w .values) (r .values) in
-      λ i. record { uris = append-nil (w .uris) i; names = names i; values = (append-nil _ ∙ values) i; store = store ++ x }
+      λ i. record {
+        uris = append-nil (w .uris) i;
+        names = names i;
+        values = with-added ((append-nil _ ∙ values) i);
+        store = store ++ x;
+      }
 
-  pub value-joins : (n : ℕ) → isEmpty x ≡ false
+  pub value-joins : (n : ℕ) → joins (tablesOf w store .values) x ≡ true
       → added (tablesOf w store) (value (nameAt w n)) x
       ≡ tablesOf (withValue w n (record { place = length store; text = x })) (store ++ x)
-  unfolding added newUri newName newValue newEntry laid tablesOf withValue named nameAt placedAt
+  unfolding added newUri newName newValue withValues newEntry laid tablesOf withValue named nameAt placedAt
   value-joins n e =
       let y : Placed = record { place = length store; text = x } in
       let values = sym (map-snoc (named (nameAt w)) (w .values) (record { key = n; string = y })) in
-      rw e (λ i. record { uris = append-nil (w .uris) i; names = append-nil (map (named (uriText (w .uris))) (w .names)) i; values = values i; store = store ++ x })
+      rw e (λ i. record {
+        uris = append-nil (w .uris) i;
+        names = append-nil (map (named (uriText (w .uris))) (w .names)) i;
+        values = with-added (values i);
+        store = store ++ x;
+      })
 
--- A value that is empty, a target, a comment or an instruction's text is laid, and joins no table.
+-- A value that does not join, a target, a comment or an instruction's text is laid, and joins no table.
 pub nothing-joins : (w : Rows) (store x : Text) (role : Role)
     → (newUri role (laid (tablesOf w store) x) ≡ []) → (newName role (laid (tablesOf w store) x) ≡ [])
-    → (newValue role (laid (tablesOf w store) x) ≡ []) → added (tablesOf w store) role x ≡ tablesOf w (store ++ x)
-unfolding added tablesOf
+    → (newValue (tablesOf w store .values) role (laid (tablesOf w store) x) ≡ [])
+    → added (tablesOf w store) role x ≡ tablesOf w (store ++ x)
+unfolding added withValues tablesOf
 nothing-joins w store x role a b c =
     λ i. record {
       uris = (ap (λ l. w .uris ++ l) a ∙ append-nil (w .uris)) i;
       names = (ap (λ l. map (named (uriText (w .uris))) (w .names) ++ l) b
           ∙ append-nil (map (named (uriText (w .uris))) (w .names))) i;
-      values = (ap (λ l. map (named (nameAt w)) (w .values) ++ l) c
-          ∙ append-nil (map (named (nameAt w)) (w .values))) i;
+      values =
+          record {
+            longest = w .longest;
+            capacity = w .capacity;
+            added = (ap (λ l. map (named (nameAt w)) (w .values) ++ l) c
+                ∙ append-nil (map (named (nameAt w)) (w .values))) i;
+          };
       store = store ++ x;
     }

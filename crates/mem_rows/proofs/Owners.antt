@@ -30,6 +30,7 @@ module _ {w : Rows} (v : Valid w) where
       record { each = λ i h. is-name w (keyAt (w .values) i) (v .refers .values .below i h) }
 
 -- The definitions' values have the texts of the rows, under the names that their keys mean.
-pub values-alike : (w : Rows) (store : Text) → Alike (nameAt w) (tablesOf w store .values) (w .values)
+pub values-alike : (w : Rows) (store : Text) → Alike (nameAt w) (tablesOf w store .values .added)
+    (w .values)
 unfolding tablesOf
 values-alike w store = named-alike (nameAt w) (w .values)

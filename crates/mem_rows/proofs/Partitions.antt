@@ -4,20 +4,17 @@ use Prim.Native.Nat.{ℕ, zero, suc, _≤_, _<_}
 use native.Mathlib.Omega.{arith}
 use mathlib.Core.Path.{_≡_, refl, sym, ap, _∙_}
 use mathlib.Core.Bool.{Bool, true, false, true≢false}
-use mathlib.Core.List.{List, [], _∷_, _++_, map, map-map}
-use mathlib.Core.Option.{none, some}
+use mathlib.Core.List.{List, [], _∷_, map}
 use lib.ListN.{length, getD}
 use lib.Dec.{T, eqb}
 use borrow.Author.Tests.{eqb-true, eqb-false, eq-eqb, ne-eqb}
 use Rattle.spec_fields.proofs.Tests.{split, T-is, is-T}
 use Rattle.text.specs.Text.{Text, eqText}
 use Rattle.text.proofs.Equal.{eqText-refl, eqText-eq}
-use Rattle.spec_exi.specs.Event.{QName, eqName}
-use Rattle.spec_exi.specs.Tables.{Placed, Entry, Tables, Slot, partition, namesOf, valuesOf, allValues}
-use Rattle.spec_exi.proofs.Codes.{eqName-refl, eqName-eq}
+use Rattle.spec_exi.specs.Tables.{Placed, Entry, Tables, partition, namesOf}
 use Rattle.mem_entries.specs.Entries.{entryAt, given, named}
 use Rattle.mem_names.specs.Uris.{uriText}
-use Rattle.mem_rows.specs.Rows.{Rows, nameAt, tablesOf}
+use Rattle.mem_rows.specs.Rows.{Rows, tablesOf}
 use Rattle.mem_rows.specs.Valid.{KeysBelow, Refers, Distinct, Valid}
 use Rattle.mem_rows.proofs.Entries.{keys-head, keys-tail}
 
@@ -48,17 +45,3 @@ module _ {w : Rows} (v : Valid w) (store : Text) where
   names-part u h =
       keyed-part eqText eqText-refl eqText-eq (uriText (w .uris)) (length (w .uris)) (v .distinct .uris) u h
       (w .names) (v .refers .names)
-
-  pub values-part : (n : ℕ) → n < length (w .names)
-      → valuesOf (tablesOf w store) (nameAt w n) ≡ map some (given (w .values) n)
-  unfolding valuesOf tablesOf
-  values-part n h =
-      ap (map some)
-      (keyed-part eqName eqName-refl eqName-eq (nameAt w) (length (w .names)) (v .distinct .names) n h
-      (w .values) (v .refers .values))
-
--- All values, in order.
-pub all-part : (w : Rows) (store : Text)
-    → allValues (tablesOf w store) ≡ map (λ (e : Entry ℕ). some (e .string)) (w .values)
-unfolding allValues tablesOf named
-all-part w store = map-map (λ (x : Entry (QName Text)). some (x .string)) (named (nameAt w)) (w .values)

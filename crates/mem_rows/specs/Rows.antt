@@ -43,6 +43,9 @@ pub record Rows : Type 0 where
   pub grammars : List ℕ
   -- the attributes of the start tag that is open, by the row of their name, the newest first
   pub attributes : List ℕ
+  -- the settings for values (EXI 5.4; P5)
+  pub longest : Option ℕ
+  pub capacity : Option ℕ
 
 -- ---- as the definitions' tables
 
@@ -60,7 +63,12 @@ tablesOf w store =
     record {
       uris = w .uris;
       names = map (named (uriText (w .uris))) (w .names);
-      values = map (named (nameAt w)) (w .values);
+      values =
+          record {
+            longest = w .longest;
+            capacity = w .capacity;
+            added = map (named (nameAt w)) (w .values);
+          };
       store = store;
     }
 
@@ -176,6 +184,8 @@ withUri w x =
       learned = w .learned;
       grammars = w .grammars;
       attributes = w .attributes;
+      longest = w .longest;
+      capacity = w .capacity;
     }
 
 unfoldable pub withName : Rows → ℕ → Placed → Rows
@@ -187,6 +197,8 @@ withName w u x =
       learned = w .learned;
       grammars = w .grammars;
       attributes = w .attributes;
+      longest = w .longest;
+      capacity = w .capacity;
     }
 
 unfoldable pub withValue : Rows → ℕ → Placed → Rows
@@ -198,6 +210,8 @@ withValue w n x =
       learned = w .learned;
       grammars = w .grammars;
       attributes = w .attributes;
+      longest = w .longest;
+      capacity = w .capacity;
     }
 
 unfoldable pub withLearned : Rows → Learnt → Rows
@@ -209,6 +223,8 @@ withLearned w l =
       learned = w .learned ++ (l ∷ []);
       grammars = w .grammars;
       attributes = w .attributes;
+      longest = w .longest;
+      capacity = w .capacity;
     }
 
 unfoldable pub withGrammar : Rows → ℕ → Rows
@@ -220,6 +236,8 @@ withGrammar w n =
       learned = w .learned;
       grammars = w .grammars ++ (n ∷ []);
       attributes = w .attributes;
+      longest = w .longest;
+      capacity = w .capacity;
     }
 
 -- ---- what an event leaves, where its strings have joined
@@ -245,6 +263,8 @@ withAttributes ns w =
       learned = w .learned;
       grammars = w .grammars;
       attributes = ns;
+      longest = w .longest;
+      capacity = w .capacity;
     }
 
 -- The rows that an event leaves, where its strings have left v: its name has row n, and l is learned.

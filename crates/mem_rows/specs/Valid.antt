@@ -1,11 +1,14 @@
--- What holds of the rows between events: each refers to rows that are there, no two of a table are the
--- same, and every name was judged when it joined.
-use Prim.Native.Nat.{ℕ, _/_, _%_, _≤_, _<_}
+-- What holds of the rows between events: each refers to rows that are there, no two of a table that
+-- are present are the same, the values are within their bounds, and every name was judged when it
+-- joined.
+use Prim.Native.Nat.{ℕ, _-_, _/_, _%_, _≤_, _<_}
 use mathlib.Core.Path.{_≡_}
 use mathlib.Core.Bool.{true, false}
 use mathlib.Core.List.{List}
+use mathlib.Core.Option.{Option}
 use lib.ListN.{length, getD}
-use Rattle.spec_exi.specs.Tables.{Placed, Entry, local, nameAllowed}
+use Rattle.spec_exi.specs.Sizes.{maxValues}
+use Rattle.spec_exi.specs.Tables.{Placed, Entry, local, nameAllowed, replaced, isZero}
 use Rattle.mem_entries.specs.Entries.{entryAt, textAt}
 use Rattle.mem_names.specs.Uris.{uriText}
 use Rattle.event_code.specs.Numbers.{numberSE, numberAT, numberCH}
@@ -46,14 +49,24 @@ pub record Refers (w : Rows) : Type 0 where
   pub attributes : (i : ℕ) → i < length (w .attributes)
       → getD (w .attributes) i 0 < length (w .names)
 
+-- How many values are replaced (EXI 7.3.3; P5).
+abbrev pub goneIn : Rows → ℕ
+goneIn w = replaced (w .capacity) (length (w .values))
+
+-- Of n values none has joined under a capacity of zero, and no more are present than the size (P5).
+pub record Windowed (cap : Option ℕ) (n : ℕ) : Type 0 where
+  pub closed : isZero cap ≡ true → n ≡ 0
+  pub few : n - replaced cap n ≤ maxValues
+
 -- Strict reading and writing keep entries apart.
 pub record Distinct (w : Rows) : Type 0 where
   pub uris : (i j : ℕ) → i < length (w .uris) → j < length (w .uris)
       → uriText (w .uris) i ≡ uriText (w .uris) j → i ≡ j
   pub names : (i j : ℕ) → i < length (w .names) → j < length (w .names)
       → nameAt w i ≡ nameAt w j → i ≡ j
-  pub values : (i j : ℕ) → i < length (w .values) → j < length (w .values)
-      → textAt (w .values) i ≡ textAt (w .values) j → i ≡ j
+  -- of the values those that are not replaced
+  pub values : (i j : ℕ) → goneIn w ≤ i → i < length (w .values) → goneIn w ≤ j
+      → j < length (w .values) → textAt (w .values) i ≡ textAt (w .values) j → i ≡ j
   pub learned : (i j : ℕ) → i < length (w .learned) → j < length (w .learned)
       → learntAt (w .learned) i ≡ learntAt (w .learned) j → i ≡ j
   pub grammars : (i j : ℕ) → i < length (w .grammars) → j < length (w .grammars)
@@ -66,5 +79,6 @@ pub record Judged (w : Rows) : Type 0 where
 
 pub record Valid (w : Rows) : Type 0 where
   pub refers : Refers w
+  pub window : Windowed (w .capacity) (length (w .values))
   pub distinct : Distinct w
   pub judged : Judged w

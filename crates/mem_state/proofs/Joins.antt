@@ -1,10 +1,10 @@
 -- Memory holds one row more, of any of its tables.
-use Prim.Native.Nat.{ℕ, suc, _≤_, _<_}
+use Prim.Native.Nat.{ℕ, suc, _+_, _≤_, _<_}
 use native.Mathlib.Omega.{arith}
 use mathlib.Core.Path.{_≡_, refl, sym, ap, subst, _∙_}
 use mathlib.Core.Bool.{Bool, true, false, cond}
 use mathlib.Core.List.{List, [], _∷_, _++_, map}
-use mathlib.Core.Option.{none}
+use mathlib.Core.Option.{Option}
 use lib.ListN.{length, length-append, length-map}
 use lib.Dec.{eqb}
 use borrow.Author.Tests.{eqb-true}
@@ -12,9 +12,11 @@ use Rattle.spec_fields.proofs.Tests.{split}
 use Rattle.text.specs.Text.{Text}
 use Rattle.text.proofs.Equal.{eqText-no}
 use Rattle.spec_exi.specs.Event.{QName}
-use Rattle.spec_exi.specs.Tables.{Placed, Entry}
+use Rattle.spec_exi.specs.Sizes.{maxValues}
+use Rattle.spec_exi.specs.Tables.{Placed, Entry, replaced}
 use Rattle.spec_exi.specs.Grammar.{kindNumber}
 use Rattle.mem_layout.specs.Layout.{uriRows, nameRows, valueRing, learnedRows, sites, workCells}
+use Rattle.mem_index.specs.Index.{numbers}
 use Rattle.mem_chain.specs.Chain.{firstThat}
 use Rattle.mem_chain.proofs.First.{first-zero}
 use Rattle.mem_entries.specs.Texts.{hashOf, Grown, Lies}
@@ -28,11 +30,12 @@ use Rattle.mem_names.proofs.Uris.{uri-old, uri-new, first-fresh, uris-kept, uri
 use Rattle.mem_names.proofs.Names.{is-entry}
 use Rattle.mem_names.proofs.Joined.{names-kept, names-longer, names-more}
 use Rattle.mem_marks.specs.Marks.{withMark}
-use Rattle.mem_values.specs.Window.{replaced, globalNumber, Differ, unbounded}
-use Rattle.mem_values.specs.Forms.{ValuesStand}
+use Rattle.mem_values.specs.Window.{Capacity, Differ}
+use Rattle.mem_values.specs.Hold.{ValuesHold}
 use Rattle.mem_values.specs.Values as values
 use Rattle.mem_values.proofs.Joined.{values-more}
-use Rattle.mem_values.proofs.Stands.{stand-kept, stand-grown}
+use Rattle.mem_values.proofs.Order.{newest-is, replaced-few}
+use Rattle.mem_values.proofs.Stands.{capacity-is, stand-kept, stand-grown}
 use Rattle.mem_learned.specs.Learned.{Taught, LearnedHold}
 use Rattle.mem_learned.specs.Learned as learned
 use Rattle.mem_learned.specs.Grammars.{hasRow, GrammarsHold, withGrammarOf}
@@ -41,7 +44,7 @@ use Rattle.mem_learned.proofs.Grammars.{grammars-kept, grammars-more}
 use Rattle.mem_rows.specs.Rows.{Learnt, Rows, placedAt, nameAt, kindAt, carries, isAmong}
 use Rattle.mem_rows.specs.Rows.{withUri, withName, withValue, withLearned, withGrammar}
 use Rattle.mem_rows.specs.Rows.{withAttributes}
-use Rattle.mem_rows.specs.Valid.{noLearnt, LearntFits, Refers, Distinct, Valid}
+use Rattle.mem_rows.specs.Valid.{noLearnt, LearntFits, Refers, goneIn, Windowed, Distinct, Valid}
 use Rattle.mem_rows.proofs.Kept.{map-same, all-at}
 use Rattle.mem_rows.proofs.Joins.{map-snoc}
 use Rattle.mem_state.specs.Holds.{taughtOf, taughtIn, Stores, inStore, Holds}
@@ -191,20 +194,25 @@ module _ (w : Rows) (r : Refers w) (u : ℕ) (x : Placed) (v : Valid (withName w
 
 -- ---- a value
 
+-- The ring has a row for every value that is present.
+pub window-near : {cap : Option ℕ} {n : ℕ} → Windowed cap n → n ≤ replaced cap n + valueRing
+unfolding maxValues
+window-near {cap} {n} w = omega (arith, w .few, replaced-few cap n)
+
 module _ (w : Rows) (k : ℕ) (x : Placed) (v : Valid (withValue w k x)) where
-  values-differ : Differ 0 (withValue w k x .values)
+  values-differ : Differ (goneIn (withValue w k x)) (withValue w k x .values)
   values-differ =
       record {
-        texts = λ i j _ a b e.
-            let z : i ≡ j = v .distinct .values i j (omega arith) b e in omega arith;
+        texts = λ i j l a b e.
+            let z : i ≡ j = v .distinct .values i j l (omega arith) (omega arith) b e in omega arith;
       }
 
   pub holds-value : {work : List ℕ} {from : Stores} → Holds work from w
-      → length (w .values) < valueRing → k < nameRows
+      → length (w .values) < numbers → k < nameRows
       → Lies (from .values .store) (from .values .stored) (x .place) (length (x .text)) (x .text)
       → Holds (values.withValue work (length (w .values)) k (x .place) (length (x .text))
       (hashOf (x .text))) from (withValue w k x)
-  unfolding withValue taughtIn taughtOf replaced globalNumber
+  unfolding withValue taughtIn taughtOf
   holds-value {work} {from} h few low lies =
       let n = length (w .values) in
       let m : workCells ≤ length work = h .names .room in
@@ -212,22 +220,22 @@ module _ (w : Rows) (k : ℕ) (x : Placed) (v : Valid (withValue w k x)) where
       let b = length (x .text) in
       let g = hashOf (x .text) in
       let e : Entry ℕ = record { key = k; string = x } in
+      let bound : Capacity (w .capacity) (length (w .values ++ (e ∷ []))) =
+      capacity-is (w .capacity) (length (w .values ++ (e ∷ []))) (v .window .closed) in
       record {
         uris = uris-kept (value-uris work n k a b g m low) (h .uris);
         names = names-kept (value-names work n k a b g m low) (h .names);
-        values = subst
-            (λ i. ValuesStand (values.withValue work n k a b g) (from .values .store)
-            (from .values .stored) i 0 i
-            (w .values ++ (e ∷ [])) none) (sym (length-snoc (w .values) e))
-            (record {
-              holds = values-more work n k a b g low (h .values .holds) (x .text) (omega arith) lies
-                  refl;
-              differ = values-differ;
-              capacity = unbounded;
-              gone = refl;
-              new = refl;
-              near = omega arith;
-            });
+        values = record {
+          holds = subst
+              (λ i. ValuesHold (values.withValue work n k a b g) (from .values .store)
+              (from .values .stored) i (w .values ++ (e ∷ []))) (sym (length-snoc (w .values) e))
+              (values-more work n k a b g low (h .values .holds) (x .text) few lies refl);
+          differ = values-differ;
+          capacity = bound;
+          gone = refl;
+          new = newest-is bound;
+          near = window-near (v .window);
+        };
         learned = learned-kept (value-learned work n k a b g m low) (h .learned);
         grammars = flags-kept (value-flags work n k a b g m low) (h .grammars);
       }

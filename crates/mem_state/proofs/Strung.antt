@@ -7,7 +7,8 @@ use mathlib.Core.Bool.{Bool, true, false, cond, true≢false}
 use mathlib.Core.List.{List, [], _∷_, _++_}
 use lib.ListN.{length, length-append}
 use Rattle.spec_exi.specs.Tables.{Placed, Entry}
-use Rattle.mem_layout.specs.Layout.{uriRows, nameRows, valueRing}
+use Rattle.mem_layout.specs.Layout.{uriRows, nameRows}
+use Rattle.mem_index.specs.Index.{numbers}
 use Rattle.mem_entries.specs.Texts.{hashOf, Lies}
 use Rattle.mem_entries.specs.Entries.{entryAt, keyAt}
 use Rattle.mem_entries.proofs.Entries.{entry-old}
@@ -53,7 +54,7 @@ module _ {work : List ℕ} {from : Stores} where
 
   value-holds : (w : Rows) (n k : ℕ) (b : Bool) (x : Joining) (y : Placed)
       → x .joins ≡ b → n ≡ length (w .values) → (b ≡ true → Joins (from .values) x y)
-      → (b ≡ true → n < valueRing) → k < nameRows → Valid (valueAdded b k w y)
+      → (b ≡ true → n < numbers) → k < nameRows → Valid (valueAdded b k w y)
       → Holds work from w → Holds (joinedValue n k x work) from (valueAdded b k w y)
   unfolding valueAdded joinedValue
   value-holds w n k true x y e c j few low v h =
@@ -128,6 +129,8 @@ ahead-none w =
       learned = refl;
       grammars = refl;
       attributes = refl;
+      longest = refl;
+      capacity = refl;
     }
 
 pub ahead-on : {w v z : Rows} → Ahead w v → Ahead v z → Ahead w z
@@ -140,6 +143,8 @@ ahead-on a b =
       learned = b .learned ∙ a .learned;
       grammars = b .grammars ∙ a .grammars;
       attributes = b .attributes ∙ a .attributes;
+      longest = b .longest ∙ a .longest;
+      capacity = b .capacity ∙ a .capacity;
     }
 
 pub ahead-uri : (b : Bool) (w : Rows) (y : Placed) → Ahead w (uriAdded b w y)
@@ -153,6 +158,8 @@ ahead-uri true w y =
       learned = refl;
       grammars = refl;
       attributes = refl;
+      longest = refl;
+      capacity = refl;
     }
 ahead-uri false w y = ahead-none w
 
@@ -168,6 +175,8 @@ ahead-name true u w y =
       learned = refl;
       grammars = refl;
       attributes = refl;
+      longest = refl;
+      capacity = refl;
     }
 ahead-name false u w y = ahead-none w
 
@@ -182,6 +191,8 @@ ahead-value true k w y =
       learned = refl;
       grammars = refl;
       attributes = refl;
+      longest = refl;
+      capacity = refl;
     }
 ahead-value false k w y = ahead-none w
 

@@ -8,7 +8,8 @@ use lib.ListN.{length}
 use lib.Dec.{eqb}
 use Rattle.spec_exi.specs.Event.{SE, AT, EE}
 use Rattle.spec_exi.specs.Grammar.{kindNumber}
-use Rattle.mem_layout.specs.Layout.{uriRows, nameRows, valueRing, learnedRows, sites, workCells}
+use Rattle.mem_layout.specs.Layout.{uriRows, nameRows, learnedRows, sites, workCells}
+use Rattle.mem_index.specs.Index.{numbers}
 use Rattle.mem_names.specs.Uris.{withUri}
 use Rattle.mem_names.specs.Names.{withName}
 use Rattle.mem_marks.specs.Marks.{withMark}
@@ -72,6 +73,8 @@ counted c s g =
       top = c .top;
       depth = c .depth;
       tag = c .tag;
+      longest = c .longest;
+      capacity = c .capacity;
     }
 
 unfoldable pub topAfter : ℕ → ℕ → ℕ → ℕ
@@ -99,6 +102,8 @@ turned fragment c kind name n =
       top = topAfter kind name (c .top);
       depth = depthAfter kind (c .depth);
       tag = tagNumber kind n (c .tag);
+      longest = c .longest;
+      capacity = c .capacity;
     }
 
 -- ---- what the functions ask: bounds alone
@@ -114,14 +119,14 @@ pub record NamePre (work : List ℕ) (n uri : ℕ) (x : Joining) : Type 0 where
 
 pub record ValuePre (work : List ℕ) (n owner : ℕ) (x : Joining) : Type 0 where
   pub room : workCells ≤ length work
-  pub few : x .joins ≡ true → n < valueRing
+  pub few : x .joins ≡ true → n < numbers
   pub low : owner < nameRows
 
 pub record StringsPre (work : List ℕ) (c : Core) (s : Strings) : Type 0 where
   pub room : workCells ≤ length work
   pub uris : s .«new_uri» ≡ true → c .uris < uriRows
   pub names : s .«new_name» ≡ true → c .names < nameRows
-  pub values : s .«new_value» ≡ true → c .values < valueRing
+  pub values : s .«new_value» ≡ true → c .values < numbers
   pub uri : s .«uri_row» < uriRows
   pub owner : s .owner < nameRows
 

@@ -3,10 +3,10 @@ use Prim.Native.Nat.{ℕ, _+_, _≤_, _<_}
 use mathlib.Core.Path.{_≡_}
 use mathlib.Core.Bool.{Bool, cond}
 use mathlib.Core.List.{List, map}
-use mathlib.Core.Option.{none}
 use lib.ListN.{length, take, getD}
 use Rattle.spec_exi.specs.Sizes.{maxStore, maxUris, maxNames, maxValues, maxLearned, maxGrammars}
 use Rattle.spec_exi.specs.Sizes.{maxOpen, maxEvents}
+use Rattle.spec_exi.specs.Settings.{boundOf}
 use Rattle.spec_exi.specs.Context.{Context}
 use Rattle.mem_layout.specs.Layout.{nameRows}
 use Rattle.mem_entries.specs.Texts.{Source, upTo, throughout}
@@ -14,11 +14,12 @@ use Rattle.mem_entries.specs.Entries.{entryAt, keyAt}
 use Rattle.mem_names.specs.Uris.{uriAt, UrisHold}
 use Rattle.mem_names.specs.Names.{NamesHold}
 use Rattle.mem_marks.specs.Marks.{MarksHold}
+use Rattle.mem_values.specs.Window.{newestIn}
 use Rattle.mem_values.specs.Forms.{ValuesStand}
 use Rattle.mem_learned.specs.Learned.{Taught, LearnedHold}
 use Rattle.mem_learned.specs.Grammars.{GrammarsHold}
 use Rattle.mem_rows.specs.Rows.{Learnt, Rows, kindAt, carries, isAmong, ModeFits, contextOf}
-use Rattle.mem_rows.specs.Valid.{Valid}
+use Rattle.mem_rows.specs.Valid.{Valid, goneIn}
 use Rattle.mem_state.specs.declared.Core.{Core}
 
 -- A learned production as its cells have it: with the rows that name it.
@@ -54,8 +55,8 @@ inStore text stored =
 pub record Holds (work : List ℕ) (from : Stores) (w : Rows) : Type 0 where
   pub uris : UrisHold work (from .uris) (length (w .uris)) (w .uris)
   pub names : NamesHold work (from .names) (length (w .names)) (w .names)
-  pub values : ValuesStand work (from .values .store) (from .values .stored) (length (w .values)) 0
-      (length (w .values)) (w .values) none
+  pub values : ValuesStand work (from .values .store) (from .values .stored) (length (w .values))
+      (goneIn w) (newestIn (w .capacity) (length (w .values))) (w .values) (w .capacity)
   pub learned : LearnedHold work (length (w .learned)) (taughtIn w)
   pub grammars : GrammarsHold work (w .grammars)
 
@@ -68,30 +69,36 @@ pub record Ahead (w v : Rows) : Type 0 where
   pub learned : v .learned ≡ w .learned
   pub grammars : v .grammars ≡ w .grammars
   pub attributes : v .attributes ≡ w .attributes
+  pub longest : v .longest ≡ w .longest
+  pub capacity : v .capacity ≡ w .capacity
 
 -- ---- the numbers
 
--- No number passes its size, and an element is open just in its grammar's states. This holds of every
--- state that a function is given or answers, whatever memory holds.
+-- No number passes its size, every value that joined has a code point in the store, and an element is
+-- open just in its grammar's states. This holds of every state that a function is given or answers,
+-- whatever memory holds.
 pub record Bounded (c : Core) : Type 0 where
   pub stored : c .stored ≤ maxStore
   pub uris : c .uris ≤ maxUris
   pub names : c .names ≤ maxNames
-  pub values : c .values ≤ maxValues
+  pub values : c .values ≤ c .stored
   pub learned : c .learned ≤ maxLearned
   pub grammars : c .grammars ≤ maxGrammars
   pub top : c .top < nameRows
   pub depth : c .depth ≤ maxOpen
   pub fits : ModeFits (c .mode) (c .depth)
   pub tag : c .tag ≤ maxEvents + 1
+  pub capacity : c .capacity ≤ maxValues + 1
 
--- They count the rows.
+-- They count the rows, and have the settings for values.
 pub record Counts (c : Core) (w : Rows) : Type 0 where
   pub uris : c .uris ≡ length (w .uris)
   pub names : c .names ≡ length (w .names)
   pub values : c .values ≡ length (w .values)
   pub learned : c .learned ≡ length (w .learned)
   pub grammars : c .grammars ≡ length (w .grammars)
+  pub longest : boundOf (c .longest) ≡ w .longest
+  pub capacity : boundOf (c .capacity) ≡ w .capacity
 
 -- These are the open elements, the innermost first, by the rows of their names.
 pub record Opens (c : Core) (w : Rows) (opened : List ℕ) : Type 0 where

@@ -24,7 +24,8 @@ use event_code::SE;
 // The position in the stream; the code points in the store; the rows of each table; the grammar's
 // state, by its number; the row of the innermost open element's name, or 0; how many are open; and
 // the mark of the start tag's attributes: one more than how many events had come up to the newest
-// that is no attribute, that one counted.
+// that is no attribute, that one counted. The last two are the settings for values, as their
+// numbers have them: the longest that joins, and the capacity; they never change.
 #[repr(C)]
 pub struct Core {
     pub at: usize,
@@ -38,6 +39,8 @@ pub struct Core {
     pub top: u32,
     pub depth: usize,
     pub tag: u32,
+    pub longest: u32,
+    pub capacity: u32,
 }
 
 // The strings of an event: where each lies, and the hash of a name's or a value's text; the rows of

@@ -17,12 +17,12 @@ use Rattle.mem_values.specs.Forms.{pickForm, formAt, numberIn, numberOf,
 use Rattle.mem_values.specs.Forms.{ValuesStand, Formed}
 use Rattle.mem_values.proofs.Order.{insertion-new, insertion-old, ordered}
 use Rattle.mem_values.proofs.Answers.{FoundAt, found-at}
-use Rattle.spec_exi.specs.Tables.{hit, value}
+use Rattle.spec_exi.specs.Tables.{hit, value, globalId}
 use Rattle.mem_index.specs.Index.{numberAt, numbers}
 use Rattle.mem_entries.specs.Texts.{hashOf}
 use Rattle.mem_entries.specs.Entries.{Entries, keyAt, hasTextAt}
 use Rattle.mem_layout.specs.Layout.{valueRing}
-use Rattle.mem_values.specs.Window.{insertion, Ordered, globalNumber, earlier, valueForm}
+use Rattle.mem_values.specs.Window.{insertion, Ordered, earlier, valueForm}
 
 -- ---- global numbers
 module _ (n low newer g : ℕ) where
@@ -93,7 +93,7 @@ module _ {work store x : List ℕ} {hash n low : ℕ} (newer owner : ℕ) where
     -- What is found, where memory is a table.
     record Here (es : Entries) (cap : Option ℕ) : Type 0 where
       value : IsValue es g v
-      number : (i : ℕ) → i ≡ numberOf n low newer g → i ≡ globalNumber cap g
+      number : (i : ℕ) → i ≡ numberOf n low newer g → i ≡ globalId cap g
       form : valueForm cap es owner (suc g)
           ≡ valueForm cap es owner (since low (lastThat (hasTextAt es x) n))
 
@@ -106,8 +106,8 @@ module _ {work store x : List ℕ} {hash n low : ℕ} (newer owner : ℕ) where
         let p : FoundAt es low x g =
         found-at es low x g (e ∙ ap (λ m. since low (lastThat (hasTextAt es x) m)) (sym c)) in
         let l : g < n = omega (arith, p .inside) in
-        let o : Ordered n low newer (globalNumber cap) =
-        rw (s .gone, s .new) (ordered (s .capacity) n) in
+        let o : Ordered n low newer (globalId cap) =
+        rw (s .gone, s .new) (ordered (s .capacity)) in
         record {
           value = a .means store stored n es (s .holds) l (omega (arith, s .near, p .present));
           number = λ i z. z ∙ number-is n low newer g o (p .present) l;

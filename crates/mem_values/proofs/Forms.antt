@@ -11,12 +11,12 @@ use Rattle.mem_values.proofs.Answers.{FoundAt, found-at, found-none, ab
 use Rattle.mem_values.proofs.Answers.{mine-index, other-index}
 use Rattle.mem_values.proofs.Order.{ordered}
 use Rattle.mem_values.proofs.Global.{global-none, global-some}
-use Rattle.spec_exi.specs.Tables.{indexOf, hitOr, literal}
+use Rattle.spec_exi.specs.Tables.{indexOf, hitOr, literal, replaced, globalId}
 use Rattle.mem_entries.specs.Entries.{Entries, keyAt, hasTextAt, slots}
-use Rattle.mem_values.specs.Window.{replaced, Capacity, globalNumber, presentStrings, earlier}
+use Rattle.mem_values.specs.Window.{Capacity, presentStrings, earlier}
 use Rattle.mem_values.specs.Window.{Differ, valueForm}
 
-module _ {cap : Option ℕ} (p : Capacity cap) (es : Entries) (k : ℕ) (x : Text) where
+module _ {cap : Option ℕ} (es : Entries) (p : Capacity cap (length es)) (k : ℕ) (x : Text) where
   local-index : Option ℕ
   local-index = indexOf (slots (replaced cap (length es)) (eqb k) es) x
 
@@ -33,18 +33,18 @@ module _ {cap : Option ℕ} (p : Capacity cap) (es : Entries) (k : ℕ) (x : Tex
   unfolding local-index global-index presentStrings valueForm hitOr
   by-answer d zero e =
       by-indices none none (absent-index es (replaced cap (length es)) x (eqb k) e)
-      (global-none es (ordered p (length es)) x
+      (global-none es (ordered p) x
       (λ i l h z. found-none es (replaced cap (length es)) x e i l h z))
   by-answer d (suc g) e =
       let f : FoundAt es (replaced cap (length es)) x g =
       found-at es (replaced cap (length es)) x g e in
-      let o = global-some es (ordered p (length es)) x g d f in
+      let o = global-some es (ordered p) x g d f in
       split (eqb k (keyAt es g))
       (λ t. rw t
-      (by-indices (some (earlier es k g)) (some (globalNumber cap g))
+      (by-indices (some (earlier es k g)) (some (globalId cap g))
       (mine-index es (replaced cap (length es)) x d g f (eqb k) t) o))
       (λ t. rw t
-      (by-indices none (some (globalNumber cap g))
+      (by-indices none (some (globalId cap g))
       (other-index es (replaced cap (length es)) x d g f (eqb k) t) o))
 
   -- Local before global, or the literal.

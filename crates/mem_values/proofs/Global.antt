@@ -13,10 +13,17 @@ use Rattle.text.specs.Text.{Text}
 use Rattle.mem_chain.proofs.Last.{split}
 use Rattle.mem_values.proofs.Answers.{FoundAt, only}
 use Rattle.mem_values.proofs.Order.{insertion-new, insertion-old}
-use Rattle.spec_exi.specs.Tables.{Entry, Slot, indexOf}
+use Rattle.spec_exi.specs.Tables.{Entry, Slot, indexOf, byNumber}
 use Rattle.mem_entries.specs.Entries.{Entries, noEntry, entryAt, textAt, slots}
 use Rattle.mem_entries.proofs.Slots.{every-slot, tally-every, index-none, index-some}
-use Rattle.mem_values.specs.Window.{byNumber, insertion, Ordered, Differ}
+use Rattle.mem_values.specs.Window.{insertion, Ordered, Differ}
+
+-- As many as were there.
+pub number-length : {A : Type 0} (n : ℕ) (l : List A) → length (byNumber n l) ≡ length l
+unfolding byNumber
+number-length n l =
+    length-append (drop (length l - n) l) (take (length l - n) l)
+    ∙ (omega (arith, length-drop (length l - n) l, length-take (length l - n) l))
 
 -- ---- the value with a global number, where n were added
 module _ (es : Entries) (g new : ℕ) (have : g ≤ length es) (few : new ≤ length es - g) where

@@ -1,4 +1,5 @@
 pub mod Order
+pub mod Bounds
 pub mod Turn
 pub mod Local
 pub mod Joined
@@ -9,4 +10,3 @@ pub mod Formed
 pub mod Tables
 pub mod Stands
 pub mod Entry
-pub mod Replaced

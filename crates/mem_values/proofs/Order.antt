@@ -4,14 +4,15 @@ use Prim.Native.Nat.{ℕ, zero, suc, _+_, _-_, _*_, _/_, _%_, _≤_, _<_}
 use native.Mathlib.Omega.{arith}
 use native.Mathlib.Nat.{mod-lt, div-add-mod, mod-eq-of-lt, mul-add-mod-self-left, add-mod-right}
 use native.Mathlib.Nat.{zero-mod, suc-mod, mod-self}
-use mathlib.Core.Path.{_≡_, sym, ap, _∙_}
-use mathlib.Core.Option.{Option}
+use mathlib.Core.Path.{_≡_, refl, sym, ap, subst, _∙_}
+use mathlib.Core.Option.{Option, none, some}
 use lib.Dec.{eqb, ltb}
 use borrow.Author.Tests.{ltb-true, ltb-false, eqb-true, eqb-false}
 use Rattle.mem_chain.proofs.Last.{split}
 use Rattle.mem_chain.proofs.More.{ring-apart}
-use Rattle.mem_values.specs.Window.{replaced, insertion, Ordered, globalId, globalNumber}
-use Rattle.mem_values.specs.Window.{Capacity, unbounded, bounded}
+use Rattle.spec_exi.specs.Tables.{replaced, globalId}
+use Rattle.mem_values.specs.Window.{insertion, Ordered, newestIn}
+use Rattle.mem_values.specs.Window.{Capacity, unbounded, bounded, closed}
 
 pub insertion-new : (n g new i : ℕ) → i < new → insertion n g new i ≡ n - new + i
 unfolding insertion
@@ -113,23 +114,75 @@ module _ (c n : ℕ) (pos : 0 < c) where
         once = once;
       }
 
-pub ordered : {cap : Option ℕ} → Capacity cap → (n : ℕ)
-    → Ordered n (replaced cap n) (globalNumber cap n) (globalNumber cap)
-unfolding replaced globalNumber
-ordered unbounded n = ordered-all n
-ordered (bounded {c} pos) n = ordered-ring c n pos
+-- ---- EXI's globalID
 
--- EXI's globalID after n values is n modulo the capacity.
-pub global-id : (c : ℕ) → 0 < c → (n : ℕ) → globalId c n ≡ n % c
+-- Under a capacity it is the number of values modulo the capacity.
+pub global-id : (c : ℕ) → 0 < c → (n : ℕ) → globalId (some c) n ≡ n % c
 unfolding globalId
 global-id c pos zero = sym (zero-mod c)
 global-id c pos (suc n) =
-    let r : globalId c n ≡ n % c = global-id c pos n in
+    let r : globalId (some c) n ≡ n % c = global-id c pos n in
     let m : n % c < c = mod-lt n pos in
-    split (eqb (suc (globalId c n)) c)
+    split (eqb (suc (globalId (some c) n)) c)
     (λ e.
-    let z : suc (n % c) ≡ c = ap suc (sym r) ∙ eqb-true (suc (globalId c n)) c e in
+    let z : suc (n % c) ≡ c = ap suc (sym r) ∙ eqb-true (suc (globalId (some c) n)) c e in
     rw e (sym (suc-mod n c ∙ ap (λ k. k % c) z ∙ mod-self c)))
     (λ e.
-    let l : suc (n % c) < c = omega (arith, eqb-false (suc (globalId c n)) c e, r) in
+    let l : suc (n % c) < c = omega (arith, eqb-false (suc (globalId (some c) n)) c e, r) in
     rw e (ap suc r ∙ sym (suc-mod n c ∙ mod-eq-of-lt l)))
+
+-- The same numbers, said otherwise.
+ordered-as : {n g new : ℕ} {f : ℕ → ℕ} (h : ℕ → ℕ) → ((v : ℕ) → h v ≡ f v)
+    → Ordered n g new f → Ordered n g new h
+ordered-as {n} {g} {new} h e o =
+    record {
+      have = o .have;
+      few = o .few;
+      into = o .into;
+      below = o .below;
+      number = λ v l k. subst (λ i. i < n - g) (sym (e v)) (o .number v l k);
+      back = λ v l k. ap (insertion n g new) (e v) ∙ o .back v l k;
+      once = λ i k. e (insertion n g new i) ∙ o .once i k;
+    }
+
+pub ordered : {cap : Option ℕ} {n : ℕ} → Capacity cap n
+    → Ordered n (replaced cap n) (globalId cap n) (globalId cap)
+unfolding replaced globalId
+ordered {n = n} unbounded = ordered-all n
+ordered {n = n} (bounded {c} pos) =
+    subst (λ k. Ordered n (n - c) k (globalId (some c))) (sym (global-id c pos n))
+    (ordered-as (globalId (some c)) (global-id c pos) (ordered-ring c n pos))
+ordered closed =
+    record {
+      have = omega arith;
+      few = omega arith;
+      into = λ i h. absurd (omega arith);
+      below = λ i h. absurd (omega arith);
+      number = λ v l h. absurd (omega arith);
+      back = λ v l h. absurd (omega arith);
+      once = λ i h. absurd (omega arith);
+    }
+
+-- ---- the numbers of `replaced` and `newest_numbers`
+
+newest-ring : (c n : ℕ) → 0 < c → newestIn (some c) n ≡ n % c
+unfolding newestIn
+newest-ring zero n pos = absurd (omega arith)
+newest-ring (suc c) n pos = refl
+
+pub newest-is : {cap : Option ℕ} {n : ℕ} → Capacity cap n → newestIn cap n ≡ globalId cap n
+unfolding newestIn globalId
+newest-is unbounded = refl
+newest-is {n = n} (bounded {c} pos) = newest-ring c n pos ∙ sym (global-id c pos n)
+newest-is closed = refl
+
+pub newest-few : (cap : Option ℕ) (n : ℕ) → newestIn cap n ≤ n - replaced cap n
+unfolding newestIn replaced
+newest-few none n = omega arith
+newest-few (some zero) n = omega arith
+newest-few (some (suc c)) n = low-rest (suc c) n (omega arith)
+
+pub replaced-few : (cap : Option ℕ) (n : ℕ) → replaced cap n ≤ n
+unfolding replaced
+replaced-few none n = omega arith
+replaced-few (some c) n = omega arith

@@ -16,8 +16,7 @@ use Rattle.mem_entries.specs.Entries.{Entries, hasTextAt}
 use Rattle.mem_values.specs.declared.Form.{Form}
 use Rattle.mem_values.specs.declared.Form.the-variants.{Local, Global, Absent}
 use Rattle.mem_values.specs.Values.{valueIn, foundIn}
-use Rattle.mem_values.specs.Window.{Capacity, replaced, insertion, globalNumber, Differ}
-use Rattle.mem_values.specs.Window.{valueForm}
+use Rattle.mem_values.specs.Window.{Capacity, insertion, Differ, valueForm}
 use Rattle.mem_values.specs.Hold.{ValuesHold}
 
 -- n values were added, those before low are replaced, the newest have the numbers below newer, and
@@ -52,9 +51,9 @@ pub record ValuesStand (work store : List ℕ) (stored n low newer : ℕ) (es : 
     (cap : Option ℕ) : Type 0 where
   pub holds : ValuesHold work store stored n es
   pub differ : Differ low es
-  pub capacity : Capacity cap
-  pub gone : low ≡ replaced cap n
-  pub new : newer ≡ globalNumber cap n
+  pub capacity : Capacity cap n
+  pub gone : low ≡ tables.replaced cap n
+  pub new : newer ≡ tables.globalId cap n
   pub near : n ≤ low + valueRing
 
 unfoldable pub pickForm : Bool → Form → Form → Form

@@ -1,32 +1,45 @@
--- The window of the values present: those before it are replaced (EXI 7.3.3), and global numbers go
--- round. Where none is replaced these are the definitions' partitions.
+-- The window of the values present: those before it are replaced (EXI 7.3.3; P5), and global
+-- numbers go round.
 use Prim.Native.Nat.{ℕ, zero, suc, _+_, _-_, _%_, _≤_, _<_}
 use mathlib.Core.Path.{_≡_}
-use mathlib.Core.Bool.{Bool, cond}
-use mathlib.Core.List.{List, _++_, map}
+use mathlib.Core.Bool.{Bool, cond, _&&_, not}
+use mathlib.Core.List.{List, map}
 use mathlib.Core.Option.{Option, none, some}
-use lib.ListN.{length, take, drop}
+use lib.ListN.{length, drop}
 use lib.Dec.{eqb, ltb}
 use Rattle.text.specs.Text.{Text}
 use Rattle.spec_exi.specs.Event.{QName}
-use Rattle.spec_exi.specs.Tables.{Entry, Tables, Slot, Form, hit, literal}
+use Rattle.spec_exi.specs.Settings.{boundOf}
+use Rattle.spec_exi.specs.Tables.{Entry, Tables, Slot, Form, hit, literal, replaced, globalId}
+use Rattle.spec_exi.specs.Tables.{byNumber, atMost, isZero}
 use Rattle.mem_index.specs.Index.{tally, hasKey}
 use Rattle.mem_entries.specs.Entries.{Entries, keyAt, textAt, Alike, Keys, Keyed}
 
--- How many of n added values have been replaced, where so many may be present.
-unfoldable pub replaced : Option ℕ → ℕ → ℕ
-replaced none n = 0
-replaced (some c) n = n - c
+-- Under a capacity of zero no value joins.
+pub data Capacity : Option ℕ → ℕ → Type 0 where
+  unbounded : {n : ℕ} → Capacity none n
+  bounded : {c n : ℕ} → 0 < c → Capacity (some c) n
+  closed : Capacity (some 0) 0
 
--- A capacity is not zero, where values join.
-pub data Capacity : Option ℕ → Type 0 where
-  unbounded : Capacity none
-  bounded : {c : ℕ} → 0 < c → Capacity (some c)
+-- How many of n values have the first global numbers, being the newest: those that were added since
+-- number 0 was given. (Where values join this is EXI's globalID.)
+unfoldable pub newestIn : Option ℕ → ℕ → ℕ
+newestIn none n = n
+newestIn (some zero) n = 0
+newestIn (some (suc c)) n = n % suc c
 
--- The values present in the order of their global numbers: the newest ones, as many as were added
--- since number 0 was given, then the others.
-unfoldable pub byNumber : {A : Type 0} → ℕ → List A → List A
-byNumber new xs = drop (length xs - new) xs ++ take (length xs - new) xs
+-- A value of so many code points joins, by the numbers of the settings.
+unfoldable pub joinsBy : ℕ → ℕ → ℕ → Bool
+joinsBy size longest capacity =
+    not (isZero (boundOf capacity)) && not (eqb size 0) && atMost size (boundOf longest)
+
+pub record Replaced (n capacity r : ℕ) : Type 0 where
+  pub is : r ≡ replaced (boundOf capacity) n
+  pub within : r ≤ n
+
+pub record Newest (n capacity r : ℕ) : Type 0 where
+  pub is : r ≡ newestIn (boundOf capacity) n
+  pub within : r ≤ n - replaced (boundOf capacity) n
 
 -- The insertion number of a global number, where n values were added, g of them are replaced, and
 -- the newest have the numbers below new.
@@ -43,19 +56,10 @@ pub record Ordered (n g new : ℕ) (numberOf : ℕ → ℕ) : Type 0 where
   pub back : (v : ℕ) → g ≤ v → v < n → insertion n g new (numberOf v) ≡ v
   pub once : (i : ℕ) → i < n - g → numberOf (insertion n g new i) ≡ i
 
--- EXI's globalID after n values: one more with each, and 0 again where that is the capacity.
-unfoldable pub globalId : ℕ → ℕ → ℕ
-globalId c zero = 0
-globalId c (suc n) = let i = suc (globalId c n) in cond (eqb i c) 0 i
-
-unfoldable pub globalNumber : Option ℕ → ℕ → ℕ
-globalNumber none g = g
-globalNumber (some c) g = g % c
-
 unfoldable pub presentStrings : {K : Type 0} → Option ℕ → List (Entry K) → List Slot
 presentStrings cap es =
     map (λ e. some (e .string))
-    (byNumber (globalNumber cap (length es)) (drop (replaced cap (length es)) es))
+    (byNumber (globalId cap (length es)) (drop (replaced cap (length es)) es))
 
 -- ---- in terms of insertion numbers
 
@@ -71,13 +75,14 @@ pub record Differ (low : ℕ) (es : Entries) : Type 0 where
 unfoldable pub valueForm : Option ℕ → Entries → ℕ → ℕ → Form
 valueForm cap es k zero = literal
 valueForm cap es k (suc g) =
-    cond (eqb k (keyAt es g)) (hit 0 (earlier es k g)) (hit 1 (globalNumber cap g))
+    cond (eqb k (keyAt es g)) (hit 0 (earlier es k g)) (hit 1 (globalId cap g))
 
 -- ---- as tables of the definitions
 
--- The tables have these values, by the rows of their names.
-pub record Tabled (name : ℕ → QName Text) (isKey : ℕ → Bool) (t : Tables) (es : Entries) : Type 0
-  where
-    pub alike : Alike name (t .values) es
-    pub keys : Keys name isKey
-    pub keyed : Keyed isKey es
+-- The tables have these values, by the rows of their names, under this capacity.
+pub record Tabled (name : ℕ → QName Text) (isKey : ℕ → Bool) (t : Tables) (es : Entries)
+    (cap : Option ℕ) : Type 0 where
+  pub capacity : t .values .capacity ≡ cap
+  pub alike : Alike name (t .values .added) es
+  pub keys : Keys name isKey
+  pub keyed : Keyed isKey es

@@ -7,6 +7,7 @@ ghost use Rattle.mem_values.specs.Values.{valueIndex, rowHasText, withVa
 ghost use Rattle.mem_values.specs.Hold.{RowRoom, Findable, FoundText, Askable, FoundLocal};
 ghost use Rattle.mem_values.specs.Hold.{CountedLocal, ValueAt, Addable};
 ghost use Rattle.mem_values.specs.Forms.{Order, numberOf, nthOf, Formable, Formed};
+ghost use Rattle.mem_values.specs.Window.{joinsBy, Replaced, Newest};
 use mem_index::Index;
 use mem_index::NUMBERS;
 use mem_layout::VALUE_BUCKETS;
@@ -108,6 +109,52 @@ pub fn add(work: &mut [u32], n: u32, owner: u32, place: u32, size: u32, h: u32)
     let head = VALUE_TEXT_HEADS + (h % VALUE_BUCKETS) as usize;
     mem_chain::link(work, head, VALUE_TEXT_NEXTS, VALUE_RING, n);
 }
+
+// ---- settings for values, as their numbers have them: 0 is unbounded, and n + 1 a bound n
+
+// Whether a value of so many code points joins the table.
+pub fn joins(size: usize, longest: u32, capacity: u32) -> bool
+    ensures { λ r. ⌜ r ≡ joinsBy size longest capacity ⌝ }
+{
+    if size == 0 {
+        return false;
+    }
+    if capacity == 1 {
+        return false;
+    }
+    if longest == 0 {
+        return true;
+    }
+    size < longest as usize
+}
+
+// How many of n values are replaced.
+pub fn replaced(n: u32, capacity: u32) -> u32
+    ensures { λ r. ⌜ Replaced n capacity r ⌝ }
+{
+    if capacity == 0 {
+        return 0;
+    }
+    if n < capacity {
+        return 0;
+    }
+    n - (capacity - 1)
+}
+
+// How many of n values have the first global numbers, being the newest.
+pub fn newest_numbers(n: u32, capacity: u32) -> u32
+    ensures { λ r. ⌜ Newest n capacity r ⌝ }
+{
+    if capacity == 0 {
+        return n;
+    }
+    if capacity == 1 {
+        return 0;
+    }
+    n % (capacity - 1)
+}
+
+// ---- global numbers
 
 // The global number of value g, where n values were added, the newest of them have the numbers
 // below newer, and those before low are replaced.

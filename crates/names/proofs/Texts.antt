@@ -9,7 +9,8 @@ use borrow.Author.Tests.{eq-eqb, ne-eqb}
 use Rattle.spec_fields.specs.Refusal.{numberOf, character, name}
 use Rattle.spec_fields.proofs.Tests.{split}
 use Rattle.text.specs.Text.{Text}
-use Rattle.spec_exi.specs.Tables.{Placed, Tables, Role, target, commentText, instructionText}
+use Rattle.spec_exi.specs.Tables.{Placed, Values, Tables, Role, target, commentText}
+use Rattle.spec_exi.specs.Tables.{instructionText}
 use Rattle.spec_exi.specs.Tables.{literals, partitionsOf, newUri, newName, newValue, nameAllowed}
 use Rattle.spec_exi.specs.Tables.{textAllowed}
 use Rattle.names.specs.Texts.{roleOf, faultOf}
@@ -21,16 +22,16 @@ pub record Alone (role : Role) : Type 0 where
   pub parts : (t : Tables) → partitionsOf t role ≡ literals []
   pub uris : (x : Placed) → newUri role x ≡ []
   pub names : (x : Placed) → newName role x ≡ []
-  pub values : (x : Placed) → newValue role x ≡ []
+  pub values : (v : Values) (x : Placed) → newValue v role x ≡ []
 
 alone-of : (a b : Bool) → Alone (cond a target (cond b commentText instructionText))
 unfolding partitionsOf newUri newName newValue
 alone-of true b =
-    record { parts = λ _. refl; uris = λ _. refl; names = λ _. refl; values = λ _. refl }
+    record { parts = λ _. refl; uris = λ _. refl; names = λ _. refl; values = λ _ _. refl }
 alone-of false true =
-    record { parts = λ _. refl; uris = λ _. refl; names = λ _. refl; values = λ _. refl }
+    record { parts = λ _. refl; uris = λ _. refl; names = λ _. refl; values = λ _ _. refl }
 alone-of false false =
-    record { parts = λ _. refl; uris = λ _. refl; names = λ _. refl; values = λ _. refl }
+    record { parts = λ _. refl; uris = λ _. refl; names = λ _. refl; values = λ _ _. refl }
 
 pub alone : (n : ℕ) → Alone (roleOf n)
 unfolding roleOf

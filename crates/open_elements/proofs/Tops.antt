@@ -29,6 +29,8 @@ represents-top top h =
             values = h .counts .values;
             learned = h .counts .learned;
             grammars = h .counts .grammars;
+            longest = h .counts .longest;
+            capacity = h .counts .capacity;
           };
       opens = record { size = h .opens .size; rows = h .opens .rows };
       marks = h .marks;
@@ -47,6 +49,7 @@ bounded-top top h b =
       depth = b .depth;
       fits = b .fits;
       tag = b .tag;
+      capacity = b .capacity;
     }
 
 -- ---- the array

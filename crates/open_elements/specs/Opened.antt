@@ -42,6 +42,8 @@ withTop c top =
       top = top;
       depth = c .depth;
       tag = c .tag;
+      longest = c .longest;
+      capacity = c .capacity;
     }
 
 -- What an event leaves of the open elements. (After an end tag the top is the ended element's: only

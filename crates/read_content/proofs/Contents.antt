@@ -9,7 +9,7 @@ use lib.ListN.{length, take}
 use Rattle.spec_fields.specs.Parser.{Parser, return, _>>=_}
 use Rattle.spec_fields.specs.Field.{Alignment, bitPacked}
 use Rattle.spec_exi.specs.Settings.{Settings}
-use Rattle.spec_exi.specs.Sizes.{sizes, maxStore, maxValues}
+use Rattle.spec_exi.specs.Sizes.{sizes, maxStore}
 use Rattle.spec_exi.specs.Event.{QName, Event, startDocument, endDocument, endElement}
 use Rattle.spec_exi.specs.Event.{startElement, attribute, characters, comment, instruction}
 use Rattle.spec_exi.specs.Event.{Kind, SD, ED, SE, AT, EE, CH, CM, PI, kindOf, nameOf, mapEvent}
@@ -113,14 +113,15 @@ unfolding valueAdded
 adds-value k = record { yes = λ w y. refl; no = λ w y. refl }
 
 module _ {a : Alignment} {stream : List ℕ} {at : ℕ} {text : List ℕ} {stored : ℕ} {work : List ℕ}
-    {values owner : ℕ} {text′ : List ℕ} {x : StringRead} (room : maxStore ≤ length text)
+    {values longest capacity owner : ℕ} {text′ : List ℕ} {x : StringRead}
+    (room : maxStore ≤ length text)
     (few : stored ≤ maxStore)
-    (post : ValuePost a asValue stream at text stored work values owner text′ x) where
+    (post : ValuePost a asValue stream at text stored work values longest capacity owner text′ x) where
   pub value-text : TextRead text stored text′ (x .number) (x .stored)
   value-text = string-text (valueRole owner) (adds-value owner) room few post
 
   pub value-outcome : (s : Settings) → s .alignment ≡ a → {w : Rows} → Valid w → Few w
-      → ValueRows work text stored values owner w
+      → ValueRows work text stored values longest capacity owner w
       → Outcome (readString sizes s (tablesAt text stored w) (value (nameAt w owner))) stream at
       (x .number) (x .next) (StringIs (addValue owner) w text′ x)
   value-outcome s e {w} v f r =
@@ -191,7 +192,7 @@ module _ {stream : List ℕ} {at : ℕ} {text work : List ℕ} {c : Core} {p : P
   -- An event that is read.
   pub content-read : {a : Alignment} {text′ : List ℕ} (x : Content) → x .number ≡ 0
       → x .next ≤ 8 * length stream → TextRead text (c .stored) text′ (x .number) (x .stored)
-      → ContentBounds c (x .strings) → (k : Kind) → kindAt (p .kind) ≡ k
+      → ContentBounds c (x .stored) (x .strings) → (k : Kind) → kindAt (p .kind) ≡ k
       → ((s : Settings) → s .alignment ≡ a → (w : Rows) (st : State) → Prepared work text c w
       → ContentRows c p st w
       → Outcome (parser s w st k) stream at 0 (x .next) (ContentMeans (p .kind) text′ w x))

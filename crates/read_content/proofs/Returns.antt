@@ -9,12 +9,13 @@ use lib.ListN.{length, take}
 use Rattle.spec_fields.specs.Parser.{Parser, return, _>>=_}
 use Rattle.spec_fields.specs.Field.{Alignment, bitPacked}
 use Rattle.spec_exi.specs.Settings.{Settings}
-use Rattle.spec_exi.specs.Sizes.{sizes, maxStore, maxUris, maxNames, maxValues}
+use Rattle.spec_exi.specs.Sizes.{sizes, maxStore, maxUris, maxNames}
 use Rattle.spec_exi.specs.Event.{QName, Event, startDocument, endDocument, endElement}
 use Rattle.spec_exi.specs.Event.{startElement, attribute, characters, comment, instruction}
 use Rattle.spec_exi.specs.Event.{Kind, SD, ED, SE, AT, EE, CH, CM, PI, kindOf, nameOf, mapEvent}
 use Rattle.spec_exi.specs.Event.{mapName}
 use Rattle.spec_exi.specs.Tables.{Placed, nameText, spanOf, Tables, Role, value, target}
+use Rattle.spec_exi.specs.Tables.{replaced}
 use Rattle.spec_exi.specs.Tables.{commentText, instructionText}
 use Rattle.spec_exi.specs.Grammar.{State, kindNumber}
 use Rattle.spec_exi.specs.Context.{characterRole}
@@ -25,10 +26,12 @@ use Rattle.event.specs.declared.Event.the-variants.{Instruction}
 use Rattle.event.specs.Cells.{asSpan, meaning}
 use Rattle.event.specs.Cells as cells
 use Rattle.mem_layout.specs.Layout.{uriRows, nameRows, workCells}
-use Rattle.mem_entries.specs.Entries.{entryAt, keyAt}
+use Rattle.mem_entries.specs.Texts.{Grown}
+use Rattle.mem_entries.specs.Entries.{Entries, entryAt, keyAt}
+use Rattle.mem_values.specs.Window.{newestIn}
 use Rattle.mem_values.specs.Forms.{ValuesStand}
 use Rattle.mem_rows.specs.Rows.{Rows, placedAt, nameAt, kindAt, carries, carriedAt}
-use Rattle.mem_rows.specs.Valid.{Valid}
+use Rattle.mem_rows.specs.Valid.{Valid, goneIn}
 use Rattle.mem_state.specs.declared.Core.{Core}
 use Rattle.mem_state.specs.declared.Strings.{Strings}
 use Rattle.mem_state.specs.Joining.{Joining, noStrings, valuedStrings}
@@ -36,7 +39,7 @@ use Rattle.mem_state.specs.Holds.{inStore, Holds, Bounded, Counts}
 use Rattle.mem_state.specs.Strung.{valueAdded, StringsJoin}
 use Rattle.mem_state.proofs.Joins.{holds-grown}
 use Rattle.mem_state.proofs.Strung.{uris-counted, names-counted, values-counted, value-names}
-use Rattle.mem_state.proofs.Strung.{strings-values, none-join}
+use Rattle.mem_state.proofs.Strung.{strings-values, strings-ahead, none-join}
 use Rattle.read_contract.specs.Outcome.{Declined, Gotten, Outcome}
 use Rattle.read_contract.proofs.Outcome.{return-outcome, declined-then, gotten-declined}
 use Rattle.read_contract.proofs.Outcome.{outcome-then, outcome-map}
@@ -62,6 +65,12 @@ use Rattle.read_content.proofs.Contents.{value-text, value-outcome, pla
 use Rattle.read_content.proofs.Contents.{plain-outcome, span-is, content-refused}
 use Rattle.read_content.proofs.Contents.{content-read}
 
+-- Rows with the same values, under the same settings.
+record SameValues (w v : Rows) : Type 0 where
+  values : v .values ≡ w .values
+  longest : v .longest ≡ w .longest
+  capacity : v .capacity ≡ w .capacity
+
 module _ {stream : List ℕ} {at : ℕ} {text work : List ℕ} {c : Core} {p : ProductionRead}
     (pre : ContentPre stream at text work c p) where
   abbrev room : maxStore ≤ length text
@@ -73,7 +82,7 @@ module _ {stream : List ℕ} {at : ℕ} {text work : List ℕ} {c : Core} {p : P
   pub name-asks : NamePre stream at text work c (p .name) (p .uri) (p .local)
   name-asks = record { pair = pre .pair; carried = pre .carried }
 
-  no-bounds : ContentBounds c noStrings
+  no-bounds : {stored : ℕ} → ContentBounds c stored noStrings
   no-bounds =
       record {
         uris = λ j. absurd (true≢false (sym j));
@@ -126,7 +135,7 @@ module _ {stream : List ℕ} {at : ℕ} {text work : List ℕ} {c : Core} {p : P
             strings = n .strings;
           }
 
-      name-bounds : n .number ≡ 0 → ContentBounds c (n .strings)
+      name-bounds : n .number ≡ 0 → ContentBounds c (n .stored) (n .strings)
       name-bounds z =
           let b = post .bounds z in
           record {
@@ -188,17 +197,56 @@ module _ {stream : List ℕ} {at : ℕ} {text work : List ℕ} {c : Core} {p : P
   -- ---- characters
 
   value-asks : {at′ stored owner : ℕ} {text′ : List ℕ} → LiteralFit stream at′ text′ stored
-      → owner < nameRows → ValuePre stream at′ text′ stored work (c .values) owner
-  value-asks l o =
-      record { literal = l; room = pre .pair .room; few = pre .pair .bounded .values; low = o }
+      → c .stored ≤ stored → owner < nameRows
+      → ValuePre stream at′ text′ stored work (c .values) owner
+  value-asks l h o =
+      record {
+        literal = l;
+        room = pre .pair .room;
+        few = omega (arith, pre .pair .bounded .values, h);
+        low = o;
+      }
 
   pub characters-asks : ValuePre stream at text (c .stored) work (c .values) (c .top)
-  characters-asks = value-asks (pre .pair .literal) (pre .pair .bounded .top)
+  characters-asks = value-asks (pre .pair .literal) (omega arith) (pre .pair .bounded .top)
+
+  -- The values of the rows with a name are those of memory.
+  value-rows : {text′ : List ℕ} {stored owner : ℕ} {w v : Rows} → Prepared work text c w
+      → Grown text text′ (c .stored) stored → SameValues w v → owner < length (v .names)
+      → ValueRows work text′ stored (c .values) (c .longest) (c .capacity) owner v
+  value-rows {text′} {stored} {owner} {w} {v} q g same low =
+      record {
+        stand = subst
+            (λ n. ValuesStand work text′ stored n (replaced (v .capacity) n)
+            (newestIn (v .capacity) n) (v .values) (v .capacity))
+            (ap length (same .values) ∙ sym (q .counts .values)) (stand-of same);
+        longest-is = q .counts .longest ∙ sym (same .longest);
+        capacity-is = q .counts .capacity ∙ sym (same .capacity);
+        few = pre .pair .bounded .capacity;
+        row = low;
+      }
+    where
+      held : Holds work (inStore text′ stored) w
+      held = holds-grown g (q .holds)
+
+      stand-of : SameValues w v
+          → ValuesStand work text′ stored (length (v .values)) (goneIn v)
+          (newestIn (v .capacity) (length (v .values))) (v .values) (v .capacity)
+      stand-of s =
+          subst
+          (λ (b : Option ℕ). ValuesStand work text′ stored (length (v .values))
+          (replaced b (length (v .values))) (newestIn b (length (v .values))) (v .values) b)
+          (sym (s .capacity))
+          (subst
+          (λ (es : Entries). ValuesStand work text′ stored (length es)
+          (replaced (w .capacity) (length es)) (newestIn (w .capacity) (length es)) es
+          (w .capacity)) (sym (s .values)) (held .values))
 
   module _ {a : Alignment} {text₁ : List ℕ} {x : StringRead}
-      (post : ValuePost a asValue stream at text (c .stored) work (c .values) (c .top) text₁ x)
-      (joins : JoinsWithin (c .values) text₁ x) (i : kindAt (p .kind) ≡ CH) (j : p .kind ≡ kindNumber CH)
-    where
+      (post : ValuePost a asValue stream at text (c .stored) work (c .values) (c .longest)
+      (c .capacity) (c .top) text₁ x)
+      (joins : JoinsWithin (c .values) text₁ x) (i : kindAt (p .kind) ≡ CH)
+      (j : p .kind ≡ kindNumber CH) where
       abbrev charactersAs : Content
       charactersAs =
           record {
@@ -211,14 +259,10 @@ module _ {stream : List ℕ} {at : ℕ} {text work : List ℕ} {c : Core} {p : P
           }
 
       own-rows : {w : Rows} → Prepared work text c w → c .top < length (w .names)
-          → ValueRows work text (c .stored) (c .values) (c .top) w
-      own-rows {w} q h =
-          record {
-            stand = subst
-                (λ n. ValuesStand work text (c .stored) n 0 n (w .values) none)
-                (sym (q .counts .values)) (q .holds .values);
-            row = h;
-          }
+          → ValueRows work text (c .stored) (c .values) (c .longest) (c .capacity) (c .top) w
+      own-rows q h =
+          value-rows q (text-grown room (text-none text (c .stored) stored-few 0))
+          (record { values = refl; longest = refl; capacity = refl }) h
 
       characters-outcome : (s : Settings) → s .alignment ≡ a → (w : Rows) (st : State)
           → Prepared work text c w → ContentRows c p st w
@@ -229,8 +273,8 @@ module _ {stream : List ℕ} {at : ℕ} {text work : List ℕ} {c : Core} {p : P
           subst
           (λ (o : Role). Outcome (readString sizes s (tablesAt text (c .stored) w) o) stream at
           (x .number) (x .next) (StringIs (λ b w y. valueAdded b (c .top) w y) w text₁ x)) (sym role)
-          (value-outcome room stored-few post s e (q .valid) (few-rows (pre .pair .bounded)
-          (q .counts)) (own-rows q row))
+          (value-outcome room stored-few post s e (q .valid) (few-rows (pre .pair .bounded) (q .counts))
+          (own-rows q row))
 
       pub characters-refused : 0 < x .number → ContentPost a stream at text work c p text₁
           (stoppedAs (x .number) (x .next) (x .left) (x .stored))
@@ -316,6 +360,7 @@ module _ {stream : List ℕ} {at : ℕ} {text work : List ℕ} {c : Core} {p : P
             room = room-still;
             few = few-still;
           })
+          (omega (arith, post .text-read .stored-is))
           (omega (arith, bounds .owner, bounds .name))
 
       no-value : n .strings .«new_value» ≡ false
@@ -325,6 +370,16 @@ module _ {stream : List ℕ} {at : ℕ} {text work : List ℕ} {c : Core} {p : P
           → m + cond b 1 0 ≤ most
       few-one true m most l h = omega (arith, h refl)
       few-one false m most l h = omega arith
+
+      -- The name leaves the values.
+      name-values : {w : Rows} {v : QName Placed × Tables} (m : NameMeans text₁ w n v)
+          → SameValues w (m .rows)
+      name-values m =
+          record {
+            values = strings-values (m .joins) no-value;
+            longest = strings-ahead (m .joins) .longest;
+            capacity = strings-ahead (m .joins) .capacity;
+          }
 
       -- The rows with the name.
       module _ {w : Rows} (q : Prepared work text c w) {v : QName Placed × Tables}
@@ -343,28 +398,14 @@ module _ {stream : List ℕ} {at : ℕ} {text work : List ℕ} {c : Core} {p : P
                 few-one (n .strings .«new_name») (c .names) maxNames (b .names) (bounds .names),
                 names-counted (m .joins) (q .counts),
               );
-              values = omega (
-                arith,
-                b .values,
-                q .counts .values,
-                ap length (strings-values (m .joins) no-value),
-              );
             }
 
         named-rows :
-            ValueRows work text₁ (n .stored) (c .values) (n .strings .owner) (m .rows)
+            ValueRows work text₁ (n .stored) (c .values) (c .longest) (c .capacity)
+            (n .strings .owner) (m .rows)
         named-rows =
-            let h : Holds work (inStore text₁ (n .stored)) w =
-            holds-grown (text-grown room (post .text-read)) (q .holds) in
-            record {
-              stand = subst
-                  (λ es. ValuesStand work text₁ (n .stored) (c .values) 0 (c .values) es none)
-                  (sym (strings-values (m .joins) no-value))
-                  (subst
-                  (λ k. ValuesStand work text₁ (n .stored) k 0 k (w .values) none)
-                  (sym (q .counts .values)) (h .values));
-              row = omega (arith, bounds .owner, m .row);
-            }
+            value-rows q (text-grown room (post .text-read)) (name-values m)
+            (omega (arith, bounds .owner, m .row))
 
         owner-is : value (nameAt (m .rows) (n .strings .owner)) ≡ value (nameText (v .0))
         unfolding nameAt nameText mapName
@@ -374,7 +415,7 @@ module _ {stream : List ℕ} {at : ℕ} {text work : List ℕ} {c : Core} {p : P
 
       module _ {text₂ : List ℕ} {x : StringRead}
           (post₂ : ValuePost a asValue stream (n .next) text₁ (n .stored) work (c .values)
-          (n .strings .owner) text₂ x)
+          (c .longest) (c .capacity) (n .strings .owner) text₂ x)
           (joins : JoinsWithin (c .values) text₂ x) where
         abbrev attributeAs : Content
         attributeAs =

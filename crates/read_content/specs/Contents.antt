@@ -7,7 +7,7 @@ use mathlib.Core.Option.{Option, none, some}
 use lib.ListN.{length}
 use Rattle.spec_fields.specs.Field.{Alignment}
 use Rattle.spec_exi.specs.Settings.{Settings}
-use Rattle.spec_exi.specs.Sizes.{sizes, maxUris, maxNames, maxValues}
+use Rattle.spec_exi.specs.Sizes.{sizes, maxUris, maxNames}
 use Rattle.spec_exi.specs.Event.{QName, Event, kindOf, nameOf, mapEvent, CH}
 use Rattle.spec_exi.specs.Tables.{Placed, spanOf, Tables, value}
 use Rattle.spec_exi.specs.Grammar.{State, kindNumber}
@@ -79,11 +79,12 @@ pub record ContentRows (c : Core) (p : ProductionRead) (st : State) (w : Rows) :
   pub carried : p .learned ≡ true → carries (kindAt (p .kind)) ≡ true
       → Carried w (p .name) (p .uri) (p .local)
 
--- On every memory: which rows the strings have, and that their tables have room.
-pub record ContentBounds (c : Core) (s : Strings) : Type 0 where
+-- On every memory: which rows the strings have, and that their tables have room; a value that joins
+-- has a code point in the store after it.
+pub record ContentBounds (c : Core) (stored : ℕ) (s : Strings) : Type 0 where
   pub uris : s .«new_uri» ≡ true → c .uris < maxUris
   pub names : s .«new_name» ≡ true → c .names < maxNames
-  pub values : s .«new_value» ≡ true → c .values < maxValues
+  pub values : s .«new_value» ≡ true → c .values < stored
   pub uri : s .«uri_row» < uriRows
   pub name : s .«name_row» < nameRows
   pub owner : s .owner < nameRows
@@ -114,7 +115,7 @@ pub record ContentPost (a : Alignment) (stream : List ℕ) (at : ℕ) (text work
   pub inside : r .next ≤ 8 * length stream
   pub refused : 0 < r .number → r ≡ stoppedAs (r .number) (r .next) (r .left) (r .stored)
   pub text-read : TextRead text (c .stored) text′ (r .number) (r .stored)
-  pub bounds : r .number ≡ 0 → ContentBounds c (r .strings)
+  pub bounds : r .number ≡ 0 → ContentBounds c (r .stored) (r .strings)
   pub meant : (s : Settings) → s .alignment ≡ a → (w : Rows) (st : State)
       → Prepared work text c w → ContentRows c p st w
       → Outcome (readContent sizes s (tablesAt text (c .stored) w) st (kindAt (p .kind))

@@ -127,6 +127,8 @@ fn read_attribute(
         n.next,
         s.owner,
         c.values,
+        c.longest,
+        c.capacity,
         n.stored,
         text,
         work,
@@ -164,7 +166,18 @@ fn read_characters(
         ContentPost (alignmentOf aligned) (now (stream .entry)) at (now (text .entry))
         (now (work .entry)) c p (now (text .exit)) r ⌝ }
 {
-    let x = read_values::read_value(aligned, stream, at, c.top, c.values, c.stored, text, work);
+    let x = read_values::read_value(
+        aligned,
+        stream,
+        at,
+        c.top,
+        c.values,
+        c.longest,
+        c.capacity,
+        c.stored,
+        text,
+        work,
+    );
     if x.number != 0 {
         return stopped(x.number, x.next, x.left, x.stored);
     }

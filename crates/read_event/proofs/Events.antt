@@ -165,7 +165,7 @@ module _ {work text : List ℕ} {c : Core} {w : Rows} {opened : List ℕ}
 
     -- ---- SHAPE
 
-    pub allows-is : ContentBounds c (y .strings)
+    pub allows-is : ContentBounds c (y .stored) (y .strings)
         → tagAllows (contextAt text c w opened .tag) e ≡ allowedHere work c p (y .strings)
     allows-is bs =
         update-allows.allows-is rep ahead (m .joins .valid) known (bs .name) (take (c .stored) text)
@@ -225,7 +225,7 @@ module _ {work text : List ℕ} {c : Core} {w : Rows} {opened : List ℕ}
         abbrev left : Rows
         left = leaves (g .kind) (g .name) (g .teaches) (learntOf g) (m .rows)
 
-        module _ (bs : ContentBounds c (y .strings)) where
+        module _ (bs : ContentBounds c (y .stored) (y .strings)) where
           pub fits-is : (store : Text)
               → withinGrammars sizes
               (contextOf left store (modeAfter (s .fragment) (g .kind) (c .mode) (c .depth))

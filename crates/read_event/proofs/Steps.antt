@@ -4,7 +4,7 @@ use native.Mathlib.Omega.{arith}
 use mathlib.Core.Path.{_≡_, refl, sym, ap, subst, _∙_}
 use mathlib.Core.List.{List, _++_, append-nil}
 use lib.ListN.{length, take, drop, replicate}
-use Rattle.spec_exi.specs.Sizes.{sizes, maxStore, maxUris, maxNames, maxValues, maxLearned}
+use Rattle.spec_exi.specs.Sizes.{sizes, maxStore, maxUris, maxNames, maxLearned}
 use Rattle.spec_exi.specs.Sizes.{maxEvents, cellsPerEvent}
 use Rattle.spec_exi.specs.Settings.{Settings}
 use Rattle.spec_exi.specs.Event.{Event}
@@ -82,15 +82,18 @@ module _ {stream events text work : List ℕ} {c : Core} {cell n : ℕ}
     -- ---- an event that is accepted
 
     module _ (z : r .number ≡ 0) where
+      stored-few : r .stored ≤ maxStore
+      stored-few = let t = post .laid z in omega (arith, t .room, t .stored-is)
+
       pub join-asks : StringsPre work c (r .strings)
-      unfolding maxUris maxNames maxValues
+      unfolding maxUris maxNames maxStore
       join-asks =
           let b = post .bounds z .strings in
           record {
             room = pre .rows;
             uris = λ j. omega (arith, b .uris j);
             names = λ j. omega (arith, b .names j);
-            values = λ j. omega (arith, b .values j);
+            values = λ j. omega (arith, b .values j, stored-few);
             uri = b .uri;
             owner = b .owner;
           }
@@ -111,9 +114,6 @@ module _ {stream events text work : List ℕ} {c : Core} {cell n : ℕ}
       pub after-asks : AfterPre c (r .growth) n
       after-asks =
           record { bounded = pre .bounded; early = pre .early; stands = post .bounds z .stands }
-
-      stored-few : r .stored ≤ maxStore
-      stored-few = let t = post .laid z in omega (arith, t .room, t .stored-is)
 
       -- ---- over rows
 
@@ -155,7 +155,8 @@ module _ {stream events text work : List ℕ} {c : Core} {cell n : ℕ}
           record {
             bounded = after-bounded (s .fragment) (r .next) (r .stored) after-asks join-asks
                 (post .bounds z .fits)
-                (omega (arith, post .bounds z .name, post .bounds z .strings .name)) stored-few;
+                (omega (arith, post .bounds z .name, post .bounds z .strings .name))
+                (omega (arith, t .stored-is)) stored-few (post .bounds z .strings .values);
             inside = post .inside;
             refused = λ h. absurd (omega arith);
             laid = λ _. record {

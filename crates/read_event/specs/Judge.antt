@@ -104,7 +104,7 @@ refusedAs number c =
 
 -- On every memory: the strings and the growth of an event that is accepted.
 pub record EventBounds (c : Core) (r : EventRead) : Type 0 where
-  pub strings : ContentBounds c (r .strings)
+  pub strings : ContentBounds c (r .stored) (r .strings)
   pub stands : Stands (c .mode) (r .growth .kind)
   pub fits : fitsIn c (r .growth) ≡ true
   pub site : r .growth .site < sites

@@ -43,6 +43,8 @@ coreOf r =
       top = r .top;
       depth = r .depth;
       tag = r .tag;
+      longest = r .longest;
+      capacity = r .capacity;
     }
 
 abbrev pub steppedAs : ℕ → Core → Stepped
@@ -60,6 +62,8 @@ steppedAs number c =
       top = c .top;
       depth = c .depth;
       tag = c .tag;
+      longest = c .longest;
+      capacity = c .capacity;
     }
 
 -- Bounds alone; the event's cells begin at this one, and n events have come before it.

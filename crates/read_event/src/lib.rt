@@ -32,6 +32,8 @@ pub struct Stepped {
     pub top: u32,
     pub depth: usize,
     pub tag: u32,
+    pub longest: u32,
+    pub capacity: u32,
 }
 
 // The answer of a step: a number, and the numbers after it.
@@ -51,6 +53,8 @@ pub fn answer(number: u32, c: Core) -> Stepped
         top: c.top,
         depth: c.depth,
         tag: c.tag,
+        longest: c.longest,
+        capacity: c.capacity,
     }
 }
 

@@ -72,6 +72,8 @@ turnedBy c at stored uri name value g mode top depth tag =
       top = top;
       depth = depth;
       tag = tag;
+      longest = c .longest;
+      capacity = c .capacity;
     }
 
 -- ---- the step

@@ -102,6 +102,8 @@ pub fn moved(
         top,
         depth,
         tag,
+        longest: c.longest,
+        capacity: c.capacity,
     }
 }
 
@@ -172,6 +174,8 @@ pub fn first_characters(
         p.next,
         c.top,
         c.values,
+        c.longest,
+        c.capacity,
         c.stored,
         text,
         work,

@@ -8,7 +8,7 @@ use mathlib.Core.Option.{none, some}
 use lib.ListN.{length, take, drop, replicate}
 use Rattle.spec_fields.specs.Field.{Alignment}
 use Rattle.spec_fields.specs.Refusal.{numberOf, shape}
-use Rattle.spec_exi.specs.Sizes.{maxEvents, maxValues, cellsPerEvent}
+use Rattle.spec_exi.specs.Sizes.{maxEvents, maxStore, cellsPerEvent}
 use Rattle.spec_exi.specs.Settings.{Settings}
 use Rattle.spec_exi.specs.Event.{Kind, AT, CH}
 use Rattle.spec_exi.specs.Grammar.{kindNumber}
@@ -52,6 +52,13 @@ pub marked-as : (tag name : ℕ) {x y work : List ℕ} → x ≡ y → work ≡ 
     → work ≡ withMark y tag name
 marked-as tag name e f = f ∙ ap (λ w. withMark w tag name) e
 
+-- The value after the event's code.
+abbrev ValueOf : Alignment → List ℕ → List ℕ → List ℕ → Core → ProductionRead → ℕ → List ℕ
+    → StringRead → Type 0
+ValueOf a stream text work c p owner text₁ x =
+    ValuePost a asValue stream (p .next) text (c .stored) work (c .values) (c .longest)
+    (c .capacity) owner text₁ x
+
 -- What the value's reader asks.
 module _ {stream events text work : List ℕ} {c : Core} {cell n : ℕ}
     (pre : StepPre stream events text work c cell n) {k : Kind} {p : ProductionRead}
@@ -73,8 +80,7 @@ module _ {stream events text work : List ℕ} {c : Core} {cell n : ℕ}
 
   -- What was laid can be cleared.
   pub clear-asks : {a : Alignment} {owner : ℕ} {text₁ : List ℕ} {x : StringRead}
-      → ValuePost a asValue stream (p .next) text (c .stored) work (c .values) owner text₁ x
-      → x .number ≡ 0
+      → ValueOf a stream text work c p owner text₁ x → x .number ≡ 0
       → (c .stored ≤ x .stored) × (c .stored + (x .stored - c .stored) ≤ length text₁)
   clear-asks post z =
       let l = post .laid z in
@@ -85,9 +91,13 @@ module _ {stream events text work : List ℕ} {c : Core} {cell n : ℕ}
   pub join-asks : {text₁ : List ℕ} {x : StringRead} {owner : ℕ}
       → JoinsWithin (c .values) text₁ x → owner < nameRows
       → commit.ValuePre work (c .values) owner (joiningOf x)
-  unfolding maxValues
+  unfolding maxStore
   join-asks joins low =
-      record { room = pre .rows; few = λ h. omega (arith, joins .left h); low = low }
+      record {
+        room = pre .rows;
+        few = λ h. omega (arith, joins .left h, joins .room h);
+        low = low;
+      }
 
 module _ {s : Settings} {stream events text work : List ℕ} {c : Core} {cell n : ℕ}
     (pre : StepPre stream events text work c cell n) {p : ProductionRead}
@@ -95,18 +105,12 @@ module _ {s : Settings} {stream events text work : List ℕ} {c : Core} {cell n 
     {a : Alignment} (same : s .alignment ≡ a) {text₁ : List ℕ} {x : StringRead}
     (joins : JoinsWithin (c .values) text₁ x) where
   abbrev ValueRead : ℕ → Type 0
-  ValueRead owner =
-      ValuePost (s .alignment) asValue stream (p .next) text (c .stored) work (c .values) owner
-      text₁ x
+  ValueRead owner = ValueOf (s .alignment) stream text work c p owner text₁ x
 
   -- The value in the settings' alignment.
-  as-set : {owner : ℕ}
-      → ValuePost a asValue stream (p .next) text (c .stored) work (c .values) owner text₁ x
-      → ValueRead owner
+  as-set : {owner : ℕ} → ValueOf a stream text work c p owner text₁ x → ValueRead owner
   as-set {owner} post =
-      subst
-      (λ b. ValuePost b asValue stream (p .next) text (c .stored) work (c .values) owner text₁ x)
-      (sym same) post
+      subst (λ b. ValueOf b stream text work c p owner text₁ x) (sym same) post
 
   -- A value that is refused leaves the store as it was.
   same-store : {owner : ℕ} → ValueRead owner → 0 < x .number → x .stored ≡ c .stored
@@ -119,8 +123,7 @@ module _ {s : Settings} {stream events text work : List ℕ} {c : Core} {cell n 
   -- ---- an attribute
 
   module _ (kind : p .kind ≡ kindNumber AT)
-      (post : ValuePost a asValue stream (p .next) text (c .stored) work (c .values) (p .name) text₁
-      x) where
+      (post : ValueOf a stream text work c p (p .name) text₁ x) where
     name-post : NamePost (s .alignment) true
         (λ w. p .learned ≡ true → Carried w (p .name) (p .uri) (p .local))
         (λ w. cond (p .learned) (some (placedAt w (p .name))) none) stream (p .next) text work c
@@ -173,8 +176,7 @@ module _ {s : Settings} {stream events text work : List ℕ} {c : Core} {cell n 
   -- ---- characters
 
   module _ (kind : p .kind ≡ kindNumber CH)
-      (post : ValuePost a asValue stream (p .next) text (c .stored) work (c .values) (c .top) text₁
-      x) where
+      (post : ValueOf a stream text work c p (c .top) text₁ x) where
     pub characters-stopped : 0 < x .number
         → StepPost s stream events text work c cell n events text₁ work (steppedAs (x .number) c)
     characters-stopped h =

@@ -43,6 +43,8 @@ movedOn c at stored joins enters mode top depth tag =
       top = top;
       depth = depth;
       tag = tag;
+      longest = c .longest;
+      capacity = c .capacity;
     }
 
 -- On every memory: a learned production of this kind, and the position after its code.

@@ -84,6 +84,8 @@ pub fn moved_on(
         top,
         depth,
         tag,
+        longest: c.longest,
+        capacity: c.capacity,
     }
 }
 
@@ -145,6 +147,8 @@ pub fn known_attribute(
         p.next,
         p.name,
         c.values,
+        c.longest,
+        c.capacity,
         c.stored,
         text,
         work,
@@ -206,6 +210,8 @@ pub fn known_characters(
         p.next,
         c.top,
         c.values,
+        c.longest,
+        c.capacity,
         c.stored,
         text,
         work,

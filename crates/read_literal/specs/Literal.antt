@@ -3,6 +3,7 @@ use Prim.Native.Nat.{ℕ, _+_, _*_, _≤_, _<_}
 use mathlib.Core.Path.{_≡_}
 use mathlib.Core.Bool.{false}
 use mathlib.Core.List.{List, _++_}
+use mathlib.Core.Option.{none}
 use lib.ListN.{length, take, drop, replicate, getD}
 use Rattle.spec_fields.specs.Parser.{times}
 use Rattle.spec_fields.specs.Field.{bitPacked}
@@ -28,6 +29,8 @@ base =
       comments = false;
       instructions = false;
       fragment = false;
+      longest = none;
+      capacity = none;
     }
 
 -- Bounds alone: a position in a stream, and room in the store.

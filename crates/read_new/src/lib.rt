@@ -212,6 +212,8 @@ pub fn new_attribute(
         l.next,
         l.row,
         c.values,
+        c.longest,
+        c.capacity,
         l.stored,
         text,
         work,

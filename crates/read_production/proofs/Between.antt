@@ -21,6 +21,7 @@ use Rattle.grammar_codes.specs.Table.{fixedKinds, leveled, FixedCode, Stands}
 use Rattle.grammar_codes.proofs.Fixed.{fixed-outer, fixed-first, fixed-next, fixed-few}
 use Rattle.grammar_codes.proofs.Fixed.{fixed-stands}
 use Rattle.read_field.specs.View.{NumberIn}
+use Rattle.mem_index.specs.Index.{numbers}
 use Rattle.mem_layout.specs.Layout.{nameRows, fragmentSite}
 use Rattle.mem_learned.specs.Learned.{Sited, CountedAt}
 use Rattle.mem_rows.specs.Rows.{Rows, contextOf}
@@ -68,7 +69,7 @@ module _ {stream : List ℕ} {at learned : ℕ} {work : List ℕ}
   module _ (s : Settings) {count here on : ℕ} (c : CountedAt work fragmentSite count)
       (e : here ≡ length (fixedKinds inFragment))
       (f : on ≡ leadsOn (drop 1 (fixedLevels (s .comments) (s .instructions) inFragment))) where
-    pub between-values : count + here + on ≤ 4101
+    pub between-values : count + here + on ≤ numbers + 5
     between-values = omega (arith, c .within, main-values s inFragment e f)
 
     pub between-asks : NumberIn stream at (count + here + on) 65536

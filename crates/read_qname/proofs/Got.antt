@@ -1,6 +1,6 @@
 -- A string that was read, over rows: it is the definitions' string, and the rows with it are the
 -- tables after it.
-use Prim.Native.Nat.{ℕ, zero, suc, _+_, _*_, _≤_, _<_}
+use Prim.Native.Nat.{ℕ, zero, suc, _+_, _*_, _-_, _≤_, _<_}
 use native.Mathlib.Omega.{arith}
 use mathlib.Core.Path.{_≡_, refl, sym, ap, subst, _∙_}
 use mathlib.Core.Bool.{Bool, true, false}
@@ -12,11 +12,11 @@ use borrow.Author.Tests.{le-leb}
 use Rattle.spec_fields.specs.Field.{Alignment}
 use Rattle.text.specs.Text.{Text, part}
 use Rattle.spec_exi.specs.Sizes.{sizes, maxStore, maxUris, maxNames, maxValues}
-use Rattle.spec_exi.specs.Tables.{Placed, Tables, Role}
+use Rattle.spec_exi.specs.Tables.{Placed, Tables, Role, replaced, gone}
 use Rattle.spec_exi.specs.Lists.{withinTables}
 use Rattle.mem_entries.specs.Texts.{hashOf, Grown, Lies, upTo}
 use Rattle.mem_rows.specs.Rows.{Rows, tablesOf}
-use Rattle.mem_rows.specs.Valid.{Valid}
+use Rattle.mem_rows.specs.Valid.{Valid, goneIn}
 use Rattle.mem_rows.proofs.Within.{names-count, values-count}
 use Rattle.mem_state.specs.Strung.{Lain, Joins}
 use Rattle.read_literal.specs.Literal.{laidAt}
@@ -39,15 +39,24 @@ store-fits : (w : Rows) (store : Text) → length store ≤ maxStore
 unfolding tablesOf
 store-fits w store d = d
 
+-- The values that are present.
+values-fit : (w : Rows) (store : Text) → length (w .values) - goneIn w ≤ maxValues
+    → length (tablesOf w store .values .added) - gone (tablesOf w store .values) ≤ maxValues
+unfolding tablesOf gone
+values-fit w store c =
+    subst (λ n. n - replaced (w .capacity) n ≤ maxValues) (sym (values-count w store)) c
+
 pub rows-within : (w : Rows) (store : Text) → length (w .uris) ≤ maxUris
-    → length (w .names) ≤ maxNames → length (w .values) ≤ maxValues → length store ≤ maxStore
+    → length (w .names) ≤ maxNames → length (w .values) - goneIn w ≤ maxValues
+    → length store ≤ maxStore
     → withinTables sizes (tablesOf w store) ≡ true
 unfolding withinTables
 rows-within w store a b c d =
     rw (
       le-leb (length (tablesOf w store .uris)) maxUris (uris-fit w store a),
       le-leb (length (tablesOf w store .names)) maxNames (omega (arith, names-count w store)),
-      le-leb (length (tablesOf w store .values)) maxValues (omega (arith, values-count w store)),
+      le-leb (length (tablesOf w store .values .added) - gone (tablesOf w store .values)) maxValues
+          (values-fit w store c),
       le-leb (length (tablesOf w store .store)) maxStore (store-fits w store d),
     )
 

@@ -11,7 +11,7 @@ use Rattle.spec_fields.specs.Field.{Alignment}
 use Rattle.text.specs.Text.{Text, Span, part}
 use Rattle.text.proofs.Parts.{part-take}
 use Rattle.spec_exi.specs.Settings.{Settings}
-use Rattle.spec_exi.specs.Sizes.{sizes, maxStore, maxUris, maxNames, maxValues}
+use Rattle.spec_exi.specs.Sizes.{sizes, maxStore, maxUris, maxNames}
 use Rattle.spec_exi.specs.Event.{QName}
 use Rattle.spec_exi.specs.Tables.{Placed, Entry, Tables, spanOf, Role, uri, local}
 use Rattle.spec_exi.specs.Reader.{readString, readName}
@@ -83,15 +83,10 @@ lies-grown {text} {text′} {stored} {stored′} {place} {size} g l =
 pub record Few (w : Rows) : Type 0 where
   pub uris : length (w .uris) ≤ maxUris
   pub names : length (w .names) ≤ maxNames
-  pub values : length (w .values) ≤ maxValues
 
 pub few-rows : {c : Core} {w : Rows} → Bounded c → Counts c w → Few w
 few-rows b n =
-    record {
-      uris = omega (arith, b .uris, n .uris);
-      names = omega (arith, b .names, n .names);
-      values = omega (arith, b .values, n .values);
-    }
+    record { uris = omega (arith, b .uris, n .uris); names = omega (arith, b .names, n .names) }
 
 pub tabled : {text : List ℕ} {stored : ℕ} {w : Rows} → Valid w → Few w → stored ≤ maxStore
     → maxStore ≤ length text → Tabled text stored w (take stored text)
@@ -101,7 +96,7 @@ tabled {text} {stored} {w} v f h room =
       valid = v;
       is = refl;
       size = n;
-      within = rows-within w (take stored text) (f .uris) (f .names) (f .values) (omega arith);
+      within = rows-within w (take stored text) (f .uris) (f .names) (v .window .few) (omega arith);
     }
 
 -- ---- the URI
@@ -113,7 +108,6 @@ few-uri true {w} y f h =
     record {
       uris = omega (arith, h refl, length-append (w .uris) (y ∷ []));
       names = f .names;
-      values = f .values;
     }
 few-uri false y f h = f
 

@@ -83,6 +83,8 @@ pub fn advance(
             top,
             depth: after,
             tag: r.tag,
+            longest: r.longest,
+            capacity: r.capacity,
         };
         n += 1;
     }

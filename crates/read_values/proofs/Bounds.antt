@@ -1,12 +1,14 @@
 -- Bounds, passed on to the functions that are called.
-use Prim.Native.Nat.{ℕ, _≤_}
+use Prim.Native.Nat.{ℕ, _-_, _≤_}
 use native.Mathlib.Omega.{arith}
 use mathlib.Core.Path.{_≡_, sym, _∙_}
 use mathlib.Core.Bool.{false, true≢false}
 use mathlib.Core.List.{List}
 use Rattle.spec_fields.specs.Field.{unsigned}
-use Rattle.spec_exi.specs.Sizes.{maxStream, maxValues}
+use Rattle.spec_exi.specs.Sizes.{maxStream, maxStore}
+use Rattle.mem_values.specs.Window.{Replaced, Newest}
 use Rattle.mem_values.specs.Hold.{RowRoom, Findable, Askable}
+use Rattle.mem_values.specs.Forms.{Order}
 use Rattle.read_field.specs.declared.Field.{Field}
 use Rattle.read_field.specs.declared.Field.the-variants.{Value}
 use Rattle.read_field.specs.View.{fieldAt, InStream, NumberIn}
@@ -40,24 +42,36 @@ module _ {stream : List ℕ} {at : ℕ} {stored : ℕ} {work : List ℕ} {values
   unfolding maxStream
   choice-asks h = omega (arith, fit .size, fit .place)
 
-  pub all-asks : NumberIn stream at values 65536
-  unfolding maxValues
-  all-asks = choice-asks (omega (arith, fit .few))
+  pub all-asks : (low : ℕ) → NumberIn stream at (values - low) 65536
+  unfolding maxStore
+  all-asks low = choice-asks (omega (arith, fit .few, fit .store))
 
   pub count-asks : Askable work owner 0
   count-asks = record { room = fit .room; low = fit .low; few = omega arith }
 
   pub nth-asks : Askable work owner values
-  unfolding maxValues
-  nth-asks = record { room = fit .room; low = fit .low; few = omega (arith, fit .few) }
+  unfolding maxStore
+  nth-asks = record { room = fit .room; low = fit .low; few = omega (arith, fit .few, fit .store) }
+
+  pub global-asks : {capacity low newer : ℕ} → Replaced values capacity low
+      → Newest values capacity newer → Order values low newer low
+  unfolding maxStore
+  global-asks g n =
+      record {
+        few = omega (arith, fit .few, fit .store);
+        some = g .within;
+        new = omega (arith, g .is, n .within);
+        from = omega arith;
+        to = g .within;
+      }
 
   pub row-asks : RowRoom work 0
   row-asks = record { room = fit .room; low = omega arith }
 
 pub find-asks : {text : List ℕ} {stored n hash : ℕ} {work : List ℕ} {values : ℕ}
     → SoughtPre text stored n hash work values → Findable work values
-unfolding maxValues
-find-asks fit = record { room = fit .room; few = omega (arith, fit .few) }
+unfolding maxStore
+find-asks fit = record { room = fit .room; few = omega (arith, fit .few, fit .store) }
 
 pub seek-asks : {stream : List ℕ} {at : ℕ} {text : List ℕ} {stored : ℕ} {work : List ℕ} {values : ℕ}
     → NewPre stream at text stored work values
@@ -93,5 +107,6 @@ pub joins-not : {values : ℕ} {text : List ℕ} {r : StringRead} → r .joins �
 joins-not e =
     record {
       left = λ j. absurd (true≢false (sym j ∙ e));
+      room = λ j. absurd (true≢false (sym j ∙ e));
       hashed = record { is = λ j. absurd (true≢false (sym j ∙ e)) };
     }

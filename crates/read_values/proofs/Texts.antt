@@ -50,8 +50,8 @@ module _ {role : Role} (k : Alone role) where
         strict = text-strict (tablesOf w store) x;
         allowed = p .name;
         within = within-none (tablesOf w store) x (t .within) (omega (arith, t .size)) role
-            (k .uris y) (k .names y) (k .values y);
-        stays = λ _. nothing-joins w store x role (k .uris y) (k .names y) (k .values y);
+            (k .uris y) (k .names y) (k .values _ y);
+        stays = λ _. nothing-joins w store x role (k .uris y) (k .names y) (k .values _ y);
         joined = λ j. absurd (true≢false (sym j));
         valid = λ j. absurd (true≢false (sym j));
       }

@@ -7,7 +7,9 @@ ghost use mathlib.Core.List.{List};
 ghost use Prim.Native.Nat.{ℕ, _≤_};
 ghost use Rattle.spec_fields.specs.Field.{Alignment};
 ghost use Rattle.text.specs.Text.{part};
+ghost use Rattle.spec_exi.specs.Settings.{boundOf};
 ghost use Rattle.spec_exi.specs.Sizes.{maxStore};
+ghost use Rattle.spec_exi.specs.Tables.{replaced};
 ghost use Rattle.names.specs.Texts.{roleOf, faultOf};
 ghost use Rattle.mem_values.specs.Hold.{FoundText};
 ghost use Rattle.read_field.specs.View.{alignmentOf};
@@ -32,20 +34,23 @@ fn own_value(
     at: usize,
     owner: u32,
     values: u32,
+    capacity: u32,
     stored: usize,
     work: &[u32],
 ) -> StringRead
     requires { ⌜ HitPre (now stream) at stored (now work) values owner ⌝ }
     ensures { λ r. ⌜
-        ((text : List ℕ) → ValuePost (alignmentOf aligned) asOwn (now (stream .entry)) at text
-        stored (now (work .entry)) values owner text r) ⌝ }
+        ((text : List ℕ) (longest : ℕ) → ValuePost (alignmentOf aligned) asOwn
+        (now (stream .entry)) at text stored (now (work .entry)) values longest capacity owner text
+        r) ⌝ }
     ensures { λ r. ⌜ ((text : List ℕ) → JoinsWithin values text r) ⌝ }
 {
     let among = mem_values::count_local(work, owner);
     match read_field::choice(aligned, stream, at, among) {
         Field::Refused(k) => read_partition::refused(k as u32, at, 0, stored),
         Field::Value { value, next } => {
-            let g = mem_values::nth_local(work, owner, value, values, 0);
+            let low = mem_values::replaced(values, capacity);
+            let g = mem_values::nth_local(work, owner, value, values, low);
             if g == 0 {
                 return read_partition::refused(REFERENCE, at, 0, stored);
             }
@@ -55,55 +60,73 @@ fn own_value(
     }
 }
 
-// A value as a hit among all values; LOOSE where it is the name's own.
+// A value as a hit among all values present; LOOSE where it is the name's own.
 fn any_value(
     aligned: bool,
     stream: &[u8],
     at: usize,
     owner: u32,
     values: u32,
+    capacity: u32,
     stored: usize,
     work: &[u32],
 ) -> StringRead
     requires { ⌜ HitPre (now stream) at stored (now work) values owner ⌝ }
     ensures { λ r. ⌜
-        ((text : List ℕ) → ValuePost (alignmentOf aligned) asAny (now (stream .entry)) at text
-        stored (now (work .entry)) values owner text r) ⌝ }
+        ((text : List ℕ) (longest : ℕ) → ValuePost (alignmentOf aligned) asAny
+        (now (stream .entry)) at text stored (now (work .entry)) values longest capacity owner text
+        r) ⌝ }
     ensures { λ r. ⌜ ((text : List ℕ) → JoinsWithin values text r) ⌝ }
 {
-    match read_field::choice(aligned, stream, at, values) {
+    let low = mem_values::replaced(values, capacity);
+    match read_field::choice(aligned, stream, at, values - low) {
         Field::Refused(k) => read_partition::refused(k as u32, at, 0, stored),
         Field::Value { value, next } => {
-            if values <= value {
+            let newer = mem_values::newest_numbers(values, capacity);
+            let g = mem_values::nth_global(values, low, newer, value);
+            if g == 0 {
                 return read_partition::refused(REFERENCE, at, 0, stored);
             }
-            let v = mem_values::value_at(work, value);
+            let v = mem_values::value_at(work, g - 1);
             let of = v.owner;
             if of == owner {
                 return read_partition::refused(LOOSE, next, 0, stored);
             }
-            read_partition::found(next, v.place, v.size, value, stored)
+            read_partition::found(next, v.place, v.size, g - 1, stored)
         }
     }
 }
 
-// The number and 1 of the value whose text is the n code points after the store, or 0 for none.
-fn seek(text: &[u32], stored: usize, n: u32, hash: u32, work: &[u32], values: u32) -> u32
+// The number and 1 of the value present whose text is the n code points after the store, or 0 for
+// none.
+fn seek(
+    text: &[u32],
+    stored: usize,
+    n: u32,
+    hash: u32,
+    work: &[u32],
+    values: u32,
+    capacity: u32,
+) -> u32
     requires { ⌜ SoughtPre (now text) stored n hash (now work) values ⌝ }
     ensures { λ r. ⌜
         FoundText (now (work .entry)) (now (text .entry))
-        (part (now (text .entry)) (record { place = stored; size = n })) hash values 0 r ⌝ }
+        (part (now (text .entry)) (record { place = stored; size = n })) hash values
+        (replaced (boundOf capacity) values) r ⌝ }
 {
+    let low = mem_values::replaced(values, capacity);
     let x = text::look_up(text, stored as u32, n);
-    mem_values::find(work, text, x, hash, values, 0)
+    mem_values::find(work, text, x, hash, values, low)
 }
 
-// A value as a literal of n code points, of any name; an empty one joins no table.
+// A value as a literal of n code points, of any name, whether it joins the tables or not.
 fn new_value(
     stream: &[u8],
     at: usize,
     n: u32,
     values: u32,
+    longest: u32,
+    capacity: u32,
     stored: usize,
     text: &mut [u32],
     work: &[u32],
@@ -111,33 +134,37 @@ fn new_value(
     requires { ⌜ NewPre (now stream) at (now text) stored (now work) values ⌝ }
     ensures { λ r. ⌜
         ((a : Alignment) (owner : ℕ) → ValuePost a (asNew n) (now (stream .entry)) at
-        (now (text .entry)) stored (now (work .entry)) values owner (now (text .exit)) r) ⌝ }
+        (now (text .entry)) stored (now (work .entry)) values longest capacity owner
+        (now (text .exit)) r) ⌝ }
     ensures { λ r. ⌜ JoinsWithin values (now (text .exit)) r ⌝ }
 {
     let read = read_literal::read_literal(stream, at, text, stored, n);
     if read.number != 0 {
         return read_partition::refused(read.number, read.next, read.left, stored);
     }
-    let row = seek(text, stored, n, read.hash, work, values);
+    let row = seek(text, stored, n, read.hash, work, values, capacity);
     if row != 0 {
         return read_partition::dropped(LOOSE, read.next, n, stored, text);
     }
-    if n == 0 {
+    if !mem_values::joins(n as usize, longest, capacity) {
         return read_partition::laid(read.next, stored, n, 0, false, 0);
     }
-    if MAX_VALUES <= values as usize {
+    if (capacity == 0) & (MAX_VALUES <= values as usize) {
         return read_partition::dropped(LIMIT, read.next, n, stored, text);
     }
     read_partition::laid(read.next, stored, n, values, true, read.hash)
 }
 
-// A value of the element or attribute whose name has this row.
+// A value of the element or attribute whose name has this row, by the numbers of the value table:
+// how many have joined, the longest that may, and how many it has room for.
 pub fn read_value(
     aligned: bool,
     stream: &[u8],
     at: usize,
     owner: u32,
     values: u32,
+    longest: u32,
+    capacity: u32,
     stored: usize,
     text: &mut [u32],
     work: &[u32],
@@ -145,19 +172,29 @@ pub fn read_value(
     requires { ⌜ ValuePre (now stream) at (now text) stored (now work) values owner ⌝ }
     ensures { λ r. ⌜
         ValuePost (alignmentOf aligned) asValue (now (stream .entry)) at (now (text .entry)) stored
-        (now (work .entry)) values owner (now (text .exit)) r ⌝ }
+        (now (work .entry)) values longest capacity owner (now (text .exit)) r ⌝ }
     ensures { λ r. ⌜ JoinsWithin values (now (text .exit)) r ⌝ }
 {
     match read_field::unsigned(stream, at) {
         Field::Refused(k) => read_partition::refused(k as u32, at, 0, stored),
         Field::Value { value, next } => {
             if value == 0 {
-                return own_value(aligned, stream, next, owner, values, stored, work);
+                return own_value(aligned, stream, next, owner, values, capacity, stored, work);
             }
             if value == 1 {
-                return any_value(aligned, stream, next, owner, values, stored, work);
+                return any_value(aligned, stream, next, owner, values, capacity, stored, work);
             }
-            new_value(stream, next, value - 2, values, stored, text, work)
+            new_value(
+                stream,
+                next,
+                value - 2,
+                values,
+                longest,
+                capacity,
+                stored,
+                text,
+                work,
+            )
         }
     }
 }

@@ -68,45 +68,45 @@ not-over = refl
 module _ {events text work events′ text′ work′ : List ℕ} {r : Advanced}
     (h : StreamReady firstReading events text work)
     (p : AdvancePost asOctets firstReading events (withText text 0)
-    (withRows (zeroed work) 0) (noneOpen (startAt 8)) 0 events′ text′ work′ r) where
+    (withRows (zeroed work) 0) (noneOpen (startAt 8 0 0)) 0 events′ text′ work′ r) where
   room : workCells ≤ length work
   unfolding readerWork
   room = h .rows
 
   represents : Represents (withRows (zeroed work) 0)
-      (inStore (withText text 0) (noneOpen (startAt 8) .core .stored)) (noneOpen (startAt 8) .core)
-      startRows (openedIn (noneOpen (startAt 8)))
+      (inStore (withText text 0) (noneOpen (startAt 8 0 0) .core .stored)) (noneOpen (startAt 8 0 0) .core)
+      (startRows 0 0) (openedIn (noneOpen (startAt 8 0 0)))
   unfolding noneOpen lastFirst startAt
   represents =
       start-represents (zeroed work) (omega (arith, room, zeroed-size work room))
-      (counts-zero work room) (store-sourced text (text-asks h)) 8
+      (counts-zero work room) (store-sourced text (text-asks h)) 8 0 0
 
-  topped : Topped (noneOpen (startAt 8) .core) (openedIn (noneOpen (startAt 8)))
+  topped : Topped (noneOpen (startAt 8 0 0) .core) (openedIn (noneOpen (startAt 8 0 0)))
   unfolding noneOpen lastFirst startAt
-  topped = start-topped 8
+  topped = start-topped 8 0 0
 
-  late : noneOpen (startAt 8) .core .tag ≤ 0 + 1
+  late : noneOpen (startAt 8 0 0) .core .tag ≤ 0 + 1
   unfolding noneOpen startAt
   late = omega arith
 
   abbrev begun : Context
-  begun = contextAt (withText text 0) (noneOpen (startAt 8) .core) startRows
-      (openedIn (noneOpen (startAt 8)))
+  begun = contextAt (withText text 0) (noneOpen (startAt 8 0 0) .core) (startRows 0 0)
+      (openedIn (noneOpen (startAt 8 0 0)))
 
   begins : begun ≡ start asOctets
-  unfolding noneOpen lastFirst startAt
-  begins = start-means text 8 asOctets
+  unfolding noneOpen lastFirst startAt definitions asOctets
+  begins = start-means text 8 (record { longest-is = refl; capacity-is = refl })
 
   abbrev onward : Bits
-  onward = drop (noneOpen (startAt 8) .core .at) (unpack firstReading)
+  onward = drop (noneOpen (startAt 8 0 0) .core .at) (unpack firstReading)
 
   bits-are : onward ≡ bits
   unfolding noneOpen startAt
   bits-are = refl
 
-  abbrev run : Running asOctets firstReading events (withText text 0) (noneOpen (startAt 8)) 0 startRows
-      events′ text′ work′ (r .state) (r .index)
-  run = p .progress .meant startRows represents topped late
+  abbrev run : Running asOctets firstReading events (withText text 0) (noneOpen (startAt 8 0 0)) 0
+      (startRows 0 0) events′ text′ work′ (r .state) (r .index)
+  run = p .progress .meant (startRows 0 0) represents topped late
 
   open-still : isFinished (begun .state) ≡ false
   open-still = ap (λ c. isFinished (c .state)) begins ∙ not-over

@@ -8,14 +8,16 @@ use lib.ListN.{length, getD, drop, replicate, length-append, length-drop, length
 use lib.Seq.{getD-drop, getD-append-add}
 use Rattle.spec_fields.specs.Bits.{unpack}
 use Rattle.spec_exi.specs.Settings.{Settings}
-use Rattle.spec_exi.specs.Sizes.{sizes, maxEvents, maxStore, maxOpen, readerWork}
+use Rattle.spec_exi.specs.Sizes.{sizes, maxEvents, maxStore, maxOpen, maxValues, readerWork}
 use Rattle.spec_exi.specs.Context.{start}
 use Rattle.spec_exi.specs.Reader.{readEvents}
+use Rattle.settings.specs.declared.Settings as declared
+use Rattle.settings.specs.Meant.{settingsFrom}
 use Rattle.mem_layout.specs.Layout.{workCells, zeroFrom, zeroTo}
 use Rattle.mem_initial.specs.Initial.{zeroed, initialText, withText, withRows, startRows, startAt, initialSize}
 use Rattle.mem_initial.specs.Initial.{Layable}
 use Rattle.mem_initial.proofs.Initial.{store-sourced, counts-zero, start-represents, start-topped}
-use Rattle.mem_initial.proofs.Initial.{start-bounded, start-means}
+use Rattle.mem_initial.proofs.Initial.{start-bounded, BoundsOf, start-means}
 use Rattle.read_literal.specs.Literal.{ZeroFrom}
 use Rattle.open_elements.specs.declared.State.{State}
 use Rattle.open_elements.specs.Opened.{lastFirst, noneOpen}
@@ -49,6 +51,11 @@ text-zeros text e h same =
 
 -- ---- the start
 
+-- The settings' numbers mean its bounds.
+pub bounds-from : (o : declared.Settings) → BoundsOf (settingsFrom o) (o .longest) (o .capacity)
+unfolding settingsFrom
+bounds-from o = record { longest-is = refl; capacity-is = refl }
+
 module _ {stream events text work : List ℕ} (h : StreamReady stream events text work) where
   pub counts-ask : workCells ≤ length work
   unfolding readerWork
@@ -63,15 +70,16 @@ module _ {stream events text work : List ℕ} (h : StreamReady stream events tex
   text-asks = omega (arith, h .room)
 
   -- The counts are cleared, the rows are laid, and the text.
-  module _ (at : ℕ) {work₁ work₂ text₁ : List ℕ} {st : State}
+  module _ (at longest capacity : ℕ) {work₁ work₂ text₁ : List ℕ} {st : State}
       (counts : work₁ ≡ zeroed work)
       (rows : work₂ ≡ withRows work₁ 0) (laid : text₁ ≡ withText text 0)
-      (begins : st ≡ noneOpen (startAt at))
+      (begins : st ≡ noneOpen (startAt at longest capacity))
       (same₁ : length work₁ ≡ length work) (same₂ : length work₂ ≡ length work₁)
       (same : length text₁ ≡ length text) where
-    pub events-ask : at ≤ 8 * length stream → AdvancePre stream events text₁ work₂ st 0
+    pub events-ask : at ≤ 8 * length stream → capacity ≤ maxValues + 1
+        → AdvancePre stream events text₁ work₂ st 0
     unfolding noneOpen startAt readerWork
-    events-ask l =
+    events-ask l b =
         rw begins
         (record {
           size = h .size;
@@ -80,31 +88,31 @@ module _ {stream events text work : List ℕ} (h : StreamReady stream events tex
           rows = omega (arith, h .rows, same₁, same₂);
           cells = h .cells;
           few = omega arith;
-          bounded = start-bounded at;
+          bounded = start-bounded at longest capacity b;
           array = length-replicate {A = ℕ} maxOpen 0;
         })
 
     zeros : (j : ℕ) → zeroFrom ≤ j → j < zeroTo → getD work₁ j 0 ≡ 0
     zeros j k l = ap (λ (m : List ℕ). getD m j 0) counts ∙ counts-zero work counts-ask j k l
 
-    pub body-ready : BodyReady events text₁ work₂ st startRows
+    pub body-ready : BodyReady events text₁ work₂ st (startRows longest capacity)
     unfolding noneOpen lastFirst startAt readerWork
     body-ready =
         rw (begins, rows, laid)
         (record {
           represents = start-represents work₁ (omega (arith, h .rows, same₁)) zeros
-              (store-sourced text text-asks) at;
-          topped = start-topped at;
+              (store-sourced text text-asks) at longest capacity;
+          topped = start-topped at longest capacity;
           late = omega arith;
           going = λ e. omega arith;
           none = h .cleared .noEvents;
           zeros = text-zeros text (h .cleared .noText) text-asks (ap length (sym laid) ∙ same);
         })
 
-    pub body-answer : (s : Settings)
-        → answerFrom s stream text₁ st startRows
+    pub body-answer : (s : Settings) → BoundsOf s longest capacity
+        → answerFrom s stream text₁ st (startRows longest capacity)
         ≡ readEvents maxEvents sizes s (start s) (drop at (unpack stream))
     unfolding noneOpen lastFirst startAt
-    body-answer s =
+    body-answer s b =
         rw (begins, laid)
-        (ap (λ c. readEvents maxEvents sizes s c (drop at (unpack stream))) (start-means text at s))
+        (ap (λ c. readEvents maxEvents sizes s c (drop at (unpack stream))) (start-means text at b))

@@ -1,26 +1,26 @@
 -- The answer for a stream and for what is lent.
-use Prim.Native.Nat.{ℕ, _*_, _≤_, _<_}
+use Prim.Native.Nat.{ℕ, _+_, _*_, _≤_, _<_}
 use native.Mathlib.Omega.{arith}
-use mathlib.Core.Path.{_≡_, refl, sym, ap, ap₂, _∙_}
+use mathlib.Core.Path.{_≡_, refl, sym, ap, ap₂, subst, _∙_}
 use mathlib.Core.Bool.{Bool, true, false, _&&_, _||_, not, true≢false}
 use mathlib.Core.List.{List}
 use lib.ListN.{length, drop, replicate, length-replicate}
 use lib.Dec.{leb, ltb}
-use borrow.Author.Tests.{le-leb, lt-leb, ltb-true, ltb-false}
+use borrow.Author.Tests.{not-false, le-leb, lt-leb, ltb-true, ltb-false}
 use Rattle.spec_fields.specs.Bits.{unpack}
 use Rattle.spec_fields.specs.Refusal.{Refusal, numberOf, room, settings, long, Answer, refused, numberRoom, numberLong}
 use Rattle.spec_fields.specs.Refusal.{numberSettings}
 use Rattle.spec_fields.proofs.Tests.{split}
 use Rattle.spec_exi.specs.Settings.{meaningful, settingsOf, headerOf}
 use Rattle.spec_exi.specs.Settings as format
-use Rattle.spec_exi.specs.Sizes.{sizes, maxStream, maxEvents, maxStore}
+use Rattle.spec_exi.specs.Sizes.{sizes, maxStream, maxEvents, maxValues, maxStore}
 use Rattle.spec_exi.specs.Sizes.{eventCells, readerWork}
 use Rattle.spec_exi.specs.Context.{start}
 use Rattle.spec_exi.specs.Reader.{Reading, readReply, readEvents, readBody, readStream}
 use Rattle.spec_exi.specs.Reader.{enoughToRead, readSized}
 use Rattle.spec_exi.specs.Reader as format-reader
 use Rattle.settings.specs.Meant.{numbersOf, settingsMeant, settingsFrom}
-use Rattle.settings.proofs.Laws.{settings-from}
+use Rattle.settings.proofs.Laws.{settings-from, capacity-few}
 use Rattle.settings.specs.declared.SettingNumbers.{SettingNumbers}
 use Rattle.settings.specs.declared.Settings.{Settings}
 use Rattle.read_header.specs.Header.{Passes}
@@ -130,6 +130,12 @@ module _ (s : SettingNumbers) (stream : List ℕ) {events text : List ℕ} (work
             let (a, b, c) =
             fits (length events) (length text) (length work) eventCells maxStore readerWork few in
             record { size = small; cells = a; room = b; rows = c; cleared = h }
+
+        pub capacity-asks : {o : Settings} → o ≡ settingsMeant s → o .capacity ≤ maxValues + 1
+        unfolding settingsMeant
+        capacity-asks e =
+            subst (λ (o : Settings). o .capacity ≤ maxValues + 1) (sym e)
+            (capacity-few s (sym meant ∙ not-false asked fine))
 
         answer-stream : answerOf s stream (lent events text work)
             ≡ readStream sizes (settingsOf (numbersOf s)) stream

@@ -39,5 +39,5 @@ pub record FirstReading : Type 0 where
   pub stands : {events text work events′ text′ work′ : List ℕ} {r : Advanced}
       → StreamReady firstReading events text work
       → AdvancePost asOctets firstReading events (withText text 0)
-      (withRows (zeroed work) 0) (noneOpen (startAt 8)) 0 events′ text′ work′ r
+      (withRows (zeroed work) 0) (noneOpen (startAt 8 0 0)) 0 events′ text′ work′ r
       → Stands text′ work′ r

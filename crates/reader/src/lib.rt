@@ -1,7 +1,8 @@
 // The reader: octets to the event list whose strict form they are, or a refusal with its number
 // and index. The definitions that the contracts cite are in specs/Read.antt and
 // crates/read_body/specs/Reply.antt and, for the answer, in crates/spec_exi/specs/Reader.antt.
-ghost use Rattle.spec_exi.specs.Sizes.{sizes};
+ghost use Prim.Native.Nat.{_+_, _≤_};
+ghost use Rattle.spec_exi.specs.Sizes.{sizes, maxValues};
 ghost use Rattle.spec_exi.specs.Reader.{readStream};
 ghost use Rattle.settings.specs.Meant.{settingsFrom};
 ghost use Rattle.read_body.specs.Reply.{Filled};
@@ -36,6 +37,7 @@ fn read_stream(
     work: &mut [u32],
 ) -> BodyReply
     requires { ⌜ StreamReady (now stream) (now events) (now text) (now work) ⌝ }
+    requires { ⌜ o .capacity ≤ maxValues + 1 ⌝ }
     ensures { λ r. ⌜ Filled (readStream sizes (settingsFrom o) (now (stream .entry)))
         (now (events .entry)) (now (text .entry)) (now (events .exit)) (now (text .exit)) r ⌝ }
 {
@@ -46,7 +48,7 @@ fn read_stream(
     mem_initial::clear_counts(work);
     mem_initial::lay_rows(work, 0);
     mem_initial::lay_text(text, 0);
-    let st = open_elements::none_open(mem_initial::start(h.at));
+    let st = open_elements::none_open(mem_initial::start(h.at, o.longest, o.capacity));
     read_body::read_events(o, stream, st, events, text, work)
 }
 

@@ -232,7 +232,8 @@ mode-fits c known outer inner =
 core-bounded : (c : Core) → tablesIn c ≡ true → elementsIn c ≡ true → Bounded c
 unfolding tablesIn elementsIn
 core-bounded c t e =
-    let t₅ = both _ _ t in
+    let t₆ = both _ _ t in
+    let t₅ = both _ _ (t₆ .one) in
     let t₄ = both _ _ (t₅ .one) in
     let t₃ = both _ _ (t₄ .one) in
     let t₂ = both _ _ (t₃ .one) in
@@ -246,13 +247,14 @@ core-bounded c t e =
       stored = leb-true (c .stored) maxStore (t₁ .one);
       uris = leb-true (c .uris) maxUris (t₁ .other);
       names = leb-true (c .names) maxNames (t₂ .other);
-      values = leb-true (c .values) maxValues (t₃ .other);
+      values = leb-true (c .values) (c .stored) (t₃ .other);
       learned = leb-true (c .learned) maxLearned (t₄ .other);
       grammars = leb-true (c .grammars) maxGrammars (t₅ .other);
       top = ltb-true (c .top) nameRows (e₂ .other);
       depth = leb-true (c .depth) maxOpen (e₁ .other);
       fits = mode-fits c (e₃ .other) (e₄ .other) (e₅ .other);
       tag = leb-true (c .tag) (maxEvents + 1) (e₁ .one);
+      capacity = leb-true (c .capacity) (maxValues + 1) (t₆ .other);
     }
 
 numbers-within : (r : Receiver) → numbersIn r ≡ true → Within r
@@ -299,9 +301,10 @@ tables-are c b =
       le-leb (c .stored) maxStore (b .stored),
       le-leb (c .uris) maxUris (b .uris),
       le-leb (c .names) maxNames (b .names),
-      le-leb (c .values) maxValues (b .values),
+      le-leb (c .values) (c .stored) (b .values),
       le-leb (c .learned) maxLearned (b .learned),
       le-leb (c .grammars) maxGrammars (b .grammars),
+      le-leb (c .capacity) (maxValues + 1) (b .capacity),
     )
 
 elements-are : (c : Core) → Bounded c → elementsIn c ≡ true

@@ -59,16 +59,17 @@ pub fn has_room(held: usize, events: usize, text: usize, work: usize) -> bool
     (MAX_STREAM <= held) & (EVENT_CELLS <= events) & (MAX_STORE <= text) & (READER_WORK <= work)
 }
 
-// Whether the counts are within their sizes.
+// Whether the counts are within their sizes, the values and their capacity too.
 fn tables_in(c: Core) -> bool
     ensures { λ r. ⌜ r ≡ tablesIn c ⌝ }
 {
     (c.stored <= MAX_STORE)
         & (c.uris as usize <= MAX_URIS)
         & (c.names as usize <= MAX_NAMES)
-        & (c.values as usize <= MAX_VALUES)
+        & (c.values as usize <= c.stored)
         & (c.learned as usize <= MAX_LEARNED)
         & (c.grammars as usize <= MAX_GRAMMARS)
+        & (c.capacity as usize <= MAX_VALUES + 1)
 }
 
 // Whether the mark is one that an event can have left, not too many elements are open, and one is

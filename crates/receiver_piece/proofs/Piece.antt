@@ -19,11 +19,11 @@ use Rattle.settings.specs.Meant.{numbersOf, settingsMeant, settingsFrom}
 use Rattle.settings.specs.declared.SettingNumbers.{SettingNumbers}
 use Rattle.settings.specs.declared.Settings as declared
 use Rattle.open_elements.specs.declared.State.{State}
-use Rattle.settings.proofs.Laws.{settings-from}
+use Rattle.settings.proofs.Laws.{settings-from, capacity-few}
 use Rattle.mem_state.specs.declared.Core.{Core}
 use Rattle.mem_state.specs.Holds.{Bounded}
 use Rattle.mem_initial.specs.Initial.{startAt}
-use Rattle.mem_initial.proofs.Initial.{start-bounded}
+use Rattle.mem_initial.proofs.Initial.{start-bounded, BoundsOf}
 use Rattle.open_elements.specs.Opened.{noneOpen}
 use Rattle.read_run.specs.declared.Advanced.{Advanced}
 use Rattle.read_run.specs.Run.{AdvancePre}
@@ -399,6 +399,12 @@ module _ {r : Receiver} {p : List ℕ} {m : Lent} (pre : GoOnPre r p m) where
 
 -- ---- the first piece
 
+-- The settings' numbers mean its bounds of values.
+bounds-of : (s : SettingNumbers)
+    → BoundsOf (settingsOf (numbersOf s)) (s .«value_length») (s .«value_capacity»)
+unfolding settingsOf numbersOf
+bounds-of s = record { longest-is = refl; capacity-is = refl }
+
 pub begins : {r b : Receiver} {events text work events′ text′ work′ : List ℕ} → r .phase ≡ isStarted
     → b ≡ startedWith (r .settings) → BeginPost events text work events′ text′ work′
     → BegunPost r events text work events′ text′ work′
@@ -478,7 +484,8 @@ module _ {r : Receiver} {p : List ℕ} {m : Lent} (pre : PiecePre r p m) where
       within-first =
           record {
             place = omega arith;
-            bounded = start-bounded 0;
+            bounded = start-bounded 0 (r .settings .«value_length») (r .settings .«value_capacity»)
+                (capacity-few (r .settings) (pre .meant));
             few = omega arith;
             waits = omega arith;
             awaited = omega arith;
@@ -501,7 +508,8 @@ module _ {r : Receiver} {p : List ℕ} {m : Lent} (pre : PiecePre r p m) where
           record {
             count = refl;
             held = refl;
-            underway = begin-underway begun-asks post (settingsOf (numbersOf (r .settings)));
+            underway = begin-underway begun-asks post (settingsOf (numbersOf (r .settings)))
+                (bounds-of (r .settings));
             awaits = λ l. absurd (omega arith);
           }
 

@@ -11,7 +11,8 @@ use Rattle.event.specs.Cells.{cellsOfAll}
 use Rattle.mem_layout.specs.Layout.{workCells}
 use Rattle.mem_state.specs.Holds.{contextAt}
 use Rattle.mem_initial.specs.Initial.{zeroed, withText, withRows, startRows, startAt, Layable}
-use Rattle.mem_initial.proofs.Initial.{start-means}
+use Rattle.mem_initial.proofs.Initial.{BoundsOf, start-means}
+use Rattle.open_elements.specs.declared.State.{State}
 use Rattle.open_elements.specs.Opened.{lastFirst, noneOpen, openedIn}
 use Rattle.read_body.specs.Body.{BodyReady}
 use Rattle.reader.specs.Read.{StreamReady}
@@ -49,7 +50,8 @@ begins e t w v x a b c d =
 
 -- No event is read, and memory represents the definitions' start.
 module _ {events text work events′ text′ work′ : List ℕ} (pre : BeginPre events text work)
-    (post : BeginPost events text work events′ text′ work′) (s : Settings) where
+    (post : BeginPost events text work events′ text′ work′) (s : Settings) {longest capacity : ℕ}
+    (bounds : BoundsOf s longest capacity) where
   zeros-size : (l : List ℕ) {z : List ℕ} → z ≡ replicate (length l) 0 → length z ≡ length l
   zeros-size l e = ap length e ∙ length-replicate {A = ℕ} (length l) 0
 
@@ -70,16 +72,19 @@ module _ {events text work events′ text′ work′ : List ℕ} (pre : BeginPre
         };
       }
 
-  body : BodyReady events′ text′ work′ (noneOpen (startAt 0)) startRows
+  abbrev begun : State
+  begun = noneOpen (startAt 0 longest capacity)
+
+  body : BodyReady events′ text′ work′ begun (startRows longest capacity)
   body =
-      body-ready ready 0 refl (post .work-is) (post .text-is) refl (post .zeroed-size)
+      body-ready ready 0 longest capacity refl (post .work-is) (post .text-is) refl (post .zeroed-size)
       (post .work-size ∙ sym (post .zeroed-size))
       (post .text-size ∙ sym (length-replicate {A = ℕ} (length text) 0))
 
-  context-is : contextAt text′ (noneOpen (startAt 0) .core) startRows
-      (openedIn (noneOpen (startAt 0))) ≡ start s
+  context-is : contextAt text′ (begun .core) (startRows longest capacity) (openedIn begun)
+      ≡ start s
   unfolding noneOpen lastFirst startAt
-  context-is = rw (post .text-is) (start-means (replicate (length text) 0) 0 s)
+  context-is = rw (post .text-is) (start-means (replicate (length text) 0) 0 bounds)
 
   cells-none : events′ ≡ cellsOfAll [] ++ replicate (length events′ - length (cellsOfAll [])) 0
   unfolding cellsOfAll
@@ -87,11 +92,11 @@ module _ {events text work events′ text′ work′ : List ℕ} (pre : BeginPre
       let n : length events′ ≡ length events′ - 0 = omega arith in
       zeros-same events (post .events-is) ∙ ap (λ (k : ℕ). replicate k 0) n
 
-  pub begin-underway : Underway s [] events′ text′ work′ (noneOpen (startAt 0)) 0
+  pub begin-underway : Underway s [] events′ text′ work′ begun 0
   unfolding noneOpen startAt
   begin-underway =
       record {
-        rows = startRows;
+        rows = startRows longest capacity;
         represents = body .represents;
         topped = body .topped;
         late = omega (arith, body .late);

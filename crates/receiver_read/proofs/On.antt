@@ -72,6 +72,8 @@ moved st q =
         top = st .core .top;
         depth = st .core .depth;
         tag = st .core .tag;
+        longest = st .core .longest;
+        capacity = st .core .capacity;
       };
       opened = st .opened;
     }
@@ -190,6 +192,7 @@ module _ {s : Settings} {stream events text work : List ℕ} {st : State} {first
             depth = b .depth;
             fits = b .fits;
             tag = b .tag;
+            capacity = b .capacity;
           };
           array = pre .array;
         }

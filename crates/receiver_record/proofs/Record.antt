@@ -8,7 +8,8 @@ use Rattle.open_elements.specs.Opened.{noneOpen}
 use Rattle.receiver_record.specs.declared.Receiver.{Receiver}
 use Rattle.receiver_record.specs.Record.{isStarted, refusalAt, startedWith}
 
-pub starts : (s : SettingNumbers) {c : Core} {t : State} → c ≡ startAt 0 → t ≡ noneOpen c
+pub starts : (s : SettingNumbers) {c : Core} {t : State}
+    → c ≡ startAt 0 (s .«value_length») (s .«value_capacity») → t ≡ noneOpen c
     → _≡_ {A = Receiver}
     (record {
       settings = s;

@@ -36,7 +36,7 @@ startedWith s =
       phase = isStarted;
       octets = 0;
       reply = refusalAt 0 0;
-      state = noneOpen (startAt 0);
+      state = noneOpen (startAt 0 (s .«value_length») (s .«value_capacity»));
       wait = record { at = 0; left = 0 };
     }
 

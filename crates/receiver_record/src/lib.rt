@@ -46,6 +46,7 @@ pub struct Handed {
 pub fn started(s: SettingNumbers) -> Receiver
     ensures { λ r. ⌜ r ≡ startedWith s ⌝ }
 {
+    let core = mem_initial::start(0, s.value_length, s.value_capacity);
     Receiver {
         settings: s,
         phase: STARTED,
@@ -56,7 +57,7 @@ pub fn started(s: SettingNumbers) -> Receiver
             events: 0,
             code_points: 0,
         },
-        state: open_elements::none_open(mem_initial::start(0)),
+        state: open_elements::none_open(core),
         wait: Wait { at: 0, left: 0 },
     }
 }

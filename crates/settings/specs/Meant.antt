@@ -30,6 +30,8 @@ settingsMeant s =
       comments = eqb (s .comments) 1;
       instructions = eqb (s .instructions) 1;
       fragment = eqb (s .fragment) 1;
+      longest = s .«value_length»;
+      capacity = s .«value_capacity»;
     }
 
 -- The definitions' settings.
@@ -41,4 +43,6 @@ settingsFrom o =
       comments = o .comments;
       instructions = o .instructions;
       fragment = o .fragment;
+      longest = format.boundOf (o .longest);
+      capacity = format.boundOf (o .capacity);
     }

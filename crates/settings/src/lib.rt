@@ -2,9 +2,14 @@
 ghost use mathlib.Core.Path.{_≡_};
 ghost use Rattle.spec_exi.specs.Settings.{meaningful};
 ghost use Rattle.settings.specs.Meant.{numbersOf, settingsMeant};
+use sizes::MAX_VALUES;
+
+// The greatest capacity, as its number has it.
+const MOST: u32 = MAX_VALUES as u32 + 1;
 
 // All 0 is the base. Alignment 1 is byte-aligned; cookie, comments, instructions and fragment are 1
-// for yes. The others are reserved: no number but 0 has a meaning yet.
+// for yes; of the two for values (EXI 5.4; P5) 0 is unbounded, and n + 1 a bound n. The last three
+// are reserved: no number but 0 has a meaning yet.
 #[repr(C)]
 pub struct SettingNumbers {
     pub alignment: u32,
@@ -19,12 +24,16 @@ pub struct SettingNumbers {
     pub grammar_cap: u32,
 }
 
+// The longest value that joins and the capacity of the value partitions are as they were handed
+// over.
 pub struct Settings {
     pub aligned: bool,
     pub cookie: bool,
     pub comments: bool,
     pub instructions: bool,
     pub fragment: bool,
+    pub longest: u32,
+    pub capacity: u32,
 }
 
 // Whether each number has a meaning.
@@ -36,8 +45,7 @@ pub fn are_meaningful(s: SettingNumbers) -> bool
         & (s.comments <= 1)
         & (s.instructions <= 1)
         & (s.fragment <= 1)
-        & (s.value_length == 0)
-        & (s.value_capacity == 0)
+        & (s.value_capacity <= MOST)
         & (s.loose == 0)
         & (s.prefixes == 0)
         & (s.grammar_cap == 0)
@@ -52,5 +60,7 @@ pub fn settings_of(s: SettingNumbers) -> Settings
         comments: s.comments == 1,
         instructions: s.instructions == 1,
         fragment: s.fragment == 1,
+        longest: s.value_length,
+        capacity: s.value_capacity,
     }
 }

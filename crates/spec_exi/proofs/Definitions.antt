@@ -12,14 +12,16 @@ use Rattle.text.proofs.Names.{nameDefinitions}
 use Rattle.spec_exi.specs.Sizes.{maxStream, maxEvents, maxOpen, maxUris, maxNames, maxValues}
 use Rattle.spec_exi.specs.Sizes.{maxGrammars, maxLearned, maxString, maxStore}
 use Rattle.spec_exi.specs.Sizes.{readerWork, eventCells, writerWork}
-use Rattle.spec_exi.specs.Settings.{meaningful, settingsOf, headerOf}
+use Rattle.spec_exi.specs.Settings.{meaningful, boundOf, settingsOf, headerOf}
 use Rattle.spec_exi.specs.Event.{kindOf, nameOf, stringsOf, mapName, mapEvent, eqName}
 use Rattle.spec_exi.specs.Tables.{nameText, eventText, spanOf, partition, namesOf, valuesOf}
 use Rattle.spec_exi.specs.Tables.{allValues, hasText, indexOf, partitionsOf, eqForm, hitOr}
 use Rattle.spec_exi.specs.Tables.{firstHit, formOf, stringBits, formBits, newUri, newName}
 use Rattle.spec_exi.specs.Tables.{newEntry, newValue, laid, added, tablesAfter, xmlUri}
 use Rattle.spec_exi.specs.Tables.{xsiUri, initialEntries, addedAll, startTables, nameAllowed}
-use Rattle.spec_exi.specs.Tables.{textAllowed}
+use Rattle.spec_exi.specs.Tables.{textAllowed, replaced, globalId, gone, presentValues}
+use Rattle.spec_exi.specs.Tables.{slotAfter, localSlots, byNumber, atMost, isZero, joins}
+use Rattle.spec_exi.specs.Tables.{withValues}
 use Rattle.spec_exi.specs.Grammar.{unnamed, kindNumber, isWildcard, fitsName, fits}
 use Rattle.spec_exi.specs.Grammar.{openElements, eqSite, siteOf, learnedIn, learnedAt, kept}
 use Rattle.spec_exi.specs.Grammar.{levelsWith, levels, allEmpty, choices, atLevel, below}
@@ -59,9 +61,9 @@ unfolding bitsOf valueOf each unpack octetsFrom octetsFor pack allZero isPadding
     unsigned text eqText isEmpty isChar allChars inside part nameDefinitions isLetter isXml
     hasPair endsIn maxStream maxEvents maxOpen maxUris
     maxNames maxValues maxGrammars maxLearned maxString maxStore readerWork eventCells
-    writerWork meaningful settingsOf headerOf kindOf nameOf stringsOf mapName mapEvent eqName
-    nameText eventText spanOf partition namesOf valuesOf allValues hasText indexOf partitionsOf
-    eqForm hitOr firstHit formOf stringBits formBits newUri newName newEntry newValue laid added
+    writerWork meaningful boundOf settingsOf headerOf kindOf nameOf stringsOf mapName mapEvent eqName
+    nameText eventText spanOf partition namesOf replaced globalId gone presentValues slotAfter localSlots valuesOf byNumber allValues hasText indexOf partitionsOf
+    eqForm hitOr firstHit formOf stringBits formBits newUri newName atMost isZero joins newEntry newValue withValues laid added
     tablesAfter xmlUri xsiUri initialEntries addedAll startTables nameAllowed textAllowed
     unnamed kindNumber
     isWildcard fitsName fits openElements eqSite siteOf learnedIn learnedAt kept levelsWith levels

@@ -4,9 +4,9 @@ use mathlib.Core.Path.{_≡_, refl, _∙_, ap, subst}
 use mathlib.Core.List.{List, [], _∷_, _++_, map}
 use mathlib.Core.Bool.{Bool, _&&_}
 use mathlib.Core.Option.{some, Option·none-ne-some}
-use Prim.Native.Nat.{ℕ, zero, suc, _+_, _≤_}
+use Prim.Native.Nat.{ℕ, zero, suc, _+_, _-_, _≤_}
 use native.Mathlib.Omega.{arith}
-use lib.ListN.{length, getElem?, length-append}
+use lib.ListN.{length, getElem?, take, drop, length-append}
 use lib.Dec.{T, leb, leb→le, le→leb}
 use Rattle.spec_fields.specs.Bits.{Bits}
 use Rattle.spec_fields.proofs.Tests.{split, right}
@@ -16,11 +16,12 @@ use Rattle.spec_exi.specs.Settings.{Settings}
 use Rattle.spec_exi.specs.Sizes.{Sizes, sizes, maxStore, maxString}
 use Rattle.spec_exi.specs.Tables.{Placed, Entry, Tables, partition, namesOf, valuesOf}
 use Rattle.spec_exi.specs.Tables.{allValues, Role, uri, local, value, target, commentText}
-use Rattle.spec_exi.specs.Tables.{instructionText, plain}
+use Rattle.spec_exi.specs.Tables.{instructionText, plain, gone, globalId, presentValues, slotAfter, localSlots}
+use Rattle.spec_exi.specs.Tables.{byNumber, joins, withValues}
 use Rattle.spec_exi.specs.Tables.{Partitions, compact, literals, partitionsOf, Form, hit}
 use Rattle.spec_exi.specs.Tables.{literal, formOf, formBits, newUri, newName, newEntry}
 use Rattle.spec_exi.specs.Tables.{newValue, laid, added, tablesAfter}
-use Rattle.spec_exi.specs.Event.{eqName}
+use Rattle.spec_exi.specs.Event.{QName, eqName}
 use Rattle.spec_exi.specs.Context.{Item, item, afterItem, afterItems}
 use Rattle.spec_exi.specs.Strict.{itemBits}
 use Rattle.spec_exi.specs.Lists.{short, withinTables}
@@ -52,7 +53,7 @@ module _ (P : Placed → Type 0) where
   pub record AllEntries (t : Tables) : Type 0 where
     pub uris : Every P (t .uris)
     pub names : Every P (map (λ x. x .string) (t .names))
-    pub values : Every P (map (λ x. x .string) (t .values))
+    pub values : Every P (map (λ x. x .string) (t .values .added))
 
   -- What holds of all entries holds of a partition's.
   pub partition-all : {K : Type 0} (has : K → Bool) (l : List (Entry K)) → Every P (map (λ x. x .string) l) → Every P (partition has l)
@@ -70,6 +71,41 @@ module _ (P : Placed → Type 0) where
   values-all [] h = tt
   values-all (x ∷ l) h = (h .0, values-all l (h .1))
 
+  string-append : {K : Type 0} (a b : List (Entry K)) → Every P (map (λ x. x .string) a)
+      → Every P (map (λ x. x .string) b) → Every P (map (λ x. x .string) (a ++ b))
+  string-append [] b h k = k
+  string-append (x ∷ a) b h k = (h .0, string-append a b (h .1) k)
+
+  take-all : {K : Type 0} (n : ℕ) (l : List (Entry K)) → Every P (map (λ x. x .string) l)
+      → Every P (map (λ x. x .string) (take n l))
+  take-all zero l h = tt
+  take-all (suc n) [] h = tt
+  take-all (suc n) (x ∷ l) h = (h .0, take-all n l (h .1))
+
+  drop-all : {K : Type 0} (n : ℕ) (l : List (Entry K)) → Every P (map (λ x. x .string) l)
+      → Every P (map (λ x. x .string) (drop n l))
+  drop-all zero l h = h
+  drop-all (suc n) [] h = tt
+  drop-all (suc n) (x ∷ l) h = drop-all n l (h .1)
+
+  local-all : (g : ℕ) (q : QName Text) (l : List (Entry (QName Text)))
+      → Every P (map (λ x. x .string) l) → Every (If-some P) (localSlots g q l)
+  unfolding localSlots slotAfter
+  local-all g q [] h = tt
+  local-all zero q (x ∷ l) h =
+      split (eqName q (x .key)) (λ e. rw e (h .0, local-all (0 - 1) q l (h .1)))
+      (λ e. rw e (local-all (0 - 1) q l (h .1)))
+  local-all (suc g) q (x ∷ l) h =
+      split (eqName q (x .key)) (λ e. rw e (tt, local-all (suc g - 1) q l (h .1)))
+      (λ e. rw e (local-all (suc g - 1) q l (h .1)))
+
+  number-all : {K : Type 0} (n : ℕ) (l : List (Entry K)) → Every P (map (λ x. x .string) l)
+      → Every P (map (λ x. x .string) (byNumber n l))
+  unfolding byNumber
+  number-all n l h =
+      string-append (drop (length l - n) l) (take (length l - n) l) (drop-all (length l - n) l h)
+      (take-all (length l - n) l h)
+
   -- P holds of every entry of these partitions.
   abbrev pub AllSlots : Partitions → Type 0
   AllSlots (compact es) = Every (If-some P) es
@@ -77,13 +113,18 @@ module _ (P : Placed → Type 0) where
 
   -- What holds of all entries holds of every slot of a role's partitions.
   pub partitions-all : (t : Tables) (r : Role) → AllEntries t → AllSlots (partitionsOf t r)
-  unfolding partitionsOf namesOf valuesOf allValues
+  unfolding partitionsOf namesOf valuesOf allValues presentValues
   partitions-all t uri g = slots-all (t .uris) (g .uris)
   partitions-all t (local attr u) g =
       (slots-all (namesOf t u) (partition-all (eqText u) (t .names) (g .names)), tt)
   partitions-all t (value q) g = (
-    slots-all (partition (eqName q) (t .values)) (partition-all (eqName q) (t .values) (g .values)),
-    (values-all (t .values) (g .values), tt),
+    local-all (gone (t .values)) q (t .values .added) (g .values),
+    (
+      values-all (byNumber (globalId (t .values .capacity) (length (t .values .added))) (presentValues (t .values)))
+          (number-all (globalId (t .values .capacity) (length (t .values .added)))
+          (presentValues (t .values)) (drop-all (gone (t .values)) (t .values .added) (g .values))),
+      tt,
+    ),
   )
   partitions-all t target g = tt
   partitions-all t commentText g = tt
@@ -100,19 +141,14 @@ module _ (P : Placed → Type 0) where
       every-member (If-some P) es i (some x) (every-member (Every (If-some P)) ess j es g k) e
   spelled-all g (literalMiss l) h = h refl
 
-  string-append : {K : Type 0} (a b : List (Entry K)) → Every P (map (λ x. x .string) a) → Every P (map (λ x. x .string) b)
-      → Every P (map (λ x. x .string) (a ++ b))
-  string-append [] b h k = k
-  string-append (x ∷ a) b h k = (h .0, string-append a b (h .1) k)
-
   -- What holds of all entries and of a literal holds once the literal is added.
   pub added-all : (t : Tables) (r : Role) (y : Text) → AllEntries t → P (laid t y) → AllEntries (added t r y)
-  unfolding added laid newUri newName newEntry newValue
+  unfolding added laid newUri newName newEntry newValue withValues
   added-all t r y g p =
       record {
         uris = every-append P (t .uris) (newUri r (laid t y)) (g .uris) (uris r);
         names = string-append (t .names) (newName r (laid t y)) (g .names) (names r);
-        values = string-append (t .values) (newValue r (laid t y)) (g .values) (values r);
+        values = string-append (t .values .added) (newValue (t .values) r (laid t y)) (g .values) (values r);
       }
     where
       uris : (r : Role) → Every P (newUri r (laid t y))
@@ -133,10 +169,10 @@ module _ (P : Placed → Type 0) where
       names instructionText = tt
       names plain = tt
 
-      values : (r : Role) → Every P (map (λ x. x .string) (newValue r (laid t y)))
+      values : (r : Role) → Every P (map (λ x. x .string) (newValue (t .values) r (laid t y)))
       values uri = tt
       values (local attr u) = tt
-      values (value q) = split (isEmpty y) (λ e. rw e tt) (λ e. rw e (p, tt))
+      values (value q) = split (joins (t .values) y) (λ e. rw e (p, tt)) (λ e. rw e tt)
       values target = tt
       values commentText = tt
       values instructionText = tt
@@ -196,7 +232,7 @@ pub store-within : (z : Sizes) (t : Tables) → T (withinTables z t) → length 
 unfolding withinTables
 store-within z t h =
     leb→le (length (t .store)) (z .store)
-    (right (leb (length (t .uris)) (z .uris) && leb (length (t .names)) (z .names) && leb (length (t .values)) (z .values))
+    (right (leb (length (t .uris)) (z .uris) && leb (length (t .names)) (z .names) && leb (length (t .values .added) - gone (t .values)) (z .values))
     (leb (length (t .store)) (z .store)) h)
 
 literal-fits : (t : Tables) (r : Role) (y : Text) → T (withinTables sizes (added t r y)) → length (t .store) + length y ≤ maxStore

@@ -30,6 +30,7 @@ use Rattle.spec_exi.specs.Examples.Names.{before, namesRead, textsRead, 
 use Rattle.spec_exi.specs.Examples.Names.{namesWritten, namesInOrder}
 use Rattle.spec_exi.specs.Examples.Fragments.{inPieces, fragmentsRead, pieced}
 use Rattle.spec_exi.specs.Examples.Fragments.{fragmentsWritten}
+use Rattle.spec_exi.specs.Examples.Values.{longestOf, roomFor, inA, withChars, boundedRead}
 use Rattle.spec_exi.specs.Examples.Pieces.{Tell, pieces}
 use Rattle.spec_exi.specs.Examples.All.{WorkedExamples}
 use Rattle.spec_exi.proofs.Definitions.{definitions}
@@ -138,6 +139,10 @@ texts-read : Hold textsRead
 unfolding definitions afterComment afterInstruction before textsRead
 texts-read = record { answers = refl; strictForms = same-streams textsRead tt }
 
+bounded-read : Hold boundedRead
+unfolding definitions longestOf roomFor inA withChars boundedRead
+bounded-read = record { answers = refl; strictForms = same-streams boundedRead tt }
+
 names-written : Written namesWritten
 unfolding definitions at inUri named writtenFor listed element keeping namesWritten
 names-written = record { answers = refl }
@@ -185,5 +190,6 @@ worked-examples =
       names-in-order = names-in-order;
       fragments-read = fragments-read;
       fragments-written = fragments-written;
+      bounded-read = bounded-read;
       pieces-told = pieces-told;
     }

@@ -1,22 +1,23 @@
 -- The lists that fit (Fit.antt) are those with a document's shape, lawful strings and a strict form
 -- that stays within the sizes (Lists.antt). Event by event, through the contexts of the strict
 -- form; what holds of these is `Sound`.
-use Prim.Native.Nat.{ℕ}
+use Prim.Native.Nat.{ℕ, _+_, _-_}
 use native.Mathlib.Omega.{arith}
 use mathlib.Core.Path.{_≡_, refl}
 use mathlib.Core.Bool.{Bool, true, false, cond, and-true}
 use mathlib.Core.List.{List, [], _∷_, _++_}
-use mathlib.Core.Option.{some}
+use mathlib.Core.Option.{Option, none, some}
 use lib.ListN.{length, length-append}
 use lib.Dec.{T, leb, leb→le, le→leb}
 use Rattle.spec_fields.proofs.Tests.{both, left, right}
 use Rattle.text.specs.Text.{Text, text, allChars}
-use Rattle.spec_exi.specs.Sizes.{sizes}
+use Rattle.spec_exi.specs.Sizes.{sizes, maxValues}
 use Rattle.spec_exi.specs.Event.{Event, startDocument, endDocument, endElement, startElement}
 use Rattle.spec_exi.specs.Event.{attribute, characters, comment, instruction, stringsOf}
 use Rattle.spec_exi.specs.Settings.{Settings}
 use Rattle.spec_exi.specs.Tables.{Tables, Form, hit, literal, partitionsOf, formOf, added}
-use Rattle.spec_exi.specs.Tables.{tablesAfter, nameAllowed, textAllowed}
+use Rattle.spec_exi.specs.Tables.{replaced, gone, newValue, withValues, laid, tablesAfter, nameAllowed}
+use Rattle.spec_exi.specs.Tables.{textAllowed}
 use Rattle.spec_exi.specs.Grammar.{Production, State, document, docContent, docEnd, finished}
 use Rattle.spec_exi.specs.Grammar.{fragmentContent}
 use Rattle.spec_exi.specs.Grammar.{startTag, elementContent, Code, codeOf, stateAfter}
@@ -38,14 +39,26 @@ use Rattle.spec_exi.proofs.Codes.{code-of-allowed, allowed-of-code}
 prefix-fits : {A : Type 0} (l m : List A) (n : ℕ) → T (leb (length (l ++ m)) n) → T (leb (length l) n)
 prefix-fits l m n t = omega (arith, leb→le, le→leb, length-append l m)
 
+values-fit : (c : Option ℕ) (a m n : ℕ) → T (leb ((a + m) - replaced c (a + m)) n) → T (leb (a - replaced c a) n)
+unfolding replaced
+values-fit none a m n t = le→leb (a - 0) n (omega (arith, leb→le ((a + m) - 0) n t))
+values-fit (some c) a m n t = le→leb (a - (a - c)) n (omega (arith, leb→le ((a + m) - ((a + m) - c)) n t))
+
 room-before : (t : Tables) (i : Item) → T (withinTables sizes (afterItem t i)) → T (withinTables sizes t)
-unfolding afterItem tablesAfter added withinTables
+unfolding afterItem tablesAfter added withValues withinTables gone
 room-before t i h = before (i .written) (formOf (partitionsOf t (i .role)) (i .text)) h
   where
     before : (b : Bool) (f : Form) → T (withinTables sizes (cond b (tablesAfter t (i .role) f (i .text)) t)) → T (withinTables sizes t)
     before false f h = h
     before true (hit j k) h = h
-    before true literal h = search (both, left, right, prefix-fits)
+    before true literal h =
+        let old = t .values .added in
+        let new = newValue (t .values) (i .role) (laid t (i .text)) in
+        let l = length-append old new in
+        let values : T (leb (length (old ++ new) - replaced (t .values .capacity) (length (old ++ new))) maxValues) = search (left, right) in
+        let less : T (leb (length old - replaced (t .values .capacity) (length old)) maxValues)
+        = values-fit (t .values .capacity) (length old) (length new) maxValues (rw l at values) in
+        search (both, left, right, prefix-fits)
 
 room-before-all : (t : Tables) (is : List Item) → T (withinTables sizes (afterItems t is)) → T (withinTables sizes t)
 unfolding afterItems

@@ -124,7 +124,7 @@ filed-stays t r y g =
     (record {
       uris = every-map longer (t .uris) (g .uris);
       names = every-map longer (map (λ x. x .string) (t .names)) (g .names);
-      values = every-map longer (map (λ x. x .string) (t .values)) (g .values);
+      values = every-map longer (map (λ x. x .string) (t .values .added)) (g .values);
     })
     (laid-lies t y)
 

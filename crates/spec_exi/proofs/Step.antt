@@ -4,10 +4,12 @@ use mathlib.Core.Path.{_≡_, refl, sym, _∙_, ap, subst, subst⁻¹}
 use mathlib.Core.List.{List, [], _∷_, _++_, append-nil}
 use mathlib.Core.Bool.{Bool, true, false}
 use mathlib.Core.Option.{Option, none, some, Option·map}
-use lib.Dec.{T}
+use Prim.Native.Nat.{_-_}
+use native.Mathlib.Omega.{arith}
+use lib.Dec.{T, leb, le→leb}
 use Rattle.spec_fields.specs.Bits.{Bits}
 use Rattle.spec_fields.specs.Refusal.{loose, limit, shape}
-use Rattle.spec_fields.proofs.Tests.{split, is-T}
+use Rattle.spec_fields.proofs.Tests.{split, is-T, T-is}
 use Rattle.spec_fields.proofs.Exact.{Reads, Every, reads-as, reads-return, reads-then, reads-guard}
 use Rattle.text.specs.Text.{Text, text, isEmpty, isChar, allChars}
 use Rattle.spec_exi.specs.Event.{QName, Event, startDocument, endDocument, endElement}
@@ -17,7 +19,7 @@ use Rattle.spec_exi.specs.Event.{mapEvent}
 use Rattle.spec_exi.specs.Settings.{Settings}
 use Rattle.spec_exi.specs.Tables.{Placed, nameText, eventText, Tables, value, newUri, newName}
 use Rattle.spec_exi.specs.Tables.{newEntry, newValue, laid, added, xmlUri, xsiUri}
-use Rattle.spec_exi.specs.Tables.{initialEntries, addedAll, startTables}
+use Rattle.spec_exi.specs.Tables.{initialEntries, addedAll, startTables, gone, withValues}
 use Rattle.spec_exi.specs.Grammar.{Production, unnamed, State, document, docContent, docEnd}
 use Rattle.spec_exi.specs.Grammar.{fragmentContent}
 use Rattle.spec_exi.specs.Grammar.{finished, startTag, elementContent, Site, eqSite, siteOf}
@@ -332,9 +334,17 @@ sane-next s c e g h =
           (c .learned) (taught-sound (c .tables) t′ (c .state) (learnedAt k (c .learned)) (h .code) e (h .strings)) (g .learned);
     })
 
+-- No value is present at the start, whatever the capacity.
+start-room : (s : Settings) → T (withinTables sizes (start s .tables))
+unfolding start startTables addedAll initialEntries added newUri newName newEntry newValue withValues laid xmlUri xsiUri text withinTables maxUris maxNames
+    maxValues maxStore
+start-room s =
+    let none : T (leb (0 - gone (start s .tables .values)) maxValues) = le→leb (0 - gone (start s .tables .values)) maxValues (omega arith) in
+    rw (T-is (leb (0 - gone (start s .tables .values)) maxValues) none) tt
+
 -- The context is sane at the start.
 pub sane-start : (s : Settings) → Sane (start s)
-unfolding start startTables addedAll initialEntries added newUri newName newEntry newValue laid xmlUri xsiUri text isEmpty allChars isChar short withinTables
+unfolding start startTables addedAll initialEntries added newUri newName newEntry newValue withValues laid xmlUri xsiUri text isEmpty allChars isChar short withinTables
     maxString maxUris maxNames maxValues maxStore
 sane-start s =
     let g : (x : Placed) → T (allChars (x .text)) → T (short sizes (x .text)) → GoodString x = λ x c m. record { chars = c; small = m } in
@@ -344,6 +354,6 @@ sane-start s =
         names = (g _ tt tt, (g _ tt tt, (g _ tt tt, (g _ tt tt, (g _ tt tt, (g _ tt tt, tt))))));
         values = tt;
       };
-      room = tt;
+      room = start-room s;
       learned = tt;
     }

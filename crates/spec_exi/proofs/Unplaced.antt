@@ -1,11 +1,12 @@
 -- Definitions of tables, grammars and contexts without places (specs/Alike): each says of them what it
 -- says of those with places, or gives the same without places.
-use Prim.Native.Nat.{ℕ, suc}
+use Prim.Native.Nat.{ℕ, zero, suc, _-_}
 use mathlib.Core.Path.{_≡_, refl, ap, _∙_}
 use mathlib.Core.Bool.{Bool, true, false, cond}
 use mathlib.Core.List.{List, [], _∷_, _++_, map, map-append}
 use mathlib.Core.Option.{Option, none, some, Option·map}
-use lib.ListN.{length, getD, replicate, length-map, length-replicate, length-append, List·getD-map}
+use lib.ListN.{length, getD, replicate, take, drop, length-map, length-replicate, length-append}
+use lib.ListN.{List·getD-map}
 use Rattle.spec_fields.specs.Field.{Alignment}
 use Rattle.spec_fields.proofs.Tests.{split}
 use Rattle.text.specs.Text.{Text, eqText, isEmpty}
@@ -18,7 +19,8 @@ use Rattle.spec_exi.specs.Settings.{Settings}
 use Rattle.spec_exi.specs.Tables.{Placed, nameText, Entry, Tables, Slot, partition, namesOf}
 use Rattle.spec_exi.specs.Tables.{valuesOf, allValues, hasText, indexOf, Role, uri, local}
 use Rattle.spec_exi.specs.Tables.{value, target, commentText, instructionText, plain}
-use Rattle.spec_exi.specs.Tables.{Partitions, compact, literals}
+use Rattle.spec_exi.specs.Tables.{Partitions, compact, literals, Values, replaced, globalId, gone, presentValues, slotAfter}
+use Rattle.spec_exi.specs.Tables.{localSlots, byNumber, joins, withValues}
 use Rattle.spec_exi.specs.Tables.{partitionsOf, Form, hit, literal, firstHit, formOf}
 use Rattle.spec_exi.specs.Tables.{formBits, newUri, newName, newEntry, newValue, laid, added}
 use Rattle.spec_exi.specs.Grammar.{Production, unnamed, isWildcard, fitsName, fits, State}
@@ -30,7 +32,8 @@ use Rattle.spec_exi.specs.Grammar.{Code, atLevel, below, codeBits, raise
 use Rattle.spec_exi.specs.Grammar.{codeOf, hasKind, teaches, taught, learn}
 use Rattle.spec_exi.specs.Context.{Context, levelsIn, items, nameItems, after}
 use Rattle.spec_exi.specs.Lists.{withinTables, withinGrammars}
-use Rattle.spec_exi.specs.Alike.{unplaced, unplacedEntry, unplacedTables, unplacedName}
+use Rattle.spec_exi.specs.Alike.{unplaced, unplacedEntry, unplacedValues, unplacedTables}
+use Rattle.spec_exi.specs.Alike.{unplacedName}
 use Rattle.spec_exi.specs.Alike.{unplacedProduction, unplacedLearned, unplacedCode}
 use Rattle.spec_exi.specs.Alike.{unplacedContext}
 
@@ -64,18 +67,63 @@ unfolding unplacedSlot unplacedEntry
 all-unplaced [] = refl
 all-unplaced (e ∷ es) = ap (λ m. some (unplaced (e .string)) ∷ m) (all-unplaced es)
 
+local-unplaced : (g : ℕ) (q : QName Text) (es : List (Entry (QName Text)))
+    → localSlots g q (map unplacedEntry es) ≡ map unplacedSlot (localSlots g q es)
+unfolding localSlots slotAfter unplacedSlot unplacedEntry
+local-unplaced g q [] = refl
+local-unplaced zero q (e ∷ es) =
+    split (eqName q (e .key))
+    (λ t. rw t (ap (λ l. some (unplaced (e .string)) ∷ l) (local-unplaced (0 - 1) q es)))
+    (λ t. rw t (local-unplaced (0 - 1) q es))
+local-unplaced (suc g) q (e ∷ es) =
+    split (eqName q (e .key))
+    (λ t. rw t (ap (λ l. none ∷ l) (local-unplaced (suc g - 1) q es)))
+    (λ t. rw t (local-unplaced (suc g - 1) q es))
+
+module _ {A B : Type 0} (f : A → B) where
+  pub map-take : (n : ℕ) (l : List A) → take n (map f l) ≡ map f (take n l)
+  map-take zero l = refl
+  map-take (suc n) [] = refl
+  map-take (suc n) (x ∷ l) = ap (λ m. f x ∷ m) (map-take n l)
+
+  pub map-drop : (n : ℕ) (l : List A) → drop n (map f l) ≡ map f (drop n l)
+  map-drop zero l = refl
+  map-drop (suc n) [] = refl
+  map-drop (suc n) (x ∷ l) = map-drop n l
+
+-- Numbers go by the count alone.
+number-unplaced : {K : Type 0} (n : ℕ) (es : List (Entry K))
+    → byNumber n (map unplacedEntry es) ≡ map unplacedEntry (byNumber n es)
+unfolding byNumber
+number-unplaced n es =
+    rw (
+      length-map es unplacedEntry,
+      map-append unplacedEntry (drop (length es - n) es) (take (length es - n) es),
+      map-drop unplacedEntry (length es - n) es,
+      map-take unplacedEntry (length es - n) es,
+    )
+
+gone-unplaced : (v : Values) → gone (unplacedValues v) ≡ gone v
+unfolding gone unplacedValues
+gone-unplaced v = ap (replaced (v .capacity)) (length-map (v .added) unplacedEntry)
+
 pub partitions-unplaced : (t : Tables) (r : Role)
     → partitionsOf (unplacedTables t) r ≡ unplacedPartitions (partitionsOf t r)
-unfolding partitionsOf namesOf valuesOf allValues unplacedTables unplacedPartitions
+unfolding partitionsOf namesOf valuesOf allValues presentValues unplacedTables unplacedPartitions localSlots byNumber
+    unplacedValues gone unplacedSlot
 partitions-unplaced t uri = ap compact (slots-unplaced (t .uris))
 partitions-unplaced t (local attr u) =
     ap (λ l. literals (l ∷ [])) (ap (map some) (part-unplaced (eqText u) (t .names)) ∙ slots-unplaced (namesOf t u))
 partitions-unplaced t (value q) =
-    cc (
-      ap (map some) (part-unplaced (eqName q) (t .values)),
-      slots-unplaced (partition (eqName q) (t .values)),
-      all-unplaced (t .values),
-    )
+    let v = t .values in
+    let n = globalId (v .capacity) (length (v .added)) in
+    rw (gone-unplaced v, length-map (v .added) unplacedEntry)
+    (cc (
+      local-unplaced (gone v) q (v .added),
+      map-drop unplacedEntry (gone v) (v .added),
+      number-unplaced n (drop (gone v) (v .added)),
+      all-unplaced (byNumber n (drop (gone v) (v .added))),
+    ))
 partitions-unplaced t target = refl
 partitions-unplaced t commentText = refl
 partitions-unplaced t instructionText = refl
@@ -114,12 +162,12 @@ unfolding unplacedTables
 store-unplaced t = length-replicate (length (t .store)) 0
 
 pub within-unplaced : (z : Sizes) (t : Tables) → withinTables z (unplacedTables t) ≡ withinTables z t
-unfolding withinTables unplacedTables
+unfolding withinTables unplacedTables unplacedValues gone
 within-unplaced z t =
     rw (
       length-map (t .uris) unplaced,
       length-map (t .names) unplacedEntry,
-      length-map (t .values) unplacedEntry,
+      length-map (t .values .added) unplacedEntry,
       store-unplaced t,
     )
 
@@ -150,26 +198,32 @@ module _ (u v : Placed) (e : u .text ≡ v .text) where
   new-name instructionText = refl
   new-name plain = refl
 
-  new-value : (r : Role) → map unplacedEntry (newValue r u) ≡ map unplacedEntry (newValue r v)
+  new-value : (a b : Values) → ((x : Text) → joins a x ≡ joins b x) → (r : Role)
+      → map unplacedEntry (newValue a r u) ≡ map unplacedEntry (newValue b r v)
   unfolding newValue newEntry unplacedEntry unplaced
-  new-value uri = refl
-  new-value (local attr w) = refl
-  new-value (value n) = split (isEmpty (v .text)) (λ h. rw (e, h)) (λ h. rw (e, h))
-  new-value target = refl
-  new-value commentText = refl
-  new-value instructionText = refl
-  new-value plain = refl
+  new-value a b j uri = refl
+  new-value a b j (local attr w) = refl
+  new-value a b j (value n) = split (joins b (v .text)) (λ h. rw (e, j (v .text), h)) (λ h. rw (e, j (v .text), h))
+  new-value a b j target = refl
+  new-value a b j commentText = refl
+  new-value a b j instructionText = refl
+  new-value a b j plain = refl
 
 pub added-unplaced : (r : Role) (x : Text) (t : Tables)
     → unplacedTables (added (unplacedTables t) r x) ≡ unplacedTables (added t r x)
-unfolding added laid unplacedTables unplacedEntry unplaced
+unfolding added withValues laid unplacedTables unplacedValues unplacedEntry unplaced joins
 added-unplaced r x t =
     let u = laid (unplacedTables t) x in
     let v = laid t x in
     λ i. record {
       uris = join unplaced (λ e. refl) (t .uris) (newUri r u) (newUri r v) (new-uri u v refl r) i;
       names = join unplacedEntry (λ e. refl) (t .names) (newName r u) (newName r v) (new-name u v refl r) i;
-      values = join unplacedEntry (λ e. refl) (t .values) (newValue r u) (newValue r v) (new-value u v refl r) i;
+      values = record {
+        longest = t .values .longest;
+        capacity = t .values .capacity;
+        added = join unplacedEntry (λ e. refl) (t .values .added) (newValue (unplacedValues (t .values)) r u)
+            (newValue (t .values) r v) (new-value u v refl (unplacedValues (t .values)) (t .values) (λ y. refl) r) i;
+      };
       store = replicate (longer i) 0;
     }
   where

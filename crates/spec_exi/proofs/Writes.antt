@@ -1,6 +1,6 @@
 -- The writer accepts just the stored lists that mean a fitting list (`ListFit`), and gives that
 -- list's bits.
-use Prim.Native.Nat.{ℕ, zero, suc, _≤_, zero-le, suc-le-suc}
+use Prim.Native.Nat.{_-_, ℕ, zero, suc, _≤_, zero-le, suc-le-suc}
 use native.Mathlib.Omega.{arith}
 use mathlib.Core.Path.{_≡_, refl, ap}
 use mathlib.Core.Logic.{_↔_, Iff·rfl}
@@ -16,7 +16,7 @@ use Rattle.text.specs.Text.{Text, Span, inside, part}
 use Rattle.spec_exi.specs.Event.{Event, mapEvent, stringsOf}
 use Rattle.spec_exi.specs.Settings.{Settings}
 use Rattle.spec_exi.specs.Sizes.{sizes, maxUris, maxNames, maxValues, maxStore}
-use Rattle.spec_exi.specs.Tables.{Tables}
+use Rattle.spec_exi.specs.Tables.{Tables, gone}
 use Rattle.spec_exi.specs.Grammar.{State, document, docContent, docEnd, finished, startTag}
 use Rattle.spec_exi.specs.Grammar.{fragmentContent}
 use Rattle.spec_exi.specs.Grammar.{elementContent, Learned, Code, levelsWith, levels, codeOf}
@@ -67,7 +67,7 @@ store-room : (t : Tables) → T (withinTables sizes t) → T (leb (length (t .st
 unfolding withinTables
 store-room t =
     right
-    (leb (length (t .uris)) maxUris && leb (length (t .names)) maxNames && leb (length (t .values)) maxValues)
+    (leb (length (t .uris)) maxUris && leb (length (t .names)) maxNames && leb (length (t .values .added) - gone (t .values)) maxValues)
     (leb (length (t .store)) maxStore)
 
 string-passed : (t : Tables) (i : Item) → Passed (stringTests sizes t i) ↔ ItemFit t i

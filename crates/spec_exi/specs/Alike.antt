@@ -6,7 +6,7 @@ use mathlib.Core.List.{map}
 use mathlib.Core.Option.{Option, none, some, Option·map}
 use lib.ListN.{length, replicate}
 use Rattle.spec_exi.specs.Event.{QName, mapName}
-use Rattle.spec_exi.specs.Tables.{Placed, Entry, Tables}
+use Rattle.spec_exi.specs.Tables.{Placed, Entry, Values, Tables}
 use Rattle.spec_exi.specs.Grammar.{Production, Learned, Code}
 use Rattle.spec_exi.specs.Context.{Context}
 
@@ -19,12 +19,20 @@ unplaced x = record { place = 0; text = x .text }
 unfoldable pub unplacedEntry : {K : Type 0} → Entry K → Entry K
 unplacedEntry e = record { key = e .key; string = unplaced (e .string) }
 
+unfoldable pub unplacedValues : Values → Values
+unplacedValues v =
+    record {
+      longest = v .longest;
+      capacity = v .capacity;
+      added = map unplacedEntry (v .added);
+    }
+
 unfoldable pub unplacedTables : Tables → Tables
 unplacedTables t =
     record {
       uris = map unplaced (t .uris);
       names = map unplacedEntry (t .names);
-      values = map unplacedEntry (t .values);
+      values = unplacedValues (t .values);
       store = replicate (length (t .store)) 0;
     }
 

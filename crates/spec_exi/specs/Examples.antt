@@ -21,6 +21,7 @@ pub mod Written
 pub mod Attributes
 pub mod Names
 pub mod Fragments
+pub mod Values
 pub mod Pieces
 pub mod All
 

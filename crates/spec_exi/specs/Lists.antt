@@ -1,6 +1,6 @@
 -- Which lists are well-formed and which are inside the limits (scope, "What is bought" and
 -- "Sizes"), by the lists themselves and their strict forms.
-use Rattle.spec_fields.specs.Prelude.{_≤_, _≡_, Bool, true, false, _&&_, List, [], _∷_, _++_}
+use Rattle.spec_fields.specs.Prelude.{_-_, _≤_, _≡_, Bool, true, false, _&&_, List, [], _∷_, _++_}
 use Rattle.spec_fields.specs.Prelude.{Option, none, some, length, leb, T}
 use Rattle.text.specs.Text.{Text, allChars}
 use Rattle.spec_exi.specs.Event.{QName, Event, startDocument, endDocument, endElement}
@@ -8,7 +8,7 @@ use Rattle.spec_exi.specs.Event.{startElement, attribute, characters, co
 use Rattle.spec_exi.specs.Event.{stringsOf}
 use Rattle.spec_exi.specs.Settings.{Settings}
 use Rattle.spec_exi.specs.Sizes.{Sizes, sizes}
-use Rattle.spec_exi.specs.Tables.{Tables, local, target, commentText, instructionText}
+use Rattle.spec_exi.specs.Tables.{Tables, gone, local, target, commentText, instructionText}
 use Rattle.spec_exi.specs.Tables.{nameAllowed, textAllowed}
 use Rattle.spec_exi.specs.Grammar.{openElements, isAttribute, attributeName, isNew}
 use Rattle.spec_exi.specs.Context.{Context, start, next}
@@ -147,7 +147,7 @@ module _ (z : Sizes) where
   withinTables t =
       leb (length (t .uris)) (z .uris)
       && leb (length (t .names)) (z .names)
-      && leb (length (t .values)) (z .values)
+      && leb (length (t .values .added) - gone (t .values)) (z .values)
       && leb (length (t .store)) (z .store)
 
   -- Open elements, element grammars, learned productions (scope, "Sizes").

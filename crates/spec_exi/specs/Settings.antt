@@ -1,11 +1,12 @@
 -- What the two sides agree on outside the stream (scope, "What is bought"), and the header that
 -- follows from it.
-use Rattle.spec_fields.specs.Prelude.{ℕ, Bool, cond, _&&_, List, [], _∷_, _++_, eqb, leb}
+use Rattle.spec_fields.specs.Prelude.{ℕ, zero, suc, Bool, cond, _&&_, List, [], _∷_, _++_, Option}
+use Rattle.spec_fields.specs.Prelude.{none, some, eqb, leb}
 use Rattle.spec_fields.specs.Field.{Alignment, bitPacked, byteAligned}
+use Rattle.spec_exi.specs.Sizes.{maxValues}
 
 -- There is no schema. All else is as EXI's default options have it: no prefixes, DTD, lexical
--- values or self-contained elements are kept, nothing is compressed, and value capacity and length
--- are unbounded.
+-- values or self-contained elements are kept, and nothing is compressed.
 pub record Settings : Type 0 where
   pub alignment : Alignment
   pub cookie : Bool
@@ -13,6 +14,9 @@ pub record Settings : Type 0 where
   pub instructions : Bool
   -- the stream is a fragment, no document (EXI 8.4.2; P1)
   pub fragment : Bool
+  -- valueMaxLength and valuePartitionCapacity (EXI 5.4, 7.3.3; P5); none is unbounded
+  pub longest : Option ℕ
+  pub capacity : Option ℕ
 
 -- The settings' numbers, as a caller hands them over (ours): all 0 is the base.
 pub record SettingNumbers : Type 0 where
@@ -21,8 +25,7 @@ pub record SettingNumbers : Type 0 where
   pub comments : ℕ
   pub instructions : ℕ
   pub fragment : ℕ
-  -- reserved: no number but 0 has a meaning yet. 0 is EXI's default for the two for values and for
-  -- prefixes (EXI 5.4); strict reading; and no cap. A bound or a cap n is to be n + 1
+  -- 0 is unbounded, and a bound n is n + 1 (ours)
   pub valueLength : ℕ
   pub valueCapacity : ℕ
   pub loose : ℕ
@@ -30,8 +33,9 @@ pub record SettingNumbers : Type 0 where
   pub grammarCap : ℕ
 
 -- Each number has a meaning (which numbers is our choice): alignment 0 is bit-packed and 1
--- byte-aligned, cookie, comments, instructions and fragment 0 is no and 1 yes. Else SETTINGS (scope,
--- "Refusal numbers", 2).
+-- byte-aligned, cookie, comments, instructions and fragment 0 is no and 1 yes; any value length has
+-- a meaning, and a value capacity up to our value size (P5). The last three are reserved: no number
+-- but 0 has a meaning yet. Else SETTINGS (scope, "Refusal numbers", 2).
 unfoldable pub meaningful : SettingNumbers → Bool
 meaningful o =
     leb (o .alignment) 1
@@ -39,11 +43,15 @@ meaningful o =
     && leb (o .comments) 1
     && leb (o .instructions) 1
     && leb (o .fragment) 1
-    && eqb (o .valueLength) 0
-    && eqb (o .valueCapacity) 0
+    && leb (o .valueCapacity) (suc maxValues)
     && eqb (o .loose) 0
     && eqb (o .prefixes) 0
     && eqb (o .grammarCap) 0
+
+-- A bound as its number has it (ours): 0 is none, n + 1 is n.
+unfoldable pub boundOf : ℕ → Option ℕ
+boundOf zero = none
+boundOf (suc n) = some n
 
 -- What the numbers mean (scope, "What is bought").
 unfoldable pub settingsOf : SettingNumbers → Settings
@@ -54,6 +62,8 @@ settingsOf o =
       comments = eqb (o .comments) 1;
       instructions = eqb (o .instructions) 1;
       fragment = eqb (o .fragment) 1;
+      longest = boundOf (o .valueLength);
+      capacity = boundOf (o .valueCapacity);
     }
 
 -- The octets of the header (EXI 5; scope, "Fields"): the cookie "$EXI" if set, then bits 10, no

@@ -1,7 +1,7 @@
 -- The string tables (EXI 7.3), how a string stands in a stream by them, and what it leaves in them.
-use Rattle.spec_fields.specs.Prelude.{ℕ, suc, _+_, Bool, true, false, cond, _&&_, _||_, not, List}
-use Rattle.spec_fields.specs.Prelude.{[], _∷_, _++_, map, Option, none, some, Option·map, length}
-use Rattle.spec_fields.specs.Prelude.{getD, eqb}
+use Rattle.spec_fields.specs.Prelude.{ℕ, zero, suc, _+_, _-_, Bool, true, false, cond, _&&_, _||_}
+use Rattle.spec_fields.specs.Prelude.{not, List, [], _∷_, _++_, map, Option, none, some, Option·map}
+use Rattle.spec_fields.specs.Prelude.{length, getD, take, drop, eqb, leb}
 use Rattle.spec_fields.specs.Bits.{Bits, each}
 use Rattle.spec_fields.specs.Field.{Alignment, choiceBits, unsignedBits}
 use Rattle.text.specs.Text.{Text, Span, text, eqText, isEmpty}
@@ -31,14 +31,20 @@ pub record Entry (K : Type 0) : Type 0 where
   pub key : K
   pub string : Placed
 
+-- The value partitions (EXI 7.3.3; P5): the two settings, and every value that was ever added, by
+-- the name of its element or attribute, in order.
+pub record Values : Type 0 where
+  pub longest : Option ℕ
+  pub capacity : Option ℕ
+  pub added : List (Entry (QName Text))
+
 -- The tables, each in order of insertion, and the text store: the initial entries in table order,
 -- then every literal in stream order (scope, "Sizes").
 pub record Tables : Type 0 where
   pub uris : List Placed
   -- local names, by URI
   pub names : List (Entry Text)
-  -- values, by the name of their element or attribute
-  pub values : List (Entry (QName Text))
+  pub values : Values
   pub store : Text
 
 -- The entries of a partition, in order: the compact identifier is the place among them (EXI 7.3).
@@ -52,19 +58,62 @@ unfoldable pub namesOf : Tables → Text → List Placed
 namesOf t u = partition (eqText u) (t .names)
 
 -- What a compact identifier of a partition stands for: the entry with this number (EXI 7.3.2,
--- 7.3.3), or none where that entry is gone. (No entry goes, as yet: all slots are some.)
+-- 7.3.3), or none where that entry was replaced.
 abbrev pub Slot : Type 0
 Slot = Option Placed
 
+-- ---- values (EXI 7.3.3; P5)
+
+-- How many of n values that were added are replaced: all but the last `capacity` (EXI 7.3.3).
+unfoldable pub replaced : Option ℕ → ℕ → ℕ
+replaced none n = 0
+replaced (some c) n = n - c
+
+-- EXI's globalID after n values: one more with each, and 0 again where that is the capacity (EXI
+-- 7.3.3).
+unfoldable pub globalId : Option ℕ → ℕ → ℕ
+globalId none n = n
+globalId (some c) zero = 0
+globalId (some c) (suc n) = let i = suc (globalId (some c) n) in cond (eqb i c) 0 i
+
+-- How many values are gone from the tables.
+unfoldable pub gone : Values → ℕ
+gone v = replaced (v .capacity) (length (v .added))
+
+-- The values present, the oldest first.
+unfoldable pub presentValues : Values → List (Entry (QName Text))
+presentValues v = drop (gone v) (v .added)
+
+-- A value, where g values from it on are gone.
+unfoldable pub slotAfter : ℕ → Placed → Slot
+slotAfter zero x = some x
+slotAfter (suc g) x = none
+
+-- The values local to a name, the first g of these being gone: each was given its name's next
+-- number, which no other value gets (EXI 7.3.3).
+unfoldable pub localSlots : ℕ → QName Text → List (Entry (QName Text)) → List Slot
+localSlots g q [] = []
+localSlots g q (x ∷ xs) =
+    cond (eqName q (x .key)) (slotAfter g (x .string) ∷ localSlots (g - 1) q xs)
+    (localSlots (g - 1) q xs)
+
 -- The values local to a name (EXI 7.3.1, 7.3.3).
 unfoldable pub valuesOf : Tables → QName Text → List Slot
-valuesOf t q = map some (partition (eqName q) (t .values))
+valuesOf t q = localSlots (gone (t .values)) q (t .values .added)
 
--- All values: the global partition (EXI 7.3.1, 7.3.3).
+-- Values in the order of their global numbers: the newest, as many as globalID says, then the
+-- others (EXI 7.3.3).
+unfoldable pub byNumber : {A : Type 0} → ℕ → List A → List A
+byNumber new xs = drop (length xs - new) xs ++ take (length xs - new) xs
+
+-- All values that are present: the global partition (EXI 7.3.1, 7.3.3).
 unfoldable pub allValues : Tables → List Slot
-allValues t = map (λ x. some (x .string)) (t .values)
+allValues t =
+    map (λ x. some (x .string))
+    (byNumber (globalId (t .values .capacity) (length (t .values .added)))
+    (presentValues (t .values)))
 
--- A number without an entry has no text. (The first clause is not reached, as yet.)
+-- A number without an entry has no text.
 unfoldable pub hasText : Slot → Text → Bool
 hasText none x = false
 hasText (some e) x = eqText (e .text) x
@@ -157,7 +206,7 @@ formBits a (literals ess) (hit j i) x = unsignedBits j ++ choiceBits a (length (
 formBits a (literals ess) literal x = stringBits (length ess) x
 
 -- ---- what a string leaves in the tables (EXI 7.3; scope, "String tables": a hit leaves nothing, a
--- literal joins its partition, an empty value joins none)
+-- literal joins its partition; which values join is P5's)
 
 -- What a literal adds to the URIs, by its role (EXI 7.3.2).
 unfoldable pub newUri : Role → Placed → List Placed
@@ -179,19 +228,38 @@ newName commentText x = []
 newName instructionText x = []
 newName plain x = []
 
--- An empty value joins no table (EXI 7.3.3; scope, "String tables").
-unfoldable pub newEntry : QName Text → Placed → List (Entry (QName Text))
-newEntry q x = cond (isEmpty (x .text)) [] (record { key = q; string = x } ∷ [])
+-- No number is over the bound.
+unfoldable pub atMost : ℕ → Option ℕ → Bool
+atMost n none = true
+atMost n (some m) = leb n m
+
+unfoldable pub isZero : Option ℕ → Bool
+isZero none = false
+isZero (some c) = eqb c 0
+
+-- A value joins if it is not empty and not longer than valueMaxLength, and the capacity is not zero
+-- (EXI 7.3.3; scope, "String tables"; P5).
+unfoldable pub joins : Values → Text → Bool
+joins v x = not (isZero (v .capacity)) && not (isEmpty x) && atMost (length x) (v .longest)
+
+-- A value that joins, under this name.
+unfoldable pub newEntry : Values → QName Text → Placed → List (Entry (QName Text))
+newEntry v q x = cond (joins v (x .text)) (record { key = q; string = x } ∷ []) []
 
 -- To the values, under the name of their element or attribute (EXI 7.3.3).
-unfoldable pub newValue : Role → Placed → List (Entry (QName Text))
-newValue uri x = []
-newValue (local attr u) x = []
-newValue (value q) x = newEntry q x
-newValue target x = []
-newValue commentText x = []
-newValue instructionText x = []
-newValue plain x = []
+unfoldable pub newValue : Values → Role → Placed → List (Entry (QName Text))
+newValue v uri x = []
+newValue v (local attr u) x = []
+newValue v (value q) x = newEntry v q x
+newValue v target x = []
+newValue v commentText x = []
+newValue v instructionText x = []
+newValue v plain x = []
+
+-- The values with these more.
+unfoldable pub withValues : Values → List (Entry (QName Text)) → Values
+withValues v es =
+    record { longest = v .longest; capacity = v .capacity; added = v .added ++ es }
 
 -- A literal lies at the end of the store so far (scope, "Sizes").
 unfoldable pub laid : Tables → Text → Placed
@@ -203,7 +271,7 @@ added t r x =
     record {
       uris = t .uris ++ newUri r (laid t x);
       names = t .names ++ newName r (laid t x);
-      values = t .values ++ newValue r (laid t x);
+      values = withValues (t .values) (newValue (t .values) r (laid t x));
       store = t .store ++ x;
     }
 
@@ -245,7 +313,14 @@ addedAll t (x ∷ xs) = addedAll (added t (x .0) (x .1)) xs
 -- The tables at the start of a stream (EXI 7.3).
 unfoldable pub startTables : Settings → Tables
 startTables s =
-    addedAll (record { uris = []; names = []; values = []; store = [] }) (initialEntries s)
+    addedAll
+    (record {
+      uris = [];
+      names = [];
+      values = record { longest = s .longest; capacity = s .capacity; added = [] };
+      store = [];
+    })
+    (initialEntries s)
 
 -- ---- strings that are refused whole (scope, "Refusal numbers", 8 and 11; P6)
 

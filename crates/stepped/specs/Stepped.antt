@@ -19,6 +19,8 @@ coreOf r =
       top = r .top;
       depth = r .depth;
       tag = r .tag;
+      longest = r .longest;
+      capacity = r .capacity;
     }
 
 abbrev pub steppedAs : ℕ → Core → Stepped
@@ -36,6 +38,8 @@ steppedAs number c =
       top = c .top;
       depth = c .depth;
       tag = c .tag;
+      longest = c .longest;
+      capacity = c .capacity;
     }
 
 -- After an event that teaches no production: a value may join, and a name may get its grammar.
@@ -53,4 +57,6 @@ movedOn c at stored joins enters mode top depth tag =
       top = top;
       depth = depth;
       tag = tag;
+      longest = c .longest;
+      capacity = c .capacity;
     }

@@ -22,6 +22,8 @@ pub struct Stepped {
     pub top: u32,
     pub depth: usize,
     pub tag: u32,
+    pub longest: u32,
+    pub capacity: u32,
 }
 
 // The answer of a step: a number, and the numbers after it.
@@ -41,6 +43,8 @@ pub fn answer(number: u32, c: Core) -> Stepped
         top: c.top,
         depth: c.depth,
         tag: c.tag,
+        longest: c.longest,
+        capacity: c.capacity,
     }
 }
 
@@ -81,5 +85,7 @@ pub fn moved_on(
         top,
         depth,
         tag,
+        longest: c.longest,
+        capacity: c.capacity,
     }
 }

@@ -1,5 +1,5 @@
 -- The content of an event is at most three strings long.
-use Prim.Native.Nat.{ℕ, _*_, _≤_}
+use Prim.Native.Nat.{ℕ, _-_, _*_, _≤_}
 use native.Mathlib.Omega.{arith}
 use mathlib.Core.Bool.{Bool}
 use mathlib.Core.List.{List}
@@ -8,8 +8,9 @@ use lib.Dec.{eqb}
 use borrow.Author.Tests.{eqb-false}
 use Rattle.spec_fields.specs.Field.{Alignment, unsignedBits, choiceBits}
 use Rattle.spec_fields.proofs.Tests.{split}
-use Rattle.spec_exi.specs.Sizes.{maxString, maxValues}
-use Rattle.spec_exi.specs.Tables.{stringBits}
+use Rattle.spec_exi.specs.Sizes.{maxString, maxStore}
+use Rattle.spec_exi.specs.Settings.{boundOf}
+use Rattle.spec_exi.specs.Tables.{replaced, stringBits}
 use Rattle.event.specs.declared.Part.{Part}
 use Rattle.event.specs.declared.Event as declared
 use Rattle.event.specs.declared.Event.the-variants.{StartDocument, EndDocument, StartElement}
@@ -30,12 +31,13 @@ use Rattle.write_content.specs.Writing.{namedBits, valuedBits, contentBi
 use Rattle.write_content.specs.Writing.{ValuePuttable, Puttable, PutContentPre}
 use Rattle.write_content.proofs.Puts.{named-length, named-asks}
 
-module _ (c : Core) (x : Content) (text work : List ℕ) (few : c .values ≤ maxValues) (a : Alignment)
+module _ (c : Core) (x : Content) (text work : List ℕ) (few : c .values ≤ maxStore) (a : Alignment)
   where
     value-length : (v : Part) → ValuePuttable x (partAt text v)
         → length (valuedBits work c x (partAt text v) a) ≤ maxStringBits
-    unfolding valuedBits valueBits hitBits maxString maxValues
+    unfolding valuedBits valueBits hitBits maxString maxStore
     value-length v p =
+        let among : ℕ = c .values - replaced (boundOf (c .capacity)) (c .values) in
         split (eqb (x .partition) own)
         (λ e. rw e (omega (
           arith,
@@ -44,9 +46,9 @@ module _ (c : Core) (x : Content) (text work : List ℕ) (few : c .values ≤ ma
         (λ e. split (eqb (x .partition) all)
         (λ f. rw (e, f) (omega (
           arith,
-          length-append (unsignedBits 1) (choiceBits a (c .values) (below (c .values) (x .id))),
+          length-append (unsignedBits 1) (choiceBits a among (below among (x .id))),
           unsigned-length 1,
-          choice-length a (c .values) (below (c .values) (x .id)) (omega arith),
+          choice-length a among (below among (x .id)) (omega arith),
         )))
         (λ f. rw (e, f) (omega (
           arith,

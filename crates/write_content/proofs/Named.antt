@@ -92,12 +92,13 @@ module _ {opening text work : List ℕ} {c : Core} (pre : ContentPre work c) whe
   module _ {uri local : Part} {n : NameJudged}
       (post : NamePost opening text true uri local c work n) where
     pub value-asks : n .number ≡ 0
-        → ValuePre work (n .strings .«name_row») (c .values) (n .stored)
+        → ValuePre work (n .strings .«name_row») (c .values) (c .capacity) (n .stored)
     value-asks z =
         record {
           room = pre .room;
           low = post .bounds z .name;
-          few = pre .bounded .values;
+          few = omega (arith, pre .bounded .values, post .bounds z .grows);
+          bound = pre .bounded .capacity;
           store = post .bounds z .store;
         }
 
@@ -142,7 +143,8 @@ module _ {opening text work : List ℕ} {c : Core} (pre : ContentPre work c) whe
 
       module _ (z : n .number ≡ 0) {y : Text}
           (look : y ≡ part text (record { place = x .place; size = x .size })) {v : ValueJudged}
-          (given : ValuePost text y (n .strings .«name_row») (c .values) (n .stored) work v) where
+          (given : ValuePost text y (n .strings .«name_row») (c .values) (c .longest) (c .capacity)
+          (n .stored) work v) where
         module _ {w : Rows} (p : Prepared opening text work c w)
             (i : every (inside text) (stringsOf (meaning (Attribute uri local x))) ≡ true) where
           abbrev named : Rows
@@ -154,11 +156,11 @@ module _ {opening text work : List ℕ} {c : Core} (pre : ContentPre work c) whe
           few-named : Few named
           few-named =
               few-strings (pre .bounded) (p .counts) (attribute-means p i .leaves z .joins)
-              (λ j. post .bounds z .uris j .0) (λ j. post .bounds z .names j .0) (no-value z)
+              (λ j. post .bounds z .uris j .0) (λ j. post .bounds z .names j .0)
 
           of-owner : StringMeans (value (nameAt named (n .strings .«name_row»))) named valued
               (n .stored) (partAt text x) (v .number) (v .stored)
-              (valueBits work (v .partition) (v .id) (n .strings .«name_row») (c .values)
+              (valueBits work (v .partition) (v .id) (n .strings .«name_row») (c .values) (c .capacity)
               (partAt text x))
           of-owner =
               let o = attribute-means p i .leaves z in
@@ -167,13 +169,13 @@ module _ {opening text work : List ℕ} {c : Core} (pre : ContentPre work c) whe
           of-name : StringMeans
               (value (record { uri = partAt text uri; local = partAt text local })) named valued
               (n .stored) (partAt text x) (v .number) (v .stored)
-              (valueBits work (v .partition) (v .id) (n .strings .«name_row») (c .values)
+              (valueBits work (v .partition) (v .id) (n .strings .«name_row») (c .values) (c .capacity)
               (partAt text x))
           of-name =
               subst
               (λ q. StringMeans (value q) named valued (n .stored) (partAt text x) (v .number)
               (v .stored)
-              (valueBits work (v .partition) (v .id) (n .strings .«name_row») (c .values)
+              (valueBits work (v .partition) (v .id) (n .strings .«name_row») (c .values) (c .capacity)
               (partAt text x))) (attribute-means p i .leaves z .name) of-owner
 
           all-items : (st : State) (written carried : Bool) → (written ≡ true → carried ≡ false)

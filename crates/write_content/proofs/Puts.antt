@@ -74,14 +74,14 @@ module _ {stream : List ℕ} {at : ℕ} {value : Part} {c : Core} {x : Content} 
       }
 
   pub value-put : (a : Alignment) {after : List ℕ} {r : ℕ}
-      → Put stream at (valueBits work (x .partition) (x .id) (x .strings .owner) (c .values) y a)
+      → Put stream at (valueBits work (x .partition) (x .id) (x .strings .owner) (c .values) (c .capacity) y a)
       after r
       → Put stream at (valuedBits work c x (partAt text value) a) after r
   unfolding valuedBits asSpan
   value-put a {after} {r} p =
       subst
       (λ t. Put stream at
-      (valueBits work (x .partition) (x .id) (x .strings .owner) (c .values) t a) after r) look p
+      (valueBits work (x .partition) (x .id) (x .strings .owner) (c .values) (c .capacity) t a) after r) look p
 
 -- ---- a text
 

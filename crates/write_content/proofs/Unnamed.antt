@@ -56,26 +56,27 @@ unfolding meaning mapEvent itemsAs
 characters-items text x st e written = ap (λ r. item r (partAt text x) ∷ []) e
 
 module _ {opening text work : List ℕ} {c : Core} (pre : ContentPre work c) (x : Part) {v : ValueJudged}
-    (post : ValuePost text (partAt text x) (c .top) (c .values) (c .stored) work v) where
+    (post : ValuePost text (partAt text x) (c .top) (c .values) (c .longest) (c .capacity) (c .stored)
+    work v) where
   module _ {w : Rows} (p : Prepared opening text work c w) (row : c .top < length (w .names)) where
     of-top : StringMeans (value (nameAt w (c .top))) w
         (valueAdded (v .joins) (c .top) w (placedIn text x)) (c .stored) (partAt text x)
         (v .number) (v .stored)
-        (valueBits work (v .partition) (v .id) (c .top) (c .values) (partAt text x))
+        (valueBits work (v .partition) (v .id) (c .top) (c .values) (c .capacity) (partAt text x))
     of-top =
         value-means p (none-join (listStores opening text) (p .valid)) refl x post
-        (p .writable) (few-rows (pre .bounded) (p .counts)) row
+        (p .writable) (few-rows (pre .bounded) (p .counts) (p .valid)) row
 
     top-joins : v .number ≡ 0 → Inside text x
         → StringsJoin (listStores opening text) (withValue noStrings (c .top) x v .strings) w
         (valueAdded (v .joins) (c .top) w (placedIn text x))
     top-joins =
         value-joins p (none-join (listStores opening text) (p .valid)) refl x post
-        (p .writable) (few-rows (pre .bounded) (p .counts)) row
+        (p .writable) (few-rows (pre .bounded) (p .counts) (p .valid)) row
 
 module _ {opening text work : List ℕ} {c : Core} (pre : ContentPre work c) (x : Part) {y : Text}
     (look : y ≡ part text (record { place = x .place; size = x .size })) {v : ValueJudged}
-    (given : ValuePost text y (c .top) (c .values) (c .stored) work v) where
+    (given : ValuePost text y (c .top) (c .values) (c .longest) (c .capacity) (c .stored) work v) where
   pub characters-refused : 0 < v .number
       → ContentPost opening text (Characters x) c work (stoppedAs (v .number) (c .stored))
   unfolding kindOf meaning
@@ -191,7 +192,7 @@ module _ {opening text work : List ℕ} {c : Core} (pre : ContentPre work c) whe
       → ItemsMean (tablesIn w stored) (item role x ∷ []) (r .number) (tablesIn w (r .stored))
       (λ a. stringBits 0 x)
   text-items post {w} p =
-      one-item (post .meant w (p .valid) (p .writable) (few-rows (pre .bounded) (p .counts)))
+      one-item (post .meant w (p .valid) (p .writable) (few-rows (pre .bounded) (p .counts) (p .valid)))
 
   module _ (x : Part) {y : Text} (look : y ≡ part text (record { place = x .place; size = x .size }))
       {r : StringJudged} (given : TextPost commentText y (c .stored) r) where

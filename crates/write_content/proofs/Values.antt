@@ -4,24 +4,27 @@ use native.Mathlib.Omega.{arith}
 use mathlib.Core.Path.{_≡_, refl, sym, ap, subst, _∙_}
 use mathlib.Core.Bool.{Bool, true, false, cond}
 use mathlib.Core.List.{List}
-use mathlib.Core.Option.{none}
+use mathlib.Core.Option.{Option}
 use lib.ListN.{length}
 use Rattle.spec_exi.specs.Sizes.{maxUris, maxNames}
-use Rattle.spec_exi.specs.Tables.{Placed, value}
+use Rattle.spec_exi.specs.Tables.{Placed, replaced, value}
 use Rattle.text.specs.Text.{Text, part}
 use Rattle.event.specs.declared.Part.{Part}
 use Rattle.event.specs.Cells.{asSpan}
+use Rattle.mem_entries.specs.Entries.{Entries}
+use Rattle.mem_values.specs.Window.{newestIn}
 use Rattle.mem_values.specs.Forms.{ValuesStand}
 use Rattle.mem_rows.specs.Rows.{Rows, placedAt, nameAt, withValue}
 use Rattle.mem_state.specs.declared.Core.{Core}
 use Rattle.mem_state.specs.declared.Strings.{Strings}
 use Rattle.mem_state.specs.Holds.{Stores, Bounded, Counts}
 use Rattle.mem_state.specs.Strung.{valueAdded, StringsJoin}
-use Rattle.mem_state.proofs.Strung.{uris-counted, names-counted, strings-values, value-more}
+use Rattle.mem_state.proofs.Strung.{uris-counted, names-counted, strings-ahead, strings-values}
+use Rattle.mem_state.proofs.Strung.{value-more}
 use Rattle.write_partition.specs.Writable.{Writable, Few}
 use Rattle.write_partition.specs.Judged.{StringMeans}
 use Rattle.write_values.specs.declared.ValueJudged.{ValueJudged}
-use Rattle.write_values.specs.Values.{valueBits, ValueBounds, ValuePost}
+use Rattle.write_values.specs.Values.{valueBits, ValueBounds, ValuesMeant, ValuePost}
 use Rattle.write_qname.specs.Premise.{listStores, Prepared, Inside, partAt}
 use Rattle.write_qname.specs.Qnames.{joiningOf}
 use Rattle.write_qname.proofs.Lain.{placedIn, lain-in}
@@ -39,12 +42,12 @@ within false few left e = omega (arith, few, e)
 pub few-strings : {from : Stores} {c : Core} {s : Strings} {w v : Rows} → Bounded c
     → Counts c w → StringsJoin from s w v
     → (s .«new_uri» ≡ true → c .uris < maxUris) → (s .«new_name» ≡ true → c .names < maxNames)
-    → s .«new_value» ≡ false → Few v
-few-strings {s = s} b n j uris names f =
+    → Few v
+few-strings {s = s} b n j uris names =
     record {
       uris = within (s .«new_uri») (b .uris) uris (uris-counted j n);
       names = within (s .«new_name») (b .names) names (names-counted j n);
-      values = omega (arith, ap length (strings-values j f), b .values, n .values);
+      values = j .valid .window .few;
     }
 
 -- ---- a value more
@@ -52,12 +55,12 @@ few-strings {s = s} b n j uris names f =
 -- As a part of the list's store.
 pub value-at : {text y : Text} (x : Part)
     → y ≡ part text (record { place = x .place; size = x .size })
-    → {owner values stored : ℕ} {work : List ℕ} {v : ValueJudged}
-    → ValuePost text y owner values stored work v
-    → ValuePost text (partAt text x) owner values stored work v
+    → {owner values longest capacity stored : ℕ} {work : List ℕ} {v : ValueJudged}
+    → ValuePost text y owner values longest capacity stored work v
+    → ValuePost text (partAt text x) owner values longest capacity stored work v
 unfolding asSpan
-value-at {text} x e {owner} {values} {stored} {work} {v} p =
-    subst (λ t. ValuePost text t owner values stored work v) e p
+value-at {text} x e {owner} {values} {longest} {capacity} {stored} {work} {v} p =
+    subst (λ t. ValuePost text t owner values longest capacity stored work v) e p
 
 -- Names stay.
 pub value-name : (b : Bool) (k : ℕ) (w : Rows) (y : Placed) (n : ℕ)
@@ -69,20 +72,30 @@ value-name false k w y n = refl
 module _ {opening text work : List ℕ} {c : Core} {w : Rows} (p : Prepared opening text work c w)
     {s : Strings} {w₂ : Rows} (j : StringsJoin (listStores opening text) s w w₂)
     (f : s .«new_value» ≡ false) where
-  values-stand : ValuesStand work text (length text) (c .values) 0 (c .values) (w₂ .values) none
-  values-stand =
-      subst (λ es. ValuesStand work text (length text) (c .values) 0 (c .values) es none)
-      (sym (strings-values j f))
-      (subst (λ n. ValuesStand work text (length text) n 0 n (w .values) none)
-      (sym (p .counts .values)) (p .holds .values))
+  stand-under : ℕ → Entries → Option ℕ → Type 0
+  stand-under n es cap =
+      ValuesStand work text (length text) n (replaced cap n) (newestIn cap n) es cap
+
+  values-meant : ValuesMeant work text (c .values) (c .longest) (c .capacity) w₂
+  unfolding stand-under
+  values-meant =
+      record {
+        stand =
+            subst (stand-under (c .values) (w₂ .values)) (sym (strings-ahead j .capacity))
+            (subst (λ es. stand-under (c .values) es (w .capacity)) (sym (strings-values j f))
+            (subst (λ n. stand-under n (w .values) (w .capacity)) (sym (p .counts .values))
+            (p .holds .values)));
+        longest-is = p .counts .longest ∙ sym (strings-ahead j .longest);
+        capacity-is = p .counts .capacity ∙ sym (strings-ahead j .capacity);
+      }
 
   module _ (x : Part) {owner stored : ℕ} {v : ValueJudged}
-      (post : ValuePost text (partAt text x) owner (c .values) stored work v)
+      (post : ValuePost text (partAt text x) owner (c .values) (c .longest) (c .capacity) stored work v)
       (writable : Writable w₂) (few : Few w₂) (row : owner < length (w₂ .names)) where
     pub value-means : StringMeans (value (nameAt w₂ owner)) w₂
         (valueAdded (v .joins) owner w₂ (placedIn text x)) stored (partAt text x) (v .number)
-        (v .stored) (valueBits work (v .partition) (v .id) owner (c .values) (partAt text x))
-    value-means = post .meant w₂ (j .valid) writable few values-stand row (x .place)
+        (v .stored) (valueBits work (v .partition) (v .id) owner (c .values) (c .capacity) (partAt text x))
+    value-means = post .meant w₂ (j .valid) writable few values-meant row (x .place)
 
     pub value-joins : v .number ≡ 0 → Inside text x
         → StringsJoin (listStores opening text) (contents.withValue s owner x v .strings) w

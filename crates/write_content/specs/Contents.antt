@@ -7,7 +7,7 @@ use mathlib.Core.Option.{some}
 use lib.ListN.{length}
 use Rattle.spec_fields.specs.Field.{Alignment}
 use Rattle.text.specs.Text.{Text, inside, part}
-use Rattle.spec_exi.specs.Sizes.{sizes, maxStore, maxUris, maxNames, maxValues}
+use Rattle.spec_exi.specs.Sizes.{sizes, maxStore, maxUris, maxNames}
 use Rattle.spec_exi.specs.Event.{Event, CH, startDocument, endDocument, endElement}
 use Rattle.spec_exi.specs.Event.{startElement, attribute, characters, comment, instruction}
 use Rattle.spec_exi.specs.Event.{kindOf, nameOf, mapEvent, stringsOf}
@@ -89,11 +89,12 @@ pub record ContentPre (work : List ℕ) (c : Core) : Type 0 where
   pub room : workCells ≤ length work
   pub bounded : Bounded c
 
--- On every memory: which rows the strings have, and that their tables have room.
-pub record ContentBounds (c : Core) (s : Strings) : Type 0 where
+-- On every memory: which rows the strings have, that their tables have room, and that a value that
+-- joins is in the store.
+pub record ContentBounds (c : Core) (stored : ℕ) (s : Strings) : Type 0 where
   pub uris : s .«new_uri» ≡ true → c .uris < maxUris
   pub names : s .«new_name» ≡ true → c .names < maxNames
-  pub values : s .«new_value» ≡ true → c .values < maxValues
+  pub values : s .«new_value» ≡ true → c .values < stored
   pub uri : s .«uri_row» < uriRows
   pub name : s .«name_row» < nameRows
   pub owner : s .owner < nameRows
@@ -141,7 +142,7 @@ pub record ContentMeans (opening text : List ℕ) (e : declared.Event) (c : Core
 pub record ContentPost (opening text : List ℕ) (e : declared.Event) (c : Core) (work : List ℕ)
     (r : Content) : Type 0 where
   pub refused : 0 < r .number → r ≡ stoppedAs (r .number) (c .stored)
-  pub bounds : r .number ≡ 0 → ContentBounds c (r .strings)
+  pub bounds : r .number ≡ 0 → ContentBounds c (r .stored) (r .strings)
   pub store : r .stored ≤ maxStore
   pub grows : c .stored ≤ r .stored
   -- what the writing asks

@@ -8,7 +8,7 @@ use lib.Dec.{T}
 use Rattle.spec_fields.specs.Bits.{Bits}
 use Rattle.spec_fields.specs.Field.{Alignment}
 use Rattle.text.specs.Text.{Text}
-use Rattle.spec_exi.specs.Sizes.{maxUris, maxValues}
+use Rattle.spec_exi.specs.Sizes.{maxUris, maxStore}
 use Rattle.spec_exi.specs.Tables.{stringBits}
 use Rattle.event.specs.declared.Part.{Part}
 use Rattle.event.specs.declared.Event as declared
@@ -33,7 +33,7 @@ namedBits work carried c s u x a = cond carried [] (qnameBits work c s u x a)
 
 unfoldable pub valuedBits : List ℕ → Core → Content → Text → Alignment → Bits
 valuedBits work c x v a =
-    valueBits work (x .partition) (x .id) (x .strings .owner) (c .values) v a
+    valueBits work (x .partition) (x .id) (x .strings .owner) (c .values) (c .capacity) v a
 
 unfoldable pub contentBits :
     List ℕ → List ℕ → declared.Event → Bool → Core → Content → Alignment → Bits
@@ -84,7 +84,7 @@ pub record PutValuedPre (stream : List ℕ) (at : ℕ) (value : Part) (c : Core)
   pub near : at + maxStringBits ≤ farthest
   pub room : workCells ≤ length work
   pub low : x .strings .owner < nameRows
-  pub few : c .values ≤ maxValues
+  pub few : c .values ≤ maxStore
   pub puttable : ValuePuttable x (partAt text value)
 
 pub record PutTextPre (stream : List ℕ) (at : ℕ) (value : Part) (text : List ℕ) : Type 0 where
@@ -98,7 +98,7 @@ pub record PutContentPre (stream : List ℕ) (at : ℕ) (e : declared.Event) (c 
   pub near : at + 3 * maxStringBits ≤ farthest
   pub room : workCells ≤ length work
   pub few : c .uris ≤ maxUris
-  pub few-values : c .values ≤ maxValues
+  pub few-values : c .values ≤ maxStore
   pub uri-low : x .strings .«uri_row» < uriRows
   pub name-low : x .strings .«name_row» < nameRows
   pub owner-low : x .strings .owner < nameRows

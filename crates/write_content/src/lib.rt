@@ -116,7 +116,16 @@ fn judge_attribute(
     }
     let s = n.strings;
     let x = text::look_up(text, value.place, value.size);
-    let v = write_values::judge_value(text, x, s.name_row, c.values, n.stored, work);
+    let v = write_values::judge_value(
+        text,
+        x,
+        s.name_row,
+        c.values,
+        c.longest,
+        c.capacity,
+        n.stored,
+        work,
+    );
     if v.number != 0 {
         return stopped(v.number, c.stored);
     }
@@ -131,7 +140,16 @@ fn judge_characters(opening: &[u32], text: &[u32], value: Part, c: Core, work: &
         (now (work .entry)) r ⌝ }
 {
     let x = text::look_up(text, value.place, value.size);
-    let v = write_values::judge_value(text, x, c.top, c.values, c.stored, work);
+    let v = write_values::judge_value(
+        text,
+        x,
+        c.top,
+        c.values,
+        c.longest,
+        c.capacity,
+        c.stored,
+        work,
+    );
     if v.number != 0 {
         return stopped(v.number, c.stored);
     }
@@ -257,6 +275,7 @@ fn put_value(
         x.id,
         s.owner,
         c.values,
+        c.capacity,
         v,
         work,
     )

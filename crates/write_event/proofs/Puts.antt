@@ -44,7 +44,7 @@ module _ {s : Settings} {stream text : List ℕ} {e : declared.Event} {work : Li
           near = omega (arith, pre .near, p .next, code-few);
           room = pre .rows;
           few = pre .bounded .uris;
-          few-values = pre .bounded .values;
+          few-values = omega (arith, pre .bounded .values, pre .bounded .stored);
           uri-low = b .uri;
           name-low = b .name;
           owner-low = b .owner;

@@ -246,6 +246,7 @@ module _ (opening text : List ℕ) {work : List ℕ} {c : Core} (s : Settings) (
                         site = site-low (c .mode) (c .top) (pre .bounded .top);
                         name = refl;
                         store = post .store;
+                        grows = post .grows;
                       };
                       bits = λ _. record {
                         place = record { level = low; value = at .low low };

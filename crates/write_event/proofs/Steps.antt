@@ -8,7 +8,7 @@ use lib.ListN.{length}
 use borrow.Author.Tests.{not-true, not-false}
 use Rattle.spec_fields.specs.Refusal.{numberOf}
 use Rattle.text.specs.Text.{part}
-use Rattle.spec_exi.specs.Sizes.{maxUris, maxNames, maxValues, maxLearned}
+use Rattle.spec_exi.specs.Sizes.{maxUris, maxNames, maxStore, maxLearned}
 use Rattle.spec_exi.specs.Settings.{Settings}
 use Rattle.spec_exi.specs.Event.{mapEvent}
 use Rattle.event.specs.declared.Event as declared
@@ -93,14 +93,14 @@ module _ {work : List ℕ} {c : Core} {kind : ℕ} (p : Place) (x : Content) {co
 
 module _ {work : List ℕ} {c : Core} {r : EventJudged} {n : ℕ} (pre : CommitPre work c r n) where
   pub join-asks : StringsPre work c (r .content .strings)
-  unfolding maxUris maxNames maxValues
+  unfolding maxUris maxNames maxStore
   join-asks =
       let b = pre .bounds .strings in
       record {
         room = pre .rows;
         uris = λ j. omega (arith, b .uris j);
         names = λ j. omega (arith, b .names j);
-        values = λ j. omega (arith, b .values j);
+        values = λ j. omega (arith, b .values j, pre .bounds .store);
         uri = b .uri;
         owner = b .owner;
       }
@@ -136,7 +136,7 @@ module _ {work : List ℕ} {c : Core} {r : EventJudged} {n : ℕ} (pre : CommitP
       → Bounded (coreAfter f c at (r .content .stored) (r .content .strings) (r .growth) n)
   after-low f at =
       after-bounded f at (r .content .stored) after-asks join-asks (pre .bounds .fits) name-low
-      (pre .bounds .store)
+      (pre .bounds .grows) (pre .bounds .store) (pre .bounds .strings .values)
 
 -- ---- the rows after an event
 

@@ -116,7 +116,7 @@ pub record BitBounds (s : Settings) (text : List ℕ) (e : declared.Event) (c : 
     (r : EventJudged) : Type 0 where
   pub place : InTable s (c .mode) (r .place)
   pub count : r .code .count ≤ numbers
-  pub strings : ContentBounds c (r .content .strings)
+  pub strings : ContentBounds c (r .content .stored) (r .content .strings)
   pub puttable : Puttable e c (r .content) text
 
 -- The bits as the judgement has them.

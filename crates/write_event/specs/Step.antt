@@ -65,12 +65,13 @@ pub record StepRefused (stream work : List ℕ) (c : Core) (stream′ work′ : 
 -- What an accepted event adds to work memory: rows after the others, where each table has room, and
 -- the count of code points that they come to.
 pub record RowBounds (c : Core) (s : Strings) (g : Growth) (stored : ℕ) : Type 0 where
-  pub strings : ContentBounds c s
+  pub strings : ContentBounds c stored s
   pub stands : table.Stands (c .mode) (g .kind)
   pub fits : fitsIn c g ≡ true
   pub site : g .site < sites
   pub name : g .name ≡ s .«name_row»
   pub store : stored ≤ maxStore
+  pub grows : c .stored ≤ stored
 
 -- The event's bits are written; its strings and its growth are all that joins work memory, and the
 -- numbers are those after it, in a fragment or not.

@@ -8,7 +8,7 @@ use borrow.Author.Tests.{not-false}
 use Rattle.text.specs.Text.{Text, inside, part}
 use Rattle.spec_fields.specs.Refusal.{numberOf, limit}
 use Rattle.spec_exi.specs.Settings.{Settings}
-use Rattle.spec_exi.specs.Sizes.{maxValues, maxLearned}
+use Rattle.spec_exi.specs.Sizes.{maxStore, maxLearned}
 use Rattle.spec_exi.specs.Event.{kindOf, mapEvent, stringsOf}
 use Rattle.spec_exi.specs.Grammar.{kindNumber}
 use Rattle.spec_exi.specs.Lists.{every}
@@ -90,11 +90,15 @@ module _ {stream work : List ℕ} {c : Core} {n : ℕ} (pre : StepPre stream wor
             after-pre pre (a .accepted) refl same here (other-allowed work (c .tag) 0 refl refl) growth-is f o
 
         pub characters-join : commit.ValuePre work (c .values) (c .top) (joiningOf value (v .joins) (v .hash))
-        unfolding maxValues
+        unfolding maxStore
         characters-join =
             record {
               room = pre .rows;
-              few = λ j. omega (arith, a .accepted .content .bounds refl .values j);
+              few = λ j. omega (
+                arith,
+                a .accepted .content .bounds refl .values j,
+                a .accepted .content .store,
+              );
               low = pre .bounded .top;
             }
 
@@ -125,7 +129,8 @@ module _ {stream work : List ℕ} {c : Core} {n : ℕ} (pre : StepPre stream wor
 
           pub characters-written : {stream′ : List ℕ} {at : ℕ}
               → Put mid next
-              (valueBits work (v .partition) (v .id) (c .top) (c .values) y (s .alignment)) stream′ at
+              (valueBits work (v .partition) (v .id) (c .top) (c .values) (c .capacity) y (s .alignment))
+              stream′ at
               → {work₁ work′ : List ℕ}
               → work₁ ≡ joinedValue (c .values) (c .top) (joiningOf value (v .joins) (v .hash)) work
               → work′ ≡ grown c g work₁ → {d : Core} → d ≡ coreAfter (s .fragment) c at (v .stored) st g n

@@ -63,6 +63,7 @@ fn add_characters(
         v.id,
         c.top,
         c.values,
+        c.capacity,
         x,
         work,
     );
@@ -105,7 +106,16 @@ pub fn first_characters(
         return stepped::answer(PLACE, c);
     }
     let x = text::look_up(text, value.place, value.size);
-    let v = write_values::judge_value(text, x, c.top, c.values, c.stored, work);
+    let v = write_values::judge_value(
+        text,
+        x,
+        c.top,
+        c.values,
+        c.longest,
+        c.capacity,
+        c.stored,
+        work,
+    );
     if v.number != 0 {
         return stepped::answer(v.number, c);
     }

@@ -77,43 +77,44 @@ module _ {stream work : List ℕ} {c : Core} (pre : StepPre stream work c 0) {na
 
     module _ (i : not b ≡ false) {y : Text}
         (look : y ≡ part text (record { place = value .place; size = value .size }))
-        {v : ValueJudged} (post : ValuePost text y name (c .values) (c .stored) work v) where
-      pub attribute-stopped : 0 < v .number → {a : Alignment}
-          → AttributePost a text value name stream work c stream work (steppedAs (v .number) c)
-      unfolding kindOf meaning kindNumber
-      attribute-stopped h =
-          record {
-            steps = λ n early s same opening uri local u l named.
-                quick-refused (numbered pre early) opening text s (Attribute uri local value) refl
-                (stands s) (lies text uri local value u l is ∙ not-false b i)
-                (attribute-value-refused (content-pre pre) (named .post) value refl look post h) h;
-          }
+        {v : ValueJudged} (post : ValuePost text y name (c .values) (c .longest) (c .capacity) (c .stored) work v)
+      where
+        pub attribute-stopped : 0 < v .number → {a : Alignment}
+            → AttributePost a text value name stream work c stream work (steppedAs (v .number) c)
+        unfolding kindOf meaning kindNumber
+        attribute-stopped h =
+            record {
+              steps = λ n early s same opening uri local u l named.
+                  quick-refused (numbered pre early) opening text s (Attribute uri local value) refl
+                  (stands s) (lies text uri local value u l is ∙ not-false b i)
+                  (attribute-value-refused (content-pre pre) (named .post) value refl look post h) h;
+            }
 
-      pub attribute-stepped : v .number ≡ 0 → markedIn work (c .tag) name ≡ false → {a : Alignment}
-          {mid : List ℕ} {next : ℕ}
-          → LearnedPut a stream work (c .at) (c .mode) (c .top) row mid next
-          → {stream′ work₁ work′ : List ℕ} {at : ℕ}
-          → ValueKept a mid next y value v name (c .values) work stream′ work₁ at
-          → work′ ≡ withMark work₁ (c .tag) name
-          → AttributePost a text value name stream work c stream′ work′
-          (steppedAs 0
-          (movedOn c at (v .stored) (v .joins) false (c .mode) (c .top) (c .depth) (c .tag)))
-      unfolding kindOf meaning kindNumber growthOf fitsIn grown learnt entered marked joinedStrings
-          joinedUri joinedName modeAfter topAfter depthAfter tagNumber contentBits namedBits
-          valuedBits counted turned
-      attribute-stepped z f q {at = at} kept w =
-          let x = joiningOf value (v .joins) (v .hash) in
-          record {
-            steps = λ n early s same opening uri local u l named.
-                quick-written (numbered pre early) opening text s (Attribute uri local value) refl
-                (stands s) (lies text uri local value u l is ∙ not-false b i)
-                (attribute-judged (content-pre pre) (named .post) value refl look post z) refl
-                (learned-here c q (known .found) (known .some))
-                (attribute-allowed work (c .tag) name refl (sym f)) refl refl
-                (learned-put c q s same (known .inner) (pre .bounded .fits .known)
-                (stands s .p))
-                (kept-put text look same kept)
-                (w ∙ ap (λ k. withMark k (c .tag) name) (kept .work-is))
-                (moved-core (s .fragment) c at (v .stored) x (named .u) name name false (siteIn (c .mode) (c .top)) 3
-                name (named .u) n);
-          }
+        pub attribute-stepped : v .number ≡ 0 → markedIn work (c .tag) name ≡ false → {a : Alignment}
+            {mid : List ℕ} {next : ℕ}
+            → LearnedPut a stream work (c .at) (c .mode) (c .top) row mid next
+            → {stream′ work₁ work′ : List ℕ} {at : ℕ}
+            → ValueKept a mid next y value v name (c .values) (c .capacity) work stream′ work₁ at
+            → work′ ≡ withMark work₁ (c .tag) name
+            → AttributePost a text value name stream work c stream′ work′
+            (steppedAs 0
+            (movedOn c at (v .stored) (v .joins) false (c .mode) (c .top) (c .depth) (c .tag)))
+        unfolding kindOf meaning kindNumber growthOf fitsIn grown learnt entered marked joinedStrings
+            joinedUri joinedName modeAfter topAfter depthAfter tagNumber contentBits namedBits
+            valuedBits counted turned
+        attribute-stepped z f q {at = at} kept w =
+            let x = joiningOf value (v .joins) (v .hash) in
+            record {
+              steps = λ n early s same opening uri local u l named.
+                  quick-written (numbered pre early) opening text s (Attribute uri local value) refl
+                  (stands s) (lies text uri local value u l is ∙ not-false b i)
+                  (attribute-judged (content-pre pre) (named .post) value refl look post z) refl
+                  (learned-here c q (known .found) (known .some))
+                  (attribute-allowed work (c .tag) name refl (sym f)) refl refl
+                  (learned-put c q s same (known .inner) (pre .bounded .fits .known)
+                  (stands s .p))
+                  (kept-put text look same kept)
+                  (w ∙ ap (λ k. withMark k (c .tag) name) (kept .work-is))
+                  (moved-core (s .fragment) c at (v .stored) x (named .u) name name false (siteIn (c .mode) (c .top)) 3
+                  name (named .u) n);
+            }

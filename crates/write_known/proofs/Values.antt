@@ -9,7 +9,7 @@ use Rattle.spec_fields.specs.Field.{Alignment}
 use Rattle.spec_fields.specs.Refusal.{numberOf, place}
 use Rattle.text.specs.Text.{Text, inside, part}
 use Rattle.spec_exi.specs.Settings.{Settings}
-use Rattle.spec_exi.specs.Sizes.{maxEvents, maxString, maxValues}
+use Rattle.spec_exi.specs.Sizes.{maxEvents, maxString, maxStore}
 use Rattle.spec_exi.specs.Event.{Kind, CH, kindOf, stringsOf}
 use Rattle.spec_exi.specs.Grammar.{kindNumber}
 use Rattle.spec_exi.specs.Lists.{every}
@@ -63,9 +63,9 @@ module _ {stream work : List ℕ} {c : Core} {n : ℕ} (pre : StepPre stream wor
   -- What writing and adding the value asks, after the code.
   pub keep-asks : {a : Alignment} {mode top row : ℕ} {mid : List ℕ} {next : ℕ}
       → LearnedPut a stream work (c .at) mode top row mid next → {text : List ℕ} {x : Text}
-      {owner stored : ℕ} {v : ValueJudged} → ValuePost text x owner (c .values) stored work v
+      {owner stored : ℕ} {v : ValueJudged} → ValuePost text x owner (c .values) (c .longest) (c .capacity) stored work v
       → v .number ≡ 0 → owner < nameRows → KeepPre mid next x v owner (c .values) work
-  unfolding maxEvents maxString maxValues
+  unfolding maxEvents maxString maxStore
   keep-asks {a} {mode} q {v = v} post z low =
       let b = post .bounds z in
       record {
@@ -79,12 +79,12 @@ module _ {stream work : List ℕ} {c : Core} {n : ℕ} (pre : StepPre stream wor
           );
           room = pre .rows;
           low = low;
-          few = pre .bounded .values;
+          few = omega (arith, pre .bounded .values, pre .bounded .stored);
           literal = λ f g. b .literal (let t : v .partition ≡ 2 = omega (arith, b .which, f, g) in t);
         };
         join = λ p. record {
           room = pre .rows;
-          few = λ j. omega (arith, b .new j .1);
+          few = λ j. omega (arith, b .new j .1, b .store);
           low = low;
         };
       }
@@ -92,16 +92,19 @@ module _ {stream work : List ℕ} {c : Core} {n : ℕ} (pre : StepPre stream wor
 -- The value's bits, by its part of the store and in the settings' alignment.
 pub kept-put : (text : List ℕ) {p : Part} {y : Text}
     → y ≡ part text (record { place = p .place; size = p .size }) → {a b : Alignment} → b ≡ a
-    → {mid : List ℕ} {next : ℕ} {v : ValueJudged} {owner values : ℕ} {work stream′ work′ : List ℕ}
-    {at : ℕ} → ValueKept a mid next y p v owner values work stream′ work′ at
-    → Put mid next (valueBits work (v .partition) (v .id) owner values (partAt text p) b) stream′ at
+    → {mid : List ℕ} {next : ℕ} {v : ValueJudged} {owner values capacity : ℕ}
+    {work stream′ work′ : List ℕ} {at : ℕ}
+    → ValueKept a mid next y p v owner values capacity work stream′ work′ at
+    → Put mid next (valueBits work (v .partition) (v .id) owner values capacity (partAt text p) b)
+    stream′ at
 unfolding asSpan
-kept-put text {y = y} look {b = b} same {mid} {next} {v} {owner} {values} {work} {stream′} {at = at} q =
+kept-put text {y = y} look {b = b} same {mid} {next} {v} {owner} {values} {capacity} {work}
+    {stream′} {at = at} q =
     subst
-    (λ (t : Text). Put mid next (valueBits work (v .partition) (v .id) owner values t b) stream′ at)
+    (λ (t : Text). Put mid next (valueBits work (v .partition) (v .id) owner values capacity t b) stream′ at)
     look
     (subst
-    (λ (x : Alignment). Put mid next (valueBits work (v .partition) (v .id) owner values y x) stream′ at)
+    (λ (x : Alignment). Put mid next (valueBits work (v .partition) (v .id) owner values capacity y x) stream′ at)
     (sym same) (q .put))
 
 -- ---- characters
@@ -132,7 +135,8 @@ module _ {stream work : List ℕ} {c : Core} {n : ℕ} (pre : StepPre stream wor
 
     module _ (i : not b ≡ false) {y : Text}
         (look : y ≡ part text (record { place = value .place; size = value .size }))
-        {v : ValueJudged} (post : ValuePost text y (c .top) (c .values) (c .stored) work v) where
+        {v : ValueJudged} (post : ValuePost text y (c .top) (c .values) (c .longest) (c .capacity) (c .stored)
+        work v) where
       pub characters-stopped : 0 < v .number → {a : Alignment}
           → KnownPost a text (Characters value) stream work c n stream work
           (steppedAs (v .number) c)
@@ -148,7 +152,7 @@ module _ {stream work : List ℕ} {c : Core} {n : ℕ} (pre : StepPre stream wor
       pub characters-stepped : v .number ≡ 0 → {a : Alignment} {mid : List ℕ} {next : ℕ}
           → LearnedPut a stream work (c .at) (c .mode) (c .top) row mid next
           → {stream′ work′ : List ℕ} {at : ℕ}
-          → ValueKept a mid next y value v (c .top) (c .values) work stream′ work′ at
+          → ValueKept a mid next y value v (c .top) (c .values) (c .capacity) work stream′ work′ at
           → {mode tag : ℕ} → mode ≡ contentAfter (c .mode) → tag ≡ n + 2
           → KnownPost a text (Characters value) stream work c n stream′ work′
           (steppedAs 0

@@ -68,9 +68,11 @@ pub record KeepPre (stream : List ℕ) (at : ℕ) (x : Text) (v : ValueJudged) (
 
 -- Its bits are written, and it is added where it joins.
 pub record ValueKept (a : Alignment) (stream : List ℕ) (at : ℕ) (x : Text) (p : Part)
-    (v : ValueJudged) (owner values : ℕ) (work stream′ work′ : List ℕ) (next : ℕ) : Type 0 where
-  pub put : Put stream at (valueBits work (v .partition) (v .id) owner values x a) stream′ next
-  pub work-is : work′ ≡ joinedValue values owner (joiningOf p (v .joins) (v .hash)) work
+    (v : ValueJudged) (owner values capacity : ℕ) (work stream′ work′ : List ℕ) (next : ℕ) : Type 0
+  where
+    pub put : Put stream at (valueBits work (v .partition) (v .id) owner values capacity x a) stream′
+        next
+    pub work-is : work′ ≡ joinedValue values owner (joiningOf p (v .joins) (v .hash)) work
 
 -- ---- the step
 

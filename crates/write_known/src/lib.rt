@@ -126,12 +126,13 @@ fn keep_value(
     v: ValueJudged,
     owner: u32,
     values: u32,
+    capacity: u32,
     work: &mut [u32],
 ) -> usize
     requires { ⌜ KeepPre (now stream) at (now x) v owner values (now work) ⌝ }
     ensures { λ r. ⌜
         ValueKept (alignmentOf aligned) (now (stream .entry)) at (now (x .entry)) p v owner values
-        (now (work .entry)) (now (stream .exit)) (now (work .exit)) r ⌝ }
+        capacity (now (work .entry)) (now (stream .exit)) (now (work .exit)) r ⌝ }
 {
     let next = write_values::put_value(
         aligned,
@@ -141,6 +142,7 @@ fn keep_value(
         v.id,
         owner,
         values,
+        capacity,
         x,
         work,
     );
@@ -169,12 +171,32 @@ pub fn known_characters(
         return stepped::answer(PLACE, c);
     }
     let x = text::look_up(text, value.place, value.size);
-    let v = write_values::judge_value(text, x, c.top, c.values, c.stored, work);
+    let v = write_values::judge_value(
+        text,
+        x,
+        c.top,
+        c.values,
+        c.longest,
+        c.capacity,
+        c.stored,
+        work,
+    );
     if v.number != 0 {
         return stepped::answer(v.number, c);
     }
     let next = put_learned(aligned, stream, c.at, c.mode, c.top, row, work);
-    let at = keep_value(aligned, stream, next, x, value, v, c.top, c.values, work);
+    let at = keep_value(
+        aligned,
+        stream,
+        next,
+        x,
+        value,
+        v,
+        c.top,
+        c.values,
+        c.capacity,
+        work,
+    );
     let mode = mem_state::content_after(c.mode);
     let tag = stepped::next_tag(n);
     stepped::moved_on(c, at, v.stored, v.joins, false, mode, c.top, c.depth, tag)
@@ -204,12 +226,32 @@ pub fn known_attribute(
         return stepped::answer(PLACE, c);
     }
     let x = text::look_up(text, value.place, value.size);
-    let v = write_values::judge_value(text, x, name, c.values, c.stored, work);
+    let v = write_values::judge_value(
+        text,
+        x,
+        name,
+        c.values,
+        c.longest,
+        c.capacity,
+        c.stored,
+        work,
+    );
     if v.number != 0 {
         return stepped::answer(v.number, c);
     }
     let next = put_learned(aligned, stream, c.at, c.mode, c.top, row, work);
-    let at = keep_value(aligned, stream, next, x, value, v, name, c.values, work);
+    let at = keep_value(
+        aligned,
+        stream,
+        next,
+        x,
+        value,
+        v,
+        name,
+        c.values,
+        c.capacity,
+        work,
+    );
     mem_marks::mark(work, name, c.tag);
     stepped::moved_on(
         c,

@@ -214,7 +214,7 @@ module _ {stream work : List ℕ} {c : Core} {n : ℕ} (pre : StepPre stream wor
 
               pub attribute-written : {stream′ : List ℕ} {at : ℕ}
                   → Put mid₂ next₂
-                  (valueBits work (v .partition) (v .id) (old .«name_row») (c .values) y
+                  (valueBits work (v .partition) (v .id) (old .«name_row») (c .values) (c .capacity) y
                   (s .alignment)) stream′ at
                   → {work₁ work′ : List ℕ} → work₁ ≡ joinedStrings c st work
                   → work′ ≡ grown c g work₁ → {d : Core} → d ≡ coreAfter (s .fragment) c at (v .stored) st g n

@@ -177,6 +177,7 @@ fn add_attribute(
         v.id,
         s.name_row,
         c.values,
+        c.capacity,
         x,
         work,
     );
@@ -219,7 +220,16 @@ pub fn new_attribute(
     }
     let s = q.strings;
     let x = text::look_up(text, value.place, value.size);
-    let v = write_values::judge_value(text, x, s.name_row, c.values, q.stored, work);
+    let v = write_values::judge_value(
+        text,
+        x,
+        s.name_row,
+        c.values,
+        c.longest,
+        c.capacity,
+        q.stored,
+        work,
+    );
     if v.number != 0 {
         return stepped::answer(v.number, c);
     }

@@ -1,5 +1,5 @@
 -- What the writer knows of the rows: their tables pass no size, and a text that was judged may join.
-use Prim.Native.Nat.{ℕ, _≤_, _<_}
+use Prim.Native.Nat.{ℕ, _-_, _≤_, _<_}
 use mathlib.Core.Path.{_≡_, sym, ap, subst}
 use mathlib.Core.Bool.{true}
 use mathlib.Core.List.{List, [], _∷_, _++_}
@@ -9,13 +9,14 @@ use borrow.Author.Tests.{le-leb}
 use Rattle.spec_fields.proofs.Tests.{split}
 use Rattle.text.specs.Text.{Text}
 use Rattle.spec_exi.specs.Sizes.{sizes, maxUris, maxNames, maxValues, maxStore}
-use Rattle.spec_exi.specs.Tables.{Placed, Entry}
+use Rattle.spec_exi.specs.Tables.{Placed, Entry, gone}
 use Rattle.spec_exi.specs.Lists.{withinTables}
 use Rattle.mem_entries.specs.Texts.{storeOf}
 use Rattle.mem_entries.specs.Entries.{textAt}
 use Rattle.mem_entries.proofs.Entries.{entry-old, entry-new}
 use Rattle.mem_names.specs.Uris.{uriText}
 use Rattle.mem_rows.specs.Rows.{Rows, tablesOf, withUri, withName, withValue}
+use Rattle.mem_rows.specs.Valid.{goneIn}
 use Rattle.mem_rows.proofs.Entries.{last-or}
 use Rattle.mem_rows.proofs.Joins.{uri-old, uri-new}
 use Rattle.mem_rows.proofs.Within.{names-count, values-count}
@@ -40,7 +41,7 @@ store-count w stored = zeros stored
 
 pub few-within : {w : Rows} {stored : ℕ} → Few w → stored ≤ maxStore
     → withinTables sizes (tablesIn w stored) ≡ true
-unfolding withinTables tablesOf
+unfolding withinTables tablesOf gone
 few-within {w} {stored} f h =
     rw (
       names-count w (replicate stored 0),
@@ -48,7 +49,7 @@ few-within {w} {stored} f h =
       zeros stored,
       le-leb (length (w .uris)) maxUris (f .uris),
       le-leb (length (w .names)) maxNames (f .names),
-      le-leb (length (w .values)) maxValues (f .values),
+      le-leb (length (w .values) - goneIn w) maxValues (f .values),
       le-leb stored maxStore h,
     )
 

@@ -1,5 +1,5 @@
 -- The tests and bits of a string by its form, and of one list of items after another.
-use Prim.Native.Nat.{ℕ, _+_, _*_, _≤_, _<_}
+use Prim.Native.Nat.{ℕ, _+_, _-_, _*_, _≤_, _<_}
 use native.Mathlib.Omega.{arith}
 use mathlib.Core.Path.{_≡_, refl}
 use mathlib.Core.Bool.{Bool, true, false, _&&_}
@@ -14,8 +14,8 @@ use Rattle.spec_fields.specs.Refusal.{character, name, limit}
 use Rattle.spec_fields.proofs.Tests.{split, is-T, T-is, right}
 use Rattle.text.specs.Text.{Text}
 use Rattle.spec_exi.specs.Sizes.{sizes, maxUris, maxNames, maxValues, maxString, maxStore}
-use Rattle.spec_exi.specs.Tables.{Tables, Role, partitionsOf, hit, literal, formOf, stringBits}
-use Rattle.spec_exi.specs.Tables.{formBits, added, tablesAfter, nameAllowed, textAllowed}
+use Rattle.spec_exi.specs.Tables.{Tables, gone, Role, partitionsOf, hit, literal, formOf}
+use Rattle.spec_exi.specs.Tables.{stringBits, formBits, added, tablesAfter, nameAllowed, textAllowed}
 use Rattle.spec_exi.specs.Context.{Item, item, afterItem, afterItems}
 use Rattle.spec_exi.specs.Strict.{itemBits, itemsBits}
 use Rattle.spec_exi.specs.Lists.{short, withinTables}
@@ -88,7 +88,7 @@ within-store : (t : Tables) → withinTables sizes t ≡ true → leb (length (t
 unfolding withinTables
 within-store t e =
     let others : Bool = leb (length (t .uris)) maxUris && leb (length (t .names)) maxNames
-    && leb (length (t .values)) maxValues in
+    && leb (length (t .values .added) - gone (t .values)) maxValues in
     let store : Bool = leb (length (t .store)) maxStore in
     T-is store (right others store (is-T (others && store) e))
 

@@ -1,5 +1,5 @@
 -- What the writer knows of the rows besides: every text was judged when it joined.
-use Prim.Native.Nat.{ℕ, _≤_, _<_}
+use Prim.Native.Nat.{ℕ, _-_, _≤_, _<_}
 use mathlib.Core.Path.{_≡_}
 use mathlib.Core.Bool.{true}
 use mathlib.Core.List.{List}
@@ -12,6 +12,7 @@ use Rattle.mem_entries.specs.Entries.{textAt}
 use Rattle.mem_layout.specs.Layout.{openingUris, openingNames}
 use Rattle.mem_names.specs.Uris.{uriText}
 use Rattle.mem_rows.specs.Rows.{Rows, tablesOf}
+use Rattle.mem_rows.specs.Valid.{goneIn}
 use lib.Dec.{ltb}
 use mathlib.Core.Bool.{cond}
 
@@ -25,11 +26,11 @@ pub record Writable (w : Rows) : Type 0 where
   pub names : (i : ℕ) → i < length (w .names) → Written (textAt (w .names) i)
   pub values : (i : ℕ) → i < length (w .values) → Written (textAt (w .values) i)
 
--- The tables pass no size.
+-- The tables pass no size; of the values those count that are not replaced.
 pub record Few (w : Rows) : Type 0 where
   pub uris : length (w .uris) ≤ maxUris
   pub names : length (w .names) ≤ maxNames
-  pub values : length (w .values) ≤ maxValues
+  pub values : length (w .values) - goneIn w ≤ maxValues
 
 -- The definitions' tables of the rows. The writer keeps no text store: of the definitions' store it
 -- knows how many code points it has, and they stand as zeros here.

@@ -17,6 +17,7 @@ use Rattle.grammar_codes.specs.declared.Place.{Place}
 use Rattle.grammar_codes.specs.Table.{tables, tableOf, levelAt, noKinds, valuesAt, fixedBits}
 use Rattle.write_field.specs.Written.{ChoiceFits}
 use Rattle.write_field.proofs.Lengths.{choice-length}
+use Rattle.mem_index.specs.Index.{numbers}
 use Rattle.write_production.specs.declared.Code.{Code}
 use Rattle.write_production.specs.Codes.{placedBits, codeBitsAs, ownValues, firstBits, FirstPre}
 
@@ -39,7 +40,7 @@ one-asks mode pre e =
     }
 
 -- How many bits there can be.
-pub first-length : (a : Alignment) (mode count v : ℕ) → count ≤ 4096
+pub first-length : (a : Alignment) (mode count v : ℕ) → count ≤ numbers
     → length (firstBits a mode count v) ≤ 16
 unfolding firstBits
 first-length a mode count v few =

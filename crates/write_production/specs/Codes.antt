@@ -73,5 +73,5 @@ pub record CodePre (s : Settings) (stream : List ℕ) (at mode : ℕ) (p : Place
 pub record FirstPre (stream : List ℕ) (at count v : ℕ) : Type 0 where
   pub blank : T (blankFrom stream at)
   pub near : at ≤ farthest
-  pub few : count ≤ 4096
+  pub few : count ≤ numbers
   pub low : v ≤ count

@@ -18,6 +18,7 @@ use Rattle.mem_entries.specs.Entries.{keyAt}
 use Rattle.mem_names.specs.Uris.{uriText, UrisHold}
 use Rattle.mem_names.specs.Names.{NamesHold}
 use Rattle.mem_rows.specs.Rows.{Rows, placedAt, nameAt, withUri}
+use Rattle.mem_rows.specs.Valid.{Valid}
 use Rattle.mem_state.specs.declared.Core.{Core}
 use Rattle.mem_state.specs.Holds.{Bounded, Counts}
 use Rattle.mem_state.specs.Strung.{uriAdded, nameAdded, valueAdded, Lain, Joins, StringsJoin}
@@ -37,12 +38,12 @@ use Rattle.write_qname.proofs.Lain.{placedIn, lain-in, source-after}
 
 -- ---- rows whose counts are within the sizes
 
-pub few-rows : {c : Core} {w : Rows} → Bounded c → Counts c w → Few w
-few-rows b n =
+pub few-rows : {c : Core} {w : Rows} → Bounded c → Counts c w → Valid w → Few w
+few-rows b n v =
     record {
       uris = omega (arith, b .uris, n .uris);
       names = omega (arith, b .names, n .names);
-      values = omega (arith, b .values, n .values);
+      values = v .window .few;
     }
 
 few-uri : (b : Bool) {w : Rows} (y : Placed) → Few w → (b ≡ true → length (w .uris) < maxUris)
@@ -67,7 +68,7 @@ module _ {opening text work : List ℕ} {c : Core} (bounded : Bounded c) (uri : 
 
   uri-means : uris.UriMeans w with-uri (c .uris) (c .stored) (partAt text uri) u
   uri-means =
-      post .meant w (p .valid) (p .writable) (few-rows bounded (p .counts))
+      post .meant w (p .valid) (p .writable) (few-rows bounded (p .counts) (p .valid))
       (subst (λ n. UrisHold work (uriSource opening text) n (w .uris)) (sym (p .counts .uris))
       (p .holds .uris)) (uri .place)
 
@@ -98,7 +99,7 @@ module _ {opening text work : List ℕ} {c : Core} (bounded : Bounded c) (uri : 
 
     few-with : Few with-uri
     few-with =
-        few-uri (u .joins) (placedIn text uri) (few-rows bounded (p .counts))
+        few-uri (u .joins) (placedIn text uri) (few-rows bounded (p .counts) (p .valid))
         (λ j. omega (arith, post .bounds z .new j .1, p .counts .uris))
 
     names-held : NamesHold work (nameSource opening text) (c .names) (with-uri .names)

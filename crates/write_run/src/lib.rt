@@ -82,6 +82,8 @@ pub fn put_events(
                     top,
                     depth: after,
                     tag: r.tag,
+                    longest: r.longest,
+                    capacity: r.capacity,
                 };
             }
         }

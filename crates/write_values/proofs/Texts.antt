@@ -47,13 +47,13 @@ module _ {role : Role} (k : Alone role) where
   text-within : (t : Tables) (x : Text) → withinTables sizes t ≡ true
       → length (t .store) + length x ≤ maxStore → withinTables sizes (added t role x) ≡ true
   text-within t x w h =
-      let y = laid t x in within-none t x w h role (k .uris y) (k .names y) (k .values y)
+      let y = laid t x in within-none t x w h role (k .uris y) (k .names y) (k .values (t .values) y)
 
   text-joins : (w : Rows) (store x : Text)
       → added (tablesOf w store) role x ≡ tablesOf w (store ++ x)
   text-joins w store x =
       let y = laid (tablesOf w store) x in
-      nothing-joins w store x role (k .uris y) (k .names y) (k .values y)
+      nothing-joins w store x role (k .uris y) (k .names y) (k .values (tablesOf w store .values) y)
 
 -- ---- the tests
 

@@ -9,7 +9,8 @@ ghost use Rattle.read_field.specs.View.{alignmentOf};
 ghost use Rattle.write_field.specs.Written.{Put};
 ghost use Rattle.write_values.specs.Texts.{TextPre, TextPost};
 ghost use Rattle.write_values.specs.Values.{refusedAs, foundAs, literalAs};
-ghost use Rattle.write_values.specs.Values.{NewValuePre, NewValuePost, ValuePre, ValuePost};
+ghost use Rattle.write_values.specs.Values.{NewValuePre, NewValuePost, FormPre, FormPost};
+ghost use Rattle.write_values.specs.Values.{ValuePre, ValuePost};
 ghost use Rattle.write_values.specs.Values.{valueBits, PutValuePre};
 use mem_values::Form;
 use refusal::CHARACTER;
@@ -101,10 +102,19 @@ fn literal(stored: usize, n: usize, joins: bool, hash: u32) -> ValueJudged
     }
 }
 
-// A value that no partition has; whether it has only Chars is known.
-fn judge_new_value(x: &[u32], chars: bool, values: u32, stored: usize, h: u32) -> ValueJudged
+// A value that no partition has; whether it has only Chars is known. One that the settings keep out
+// of the tables joins none, and under a capacity one that joins needs no free row.
+fn judge_new_value(
+    x: &[u32],
+    chars: bool,
+    values: u32,
+    longest: u32,
+    capacity: u32,
+    stored: usize,
+    h: u32,
+) -> ValueJudged
     requires { ⌜ NewValuePre (now x) chars stored ⌝ }
-    ensures { λ r. ⌜ NewValuePost (now (x .entry)) values stored h r ⌝ }
+    ensures { λ r. ⌜ NewValuePost (now (x .entry)) values longest capacity stored h r ⌝ }
 {
     if MAX_STORE - stored < x.len() {
         return refused(LIMIT, stored);
@@ -112,44 +122,65 @@ fn judge_new_value(x: &[u32], chars: bool, values: u32, stored: usize, h: u32) -
     if !chars {
         return refused(CHARACTER, stored);
     }
-    if MAX_VALUES <= values as usize {
+    if !mem_values::joins(x.len(), longest, capacity) {
+        return literal(stored, x.len(), false, 0);
+    }
+    if (capacity == 0) & (MAX_VALUES <= values as usize) {
         return refused(LIMIT, stored);
     }
     literal(stored, x.len(), true, h)
 }
 
-// Judges a value of the name in a row: one search by text answers whether it is the name's own. An
-// empty one joins no table.
+// The form of a value, by one search among those that are not replaced.
+fn form_among(
+    text: &[u32],
+    x: &[u32],
+    h: u32,
+    owner: u32,
+    values: u32,
+    capacity: u32,
+    work: &[u32],
+) -> Form
+    requires { ⌜ FormPre (now work) values ⌝ }
+    ensures { λ r. ⌜
+        FormPost (now (work .entry)) (now (text .entry)) (now (x .entry)) h values capacity owner
+        r ⌝ }
+{
+    let low = mem_values::replaced(values, capacity);
+    let newer = mem_values::newest_numbers(values, capacity);
+    mem_values::form_of(work, text, x, h, values, low, newer, owner)
+}
+
+// Judges a value of the name in a row: one search by text answers whether it is the name's own.
 pub fn judge_value(
     text: &[u32],
     x: &[u32],
     owner: u32,
     values: u32,
+    longest: u32,
+    capacity: u32,
     stored: usize,
     work: &[u32],
 ) -> ValueJudged
-    requires { ⌜ ValuePre (now work) owner values stored ⌝ }
+    requires { ⌜ ValuePre (now work) owner values capacity stored ⌝ }
     ensures { λ r. ⌜
-        ValuePost (now (text .entry)) (now (x .entry)) owner values stored (now (work .entry)) r ⌝ }
+        ValuePost (now (text .entry)) (now (x .entry)) owner values longest capacity stored
+        (now (work .entry)) r ⌝ }
 {
     if MAX_STRING < x.len() {
         return refused(LIMIT, stored);
     }
     let w = mem_entries::weigh(x);
     let h = w.hash;
-    match mem_values::form_of(work, text, x, h, values, 0, values, owner) {
+    match form_among(text, x, h, owner, values, capacity, work) {
         Form::Local(i) => found(OWN, i, stored),
         Form::Global(i) => found(ALL, i, stored),
-        Form::Absent => {
-            if x.len() == 0 {
-                return literal(stored, 0, false, 0);
-            }
-            judge_new_value(x, w.chars, values, stored, h)
-        }
+        Form::Absent => judge_new_value(x, w.chars, values, longest, capacity, stored, h),
     }
 }
 
-// Writes a value: a hit among the name's own or among all, or the String, its length raised by 2.
+// Writes a value: a hit among the name's own, those replaced counted, or among all that are not
+// replaced; or the String, its length raised by 2.
 pub fn put_value(
     aligned: bool,
     stream: &mut [u8],
@@ -158,13 +189,14 @@ pub fn put_value(
     id: u32,
     owner: u32,
     values: u32,
+    capacity: u32,
     x: &[u32],
     work: &[u32],
 ) -> usize
     requires { ⌜ PutValuePre (now stream) at partition owner values (now x) (now work) ⌝ }
     ensures { λ r. ⌜
         Put (now (stream .entry)) at
-        (valueBits (now (work .entry)) partition id owner values (now (x .entry))
+        (valueBits (now (work .entry)) partition id owner values capacity (now (x .entry))
         (alignmentOf aligned)) (now (stream .exit)) r ⌝ }
 {
     if partition == OWN {
@@ -172,7 +204,8 @@ pub fn put_value(
         return write_partition::put_hit(aligned, stream, at, 0, among, id);
     }
     if partition == ALL {
-        return write_partition::put_hit(aligned, stream, at, 1, values, id);
+        let among = values - mem_values::replaced(values, capacity);
+        return write_partition::put_hit(aligned, stream, at, 1, among, id);
     }
     write_string::put_string(stream, at, 2, x)
 }

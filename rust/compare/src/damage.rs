@@ -89,6 +89,8 @@ pub enum StreamFault {
     UriNumber,
     NameNumber,
     LocalNumber,
+    /// A local number that was taken away.
+    TakenNumber,
     GlobalNumber,
     EmptyTable,
     NotFewestOctets,
@@ -117,6 +119,7 @@ impl StreamFault {
             StreamFault::UriNumber,
             StreamFault::NameNumber,
             StreamFault::LocalNumber,
+            StreamFault::TakenNumber,
             StreamFault::GlobalNumber,
             StreamFault::EmptyTable,
             StreamFault::NotFewestOctets,
@@ -192,10 +195,11 @@ pub fn faulty_stream(
     equal: Option<usize>,
 ) -> Option<FaultyStream> {
     let within = equal.filter(|_| rng.one_in(2));
-    let (fault, octets, number, index) = match rng.below(7) {
+    let (fault, octets, number, index) = match rng.below(8) {
         0 => loose_stream(rng, strict, events, within)?,
         1 => end_fault(rng, strict, within)?,
         2 => text_fault(rng, strict, events, within)?,
+        3 => taken_number(rng, strict, within)?,
         _ => field_fault(rng, strict, within)?,
     };
     let is_pair = equal == Some(index);
@@ -372,6 +376,26 @@ fn field_fault(rng: &mut Prng, strict: &Encoded, within: Option<usize>) -> Optio
     };
     field.shape = shape;
     Some((fault, faulty.octets(), number, index))
+}
+
+/// A local number that was taken away in place of one that is present.
+fn taken_number(rng: &mut Prng, strict: &Encoded, within: Option<usize>) -> Option<Drawn> {
+    let mut faulty = strict.clone();
+    let has_taken = |field: &&mut Field| {
+        !field.taken_numbers.is_empty() && within.is_none_or(|event| field.event == event)
+    };
+    let mut fields: Vec<&mut Field> = faulty.fields.iter_mut().filter(has_taken).collect();
+    if fields.is_empty() {
+        return None;
+    }
+    let at = rng.below(fields.len());
+    let field = &mut fields[at];
+    let index = field.event;
+    let number = *rng.pick(&field.taken_numbers);
+    if let Shape::Choice { value, .. } = &mut field.shape {
+        *value = number;
+    }
+    Some((StreamFault::TakenNumber, faulty.octets(), REFERENCE, index))
 }
 
 fn not_a_number(rng: &mut Prng, value: u32) -> (StreamFault, Shape, u32) {

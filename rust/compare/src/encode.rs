@@ -44,6 +44,8 @@ pub struct Field {
     pub shape: Shape,
     /// For a length: the numbers in its place that would ask for an entry of an empty table.
     pub empty_tables: Vec<u32>,
+    /// For a local number: those that were taken away.
+    pub taken_numbers: Vec<usize>,
 }
 
 /// Where the strict form has one choice and another would stand for the same.
@@ -91,6 +93,14 @@ pub enum Form {
     GlobalHit,
     ValueMiss,
     EmptyValue,
+    /// A value that joins no table, by its length or because none does.
+    ValueOutside,
+    /// A literal that replaces an entry.
+    Replacing,
+    /// A literal whose text was an entry and has been replaced.
+    ReplacedAgain,
+    /// A local number of a name that has lost some.
+    LocalHitBesideTaken,
     LearnedStartElement,
     LearnedAttribute,
     LearnedEndElement,
@@ -119,7 +129,7 @@ pub enum Form {
 }
 
 impl Form {
-    pub const ALL: [Form; 31] = [
+    pub const ALL: [Form; 35] = [
         Form::UriHit,
         Form::UriMiss,
         Form::NameHit,
@@ -128,6 +138,10 @@ impl Form {
         Form::GlobalHit,
         Form::ValueMiss,
         Form::EmptyValue,
+        Form::ValueOutside,
+        Form::Replacing,
+        Form::ReplacedAgain,
+        Form::LocalHitBesideTaken,
         Form::LearnedStartElement,
         Form::LearnedAttribute,
         Form::LearnedEndElement,
@@ -196,7 +210,7 @@ pub fn encode_loosely(settings: Settings, events: &[Event], taken: &[usize]) -> 
     }
     encoder.counts.uris = encoder.uris.len();
     encoder.counts.names = encoder.names.len();
-    encoder.counts.values = encoder.values.len();
+    encoder.counts.values = encoder.values.len() - encoder.first_present();
     encoder.counts.grammars = encoder.grammars.len();
     Encoded {
         settings,
@@ -233,7 +247,8 @@ struct Encoder {
     uris: Vec<Text>,
     /// A URI's number, and a local name.
     names: Vec<(usize, Text)>,
-    /// A name's number, and a value.
+    /// A name's number, and a value: all that ever joined. Present are the newest, as many as the
+    /// capacity allows.
     values: Vec<(usize, Text)>,
     /// By element name: learned productions of the start tag and of the content, the newest last.
     grammars: HashMap<usize, [Vec<Production>; 2]>,
@@ -298,6 +313,7 @@ impl Encoder {
             role,
             shape,
             empty_tables: Vec::new(),
+            taken_numbers: Vec::new(),
         });
     }
 
@@ -611,17 +627,39 @@ impl Encoder {
         count
     }
 
+    /// The most values that are present at once.
+    fn capacity(&self) -> usize {
+        let bound = self.settings.value_capacity.checked_sub(1);
+        bound.map_or(usize::MAX, |capacity| capacity as usize)
+    }
+
+    /// The place of the oldest value that is present.
+    fn first_present(&self) -> usize {
+        self.values.len().saturating_sub(self.capacity())
+    }
+
+    /// Whether a value joins the tables.
+    fn joins(&self, value: &[u32]) -> bool {
+        let bound = self.settings.value_length.checked_sub(1);
+        let longest = bound.map_or(usize::MAX, |length| length as usize);
+        !value.is_empty() && self.capacity() > 0 && value.len() <= longest
+    }
+
     fn value(&mut self, name: usize, value: &[u32]) {
+        let first = self.first_present();
+        let present = self.values.len() - first;
         let local: Vec<usize> = (0..self.values.len())
             .filter(|&k| self.values[k].0 == name)
             .collect();
-        let local_hit = local.iter().position(|&k| self.values[k].1 == value);
-        let global_hit = self.values.iter().position(|(_, known)| known == value);
+        let taken: Vec<usize> = (0..local.len()).filter(|&n| local[n] < first).collect();
+        let has_text = |k: usize| k >= first && self.values[k].1 == value;
+        let local_hit = local.iter().position(|&k| has_text(k));
+        let global_hit = (first..self.values.len()).find(|&k| has_text(k));
         let mut empty = Vec::new();
         if local.is_empty() {
             empty.push(0);
         }
-        if self.values.is_empty() {
+        if present == 0 {
             empty.push(1);
         }
         let mut literal = false;
@@ -635,27 +673,44 @@ impl Encoder {
         match (local_hit, global_hit) {
             (Some(at), _) if !literal && !global => {
                 self.forms.push(Form::LocalHit);
+                if !taken.is_empty() {
+                    self.forms.push(Form::LocalHitBesideTaken);
+                }
                 self.length(Role::ValueLength, 0, empty);
                 self.choice(Role::LocalValue, at, local.len());
+                if let Some(field) = self.fields.last_mut() {
+                    field.taken_numbers = taken;
+                }
             }
             (_, Some(at)) if !literal => {
                 self.forms.push(Form::GlobalHit);
                 self.length(Role::ValueLength, 1, empty);
-                self.choice(Role::GlobalValue, at, self.values.len());
+                self.choice(Role::GlobalValue, at % self.capacity(), present);
             }
-            _ => {
-                self.forms.push(if value.is_empty() {
-                    Form::EmptyValue
-                } else {
-                    Form::ValueMiss
-                });
-                self.length(Role::ValueLength, value.len() + 2, empty);
-                self.code_points(value);
-                if !value.is_empty() {
-                    self.values.push((name, value.to_vec()));
-                }
-            }
+            _ => self.literal_value(name, value, empty),
         }
+    }
+
+    fn literal_value(&mut self, name: usize, value: &[u32], empty_tables: Vec<u32>) {
+        let joins = self.joins(value);
+        let first = self.first_present();
+        self.forms.push(match (value.is_empty(), joins) {
+            (true, _) => Form::EmptyValue,
+            (false, false) => Form::ValueOutside,
+            (false, true) => Form::ValueMiss,
+        });
+        self.length(Role::ValueLength, value.len() + 2, empty_tables);
+        self.code_points(value);
+        if !joins {
+            return;
+        }
+        if self.values.len() - first == self.capacity() {
+            self.forms.push(Form::Replacing);
+        }
+        if self.values[..first].iter().any(|(_, known)| known == value) {
+            self.forms.push(Form::ReplacedAgain);
+        }
+        self.values.push((name, value.to_vec()));
     }
 }
 

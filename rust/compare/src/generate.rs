@@ -51,7 +51,34 @@ pub fn settings(rng: &mut Prng) -> Settings {
         comments: bits >> 2 & 1,
         instructions: bits >> 3 & 1,
         fragment: bits >> 4,
+        value_length: value_length(rng),
+        value_capacity: value_capacity(rng),
         ..Settings::BIT_PACKED
+    }
+}
+
+/// A bound of the values' length, one more in the number; most often none, or one that strings of
+/// [`random_text`] pass or meet.
+fn value_length(rng: &mut Prng) -> u32 {
+    match rng.below(12) {
+        0..=6 => 0,
+        7..=10 => rng.between(1, 5) as u32,
+        _ => *rng.pick(&[MAX_STRING as u32, MAX_STRING as u32 + 1, 1 << 31, u32::MAX]),
+    }
+}
+
+/// A bound of how many values there are, one more in the number; every other time none, or most
+/// often one that few texts turn over.
+fn value_capacity(rng: &mut Prng) -> u32 {
+    match rng.below(12) {
+        0..=5 => 0,
+        6..=9 => rng.between(1, 5) as u32,
+        10 => rng.between(6, 70) as u32,
+        _ => *rng.pick(&[
+            MAX_VALUES as u32 - 1,
+            MAX_VALUES as u32,
+            MAX_VALUES as u32 + 1,
+        ]),
     }
 }
 
@@ -170,6 +197,8 @@ fn pools(rng: &mut Prng) -> Pools {
 fn small(rng: &mut Prng, settings: Settings) -> Vec<Event> {
     let pools = pools(rng);
     let budget = match rng.below(4) {
+        // So that small tables turn over many times.
+        0 | 1 if settings.value_capacity > 0 => rng.between(60, 200),
         0 => rng.between(2, 6),
         1 => rng.between(6, 20),
         _ => rng.between(10, 60),

@@ -9,6 +9,7 @@ use std::sync::OnceLock;
 use plumethrift::lent::Sizes;
 
 use crate::event::{stored_strings, CELLS};
+use crate::sizes::MAX_VALUES;
 
 /// The sizes to lend, as the library states them. The ordinary implementation is held to the same.
 pub fn sizes() -> &'static Sizes {
@@ -69,8 +70,20 @@ impl Settings {
         ..Settings::BIT_PACKED
     };
 
-    /// For each number, the first that has no meaning. What has not landed has no meaning but as 0.
-    pub const FIRST_WITHOUT_MEANING: [u32; 10] = [2, 2, 2, 2, 2, 1, 1, 1, 1, 1];
+    /// For each number, the first that has no meaning; none where all have one. What has not landed
+    /// has no meaning but as 0.
+    pub const FIRST_WITHOUT_MEANING: [Option<u32>; 10] = [
+        Some(2),
+        Some(2),
+        Some(2),
+        Some(2),
+        Some(2),
+        None,
+        Some(MAX_VALUES as u32 + 2),
+        Some(1),
+        Some(1),
+        Some(1),
+    ];
 
     /// The ten numbers in their order.
     pub const fn from_numbers(numbers: [u32; 10]) -> Settings {
@@ -108,6 +121,22 @@ impl Settings {
         let mut numbers = self.numbers();
         numbers[place] = number;
         Settings::from_numbers(numbers)
+    }
+
+    /// With a bound of the values' length.
+    pub const fn with_value_length(self, length: u32) -> Settings {
+        Settings {
+            value_length: length + 1,
+            ..self
+        }
+    }
+
+    /// With a bound of how many values the tables hold.
+    pub const fn with_capacity(self, capacity: u32) -> Settings {
+        Settings {
+            value_capacity: capacity + 1,
+            ..self
+        }
     }
 
     /// Comments and instructions kept.

@@ -610,6 +610,7 @@ fn in_few_fields(encoded: Encoded) -> Encoded {
         role: Role::Header,
         shape,
         empty_tables: Vec::new(),
+        taken_numbers: Vec::new(),
     };
     let rest = bits % 8;
     let mut fields = Vec::new();
@@ -795,6 +796,7 @@ impl Parts {
                 role,
                 shape,
                 empty_tables: Vec::new(),
+                taken_numbers: Vec::new(),
             });
         }
         encoded.octets()

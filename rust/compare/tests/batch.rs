@@ -156,7 +156,7 @@ fn pieces_in_order() {
 fn settings_by_words() {
     let long = "00".repeat(16_385);
     let mut requests = Vec::new();
-    let words = ["fragment", "vmax", "vcap", "loose", "prefixes", "cap"];
+    let words = ["fragment", "vcap", "loose", "prefixes", "cap"];
     let numbers = [
         "4294967294",
         "4294967295",
@@ -166,10 +166,11 @@ fn settings_by_words() {
     for word in words {
         let first = match word {
             "fragment" => "2",
-            "vmax" | "vcap" | "cap" => "0",
+            "vcap" => "2049",
+            "cap" => "0",
             _ => "1",
         };
-        for number in [first, "2", "2049"].into_iter().chain(numbers) {
+        for number in [first, "2049"].into_iter().chain(numbers) {
             for stream in ["8001026100", &long, "-"] {
                 requests.push(format!("r 1 0 0 0 {word}={number} {stream}"));
             }

@@ -337,11 +337,12 @@ impl Run {
         self.write(other, list)?;
 
         let place = self.rng.below(10);
-        let first = Settings::FIRST_WITHOUT_MEANING[place];
-        let number = *self.rng.pick(&[first, 2, 3, 256, 1 << 16, u32::MAX]);
-        let bad = settings.with(place, number);
-        self.read_has(bad, octets, (SETTINGS, 0))?;
-        self.write_has(bad, list, (SETTINGS, 0))?;
+        if let Some(first) = Settings::FIRST_WITHOUT_MEANING[place] {
+            let number = *self.rng.pick(&[first, 2, 3, 256, 1 << 16, u32::MAX]);
+            let bad = settings.with(place, number.max(first));
+            self.read_has(bad, octets, (SETTINGS, 0))?;
+            self.write_has(bad, list, (SETTINGS, 0))?;
+        }
 
         let sizes = self.short_reader_sizes();
         let reply = self.both.read(settings, octets, sizes)?;

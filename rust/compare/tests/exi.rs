@@ -104,7 +104,7 @@ fn samples_that_are_refused() {
     refused(words, hyphen_at_the_end, "8 CHARACTER, event 1: ");
 }
 
-/// Flags that the library does not take yet are SETTINGS, and flags that there are none of no words.
+/// Numbers out of range are SETTINGS, and flags that there are none of no words.
 #[test]
 fn settings_without_a_meaning() {
     for word in ["--loose", "--prefixes", "--grammar-cap", "--cookie=2", "-x"] {
@@ -114,16 +114,43 @@ fn settings_without_a_meaning() {
         assert!(stderr.starts_with(&expected), "{stderr}");
         assert_eq!((status, stdout.as_str()), (Some(2), ""), "{word}");
     }
-    for words in ["--max-length 0", "--capacity 2048"] {
-        refused(
-            &format!("check {words} day-bit-packed.exi"),
-            b"",
-            "2 SETTINGS, event 0: ",
-        );
-    }
+    refused(
+        "check --capacity 2049 day-bit-packed.exi",
+        b"",
+        "2 SETTINGS, event 0: ",
+    );
     let (status, _, stderr) = exi("check --bit-packed --byte-aligned -", b"");
     assert!(stderr.contains("exclude each other"), "{stderr}");
     assert_eq!(status, Some(2));
+}
+
+/// Bounds of the value tables, 0 among them, and what is told where others are right.
+#[test]
+fn bounded_values() {
+    // <a> x y x, where each value takes the place of the one before.
+    let turning = b"\x80\x01\x02a\x03\x03x\x01\x01\x03y\x00\x03x\x01";
+    // <a> x x, where none joins a table.
+    let alone = b"\x80\x01\x02a\x03\x03x\x01\x01\x03x\x01";
+    let accepts = |words: &str, stream: &[u8]| {
+        let (status, stdout, stderr) = exi(&format!("check --byte-aligned {words} -"), stream);
+        assert!(stdout.starts_with("accepted: "), "{words}: {stderr}");
+        assert_eq!((status, stderr.as_str()), (Some(0), ""), "{words}");
+    };
+    accepts("--capacity 1", turning);
+    accepts("--capacity 0", alone);
+    accepts("--max-length 0", alone);
+    accepts("--max-length 0 --capacity 2048", alone);
+    refused("check --byte-aligned -", turning, "10 LOOSE, event 4: ");
+    refused("check --byte-aligned --capacity 2 -", turning, "10 LOOSE, event 4: ");
+    refused("check --byte-aligned --max-length 1 -", alone, "10 LOOSE, event 3: ");
+    let (_, _, stderr) = exi("check --capacity 1 -", turning);
+    assert!(
+        stderr.contains("\n  accepted with --byte-aligned --capacity 1\n"),
+        "{stderr}"
+    );
+    let (status, stdout, stderr) = exi("check --byte-aligned --capacity one -", turning);
+    assert!(stderr.starts_with("exi: word 4 is no number of 1 to 9 digits: one;"));
+    assert_eq!((status, stdout.as_str()), (Some(2), ""));
 }
 
 /// Words that do not fit, each with one line that says why.

@@ -23,6 +23,8 @@ const P3_ALL: &str = include_str!("../vectors/p3-all.txt");
 const P3_BASE: &str = include_str!("../vectors/p3-base.txt");
 const P3_EDGES: &str = include_str!("../vectors/p3-edges.txt");
 const P3_RANDOM: &str = include_str!("../vectors/p3-random.txt");
+const P5_EDGES: &str = include_str!("../vectors/p5-edges.txt");
+const P5_RANDOM: &str = include_str!("../vectors/p5-random.txt");
 const P6_ALL: &str = include_str!("../vectors/p6-all.txt");
 const P6_BASE: &str = include_str!("../vectors/p6-base.txt");
 const P6_EDGES: &str = include_str!("../vectors/p6-edges.txt");
@@ -36,7 +38,7 @@ const P12_RANDOM: &str = include_str!("../vectors/p12-random.txt");
 const CHANGED: [&str; 3] = [P2_BASE, P3_BASE, P6_BASE];
 
 /// The requests of document 02 that have landed, by their numbers. Each landing adds its own.
-const LANDED: [u32; 6] = [1, 2, 3, 6, 8, 12];
+const LANDED: [u32; 7] = [1, 2, 3, 5, 6, 8, 12];
 
 /// The lines of a file, each as a request and its answer.
 fn lines(file: &str) -> impl Iterator<Item = (&str, &str)> {
@@ -114,6 +116,13 @@ fn equal_attributes() {
     run(lines(P3_ALL), 28);
 }
 
+/// P5: bounded value tables.
+#[test]
+fn bounded_values() {
+    run(lines(P5_EDGES), 258);
+    run(lines(P5_RANDOM), 600);
+}
+
 /// P6: names, targets, and texts of comments and instructions.
 #[test]
 fn names() {
@@ -169,9 +178,11 @@ fn asks_for(request: &str) -> Vec<u32> {
     all
 }
 
-/// Whether all that a line of `cross.txt` asks for has landed.
+/// Whether all that a line of `cross.txt` asks for has landed: what it names, and its events, which
+/// may have prefixes (P11) without the setting.
 fn has_landed(request: &str) -> bool {
-    asks_for(request).iter().all(|it| LANDED.contains(it))
+    let is_landed = |it: &u32| LANDED.contains(it);
+    Request::parse(request).is_ok() && asks_for(request).iter().all(is_landed)
 }
 
 /// Settings of several requests in one line: each line is put once all that it names has landed.
@@ -184,8 +195,8 @@ fn settings_of_several_requests() {
     };
     let (now, later): (Vec<_>, Vec<_>) =
         lines(CROSS).partition(|(request, answer)| at_once(request, answer) || has_landed(request));
-    assert_eq!((now.len(), later.len()), (21, 769));
-    run(now.into_iter(), 21);
+    assert_eq!((now.len(), later.len()), (80, 710));
+    run(now.into_iter(), 80);
 }
 
 /// The requests of `cross.txt` that are understood, whatever settings they name: those to read,
@@ -201,7 +212,8 @@ const MOST: &str = "18446744073709551615";
 fn requests_are_printed_as_they_stand() {
     let files = [
         EDGES, RANDOM, ROOM, P1_EDGES, P1_RANDOM, P1_ALL, P2_EDGES, P2_RANDOM, P2_ALL, P3_EDGES,
-        P3_RANDOM, P3_ALL, P6_EDGES, P6_RANDOM, P6_ALL, P8_EDGES, P8_RANDOM, P12_EDGES, P12_RANDOM,
+        P3_RANDOM, P3_ALL, P5_EDGES, P5_RANDOM, P6_EDGES, P6_RANDOM, P6_ALL, P8_EDGES, P8_RANDOM,
+        P12_EDGES, P12_RANDOM,
     ];
     let all = files.into_iter().flat_map(lines);
     let mut printed = 0;
@@ -215,7 +227,7 @@ fn requests_are_printed_as_they_stand() {
             printed += 1;
         }
     }
-    assert_eq!(printed, 7_203);
+    assert_eq!(printed, 8_061);
 }
 
 /// What a setting asks for that has not landed is SETTINGS before anything else; but ROOM comes
@@ -239,5 +251,5 @@ fn settings_that_have_not_landed() {
         }
         asked += 1;
     }
-    assert_eq!(asked, 609);
+    assert_eq!(asked, 547);
 }

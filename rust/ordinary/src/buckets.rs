@@ -7,8 +7,16 @@ pub struct Buckets<const COUNT: usize> {
 }
 
 /// An entry's number and 1; 0 is none.
-#[derive(Clone, Copy)]
+#[derive(Clone, Copy, PartialEq, Eq)]
 pub struct Link(u16);
+
+impl Link {
+    pub const NONE: Link = Link(0);
+
+    fn to(number: usize) -> Link {
+        Link(number as u16 + 1)
+    }
+}
 
 impl<const COUNT: usize> Buckets<COUNT> {
     pub const fn new() -> Self {
@@ -28,6 +36,26 @@ impl<const COUNT: usize> Buckets<COUNT> {
         let older = self.newest[bucket];
         self.newest[bucket] = Link(number as u16 + 1);
         older
+    }
+
+    /// Takes the oldest entry of a bucket out of it; `link` is the one that an entry keeps. Gives
+    /// the entry that is the oldest then, whose link has to be none.
+    pub fn remove_oldest(
+        &mut self,
+        bucket: usize,
+        number: usize,
+        link: impl Fn(usize) -> Link,
+    ) -> Option<usize> {
+        let oldest = Link::to(number);
+        if self.newest[bucket] == oldest {
+            self.newest[bucket] = Link::NONE;
+            return None;
+        }
+        let mut at = usize::from(self.newest[bucket].0 - 1);
+        while link(at) != oldest {
+            at = usize::from(link(at).0 - 1);
+        }
+        Some(at)
     }
 
     /// The newest entry in a bucket for which `is_it` holds; `link` is the one that it keeps.

@@ -60,7 +60,7 @@ fn run(
     }
     let mut reader = Reader {
         bits: BitReader::new(stream, options.alignment),
-        strings: StringTable::new(),
+        strings: StringTable::new(options.values),
         grammars: Grammars::new(&options),
         events,
         complete,
@@ -203,7 +203,8 @@ impl Reader<'_> {
                 let local = self.strings.local_values(owner);
                 let hit = self.bits.choice(local.len())?;
                 let id = *local.get(hit).ok_or(Refusal::Reference)?;
-                Ok(self.strings.values()[usize::from(id)].text)
+                let value = self.strings.values().get(usize::from(id));
+                Ok(value.ok_or(Refusal::Reference)?.text)
             }
             1 => {
                 let global = self.strings.values();
@@ -216,7 +217,7 @@ impl Reader<'_> {
             }
             length => {
                 let text = self.literal(length - 2)?;
-                if !text.is_empty() {
+                if self.strings.takes_value(text.length as usize) {
                     match self.strings.find_value(self.text, text.of(self.text)) {
                         Ok(_) => return Err(Refusal::Loose),
                         Err(hash) => self.strings.add_value(owner, text, hash)?,

@@ -1,4 +1,5 @@
 use crate::refusal::Refusal;
+use crate::sizes::MAX_VALUES;
 
 /// The settings as numbers. A bound n is n + 1, and 0 is none.
 #[derive(Clone, Copy, Debug, PartialEq, Eq, Default)]
@@ -13,12 +14,12 @@ pub struct Settings {
     pub instructions: u32,
     /// 1 for fragments: any number of elements, and not one root.
     pub fragment: u32,
-    /// The longest value that joins the tables; this and all below are not done yet, and have to
-    /// be 0.
+    /// The longest value that joins the tables.
     pub value_length: u32,
     /// How many values the tables hold.
     pub value_capacity: u32,
-    /// Whether forms are taken that are not strict.
+    /// Whether forms are taken that are not strict; this and all below are not done yet, and have
+    /// to be 0.
     pub loose: u32,
     /// Whether prefixes are kept.
     pub prefixes: u32,
@@ -40,6 +41,18 @@ pub struct Options {
     pub comments: bool,
     pub instructions: bool,
     pub fragment: bool,
+    pub values: ValueBounds,
+}
+
+/// Which values join the tables, and how many of them.
+#[derive(Clone, Copy)]
+pub struct ValueBounds {
+    /// The longest that joins; 0 if none does.
+    pub longest: u32,
+    /// The most that are present at once.
+    pub capacity: u32,
+    /// Whether the oldest is replaced where there are so many; else one more is refused.
+    pub replaces: bool,
 }
 
 impl Options {
@@ -58,14 +71,7 @@ impl TryFrom<Settings> for Options {
     type Error = Refusal;
 
     fn try_from(s: Settings) -> Result<Self, Refusal> {
-        let not_done = [
-            s.value_length,
-            s.value_capacity,
-            s.loose,
-            s.prefixes,
-            s.grammar_cap,
-        ];
-        if not_done != [0; 5] {
+        if [s.loose, s.prefixes, s.grammar_cap] != [0; 3] {
             return Err(Refusal::Settings);
         }
         let alignment = if flag(s.alignment)? {
@@ -79,7 +85,32 @@ impl TryFrom<Settings> for Options {
             comments: flag(s.comments)?,
             instructions: flag(s.instructions)?,
             fragment: flag(s.fragment)?,
+            values: value_bounds(s.value_length, s.value_capacity)?,
         })
+    }
+}
+
+/// From the two numbers: without a bound the longest is longer than any string.
+fn value_bounds(length: u32, capacity: u32) -> Result<ValueBounds, Refusal> {
+    const MOST: u32 = MAX_VALUES as u32;
+    let longest = length.wrapping_sub(1);
+    match capacity {
+        0 => Ok(ValueBounds {
+            longest,
+            capacity: MOST,
+            replaces: false,
+        }),
+        1 => Ok(ValueBounds {
+            longest: 0,
+            capacity: 0,
+            replaces: true,
+        }),
+        n if n - 1 <= MOST => Ok(ValueBounds {
+            longest,
+            capacity: n - 1,
+            replaces: true,
+        }),
+        _ => Err(Refusal::Settings),
     }
 }
 

@@ -4,7 +4,8 @@
 
 use crate::buckets::{hash, Buckets, Link};
 use crate::refusal::Refusal;
-use crate::sizes::{MAX_NAMES, MAX_URIS, MAX_VALUES};
+use crate::settings::ValueBounds;
+use crate::sizes::{MAX_NAMES, MAX_URIS};
 use crate::text::Span;
 
 /// What every text store begins with: the initial URIs, then the initial local names.
@@ -74,7 +75,7 @@ struct Name {
     /// The compact identifier among the local names of the URI.
     local_id: usize,
     text: Span,
-    /// Global identifiers of the values in the local partition of this name.
+    /// Global identifiers of the values in the local partition of this name, or [`TAKEN`].
     values: Vec<u16>,
     next_in_bucket: Link,
 }
@@ -85,8 +86,12 @@ pub struct Value {
     pub text: Span,
     pub owner: NameId,
     pub local_id: usize,
+    bucket: u16,
     next_in_bucket: Link,
 }
+
+/// In place of a global identifier: the value has been replaced.
+const TAKEN: u16 = u16::MAX;
 
 type ValueBuckets = Buckets<1_024>;
 
@@ -105,17 +110,22 @@ pub struct StringTable {
     names_by_text: Buckets<128>,
     values: Vec<Value>,
     values_by_text: ValueBuckets,
+    bounds: ValueBounds,
+    /// The oldest value, which is the next to be replaced.
+    oldest_value: u32,
 }
 
 impl StringTable {
     /// The initial entries, over a store that begins with [`INITIAL_TEXT`].
-    pub fn new() -> Self {
+    pub fn new(bounds: ValueBounds) -> Self {
         let mut table = StringTable {
             uris: Vec::with_capacity(4),
             names: Vec::with_capacity(16),
             names_by_text: Buckets::new(),
             values: Vec::new(),
             values_by_text: ValueBuckets::new(),
+            bounds,
+            oldest_value: 0,
         };
         let mut place = 0;
         let mut next = |length| {
@@ -227,12 +237,18 @@ impl StringTable {
         (self.uris[name.uri.index()].text, name.text)
     }
 
-    /// All values, by global identifier.
+    /// Whether values of this length join the tables: not empty ones, and none that is too long.
+    pub fn takes_value(&self, length: usize) -> bool {
+        (length as u32).wrapping_sub(1) < self.bounds.longest
+    }
+
+    /// All values that are present, by global identifier.
     pub fn values(&self) -> &[Value] {
         &self.values
     }
 
-    /// Global identifiers of the values local to a name, by local identifier.
+    /// Global identifiers of the values local to a name, by local identifier; of one that has been
+    /// replaced a number that is none.
     pub fn local_values(&self, name: NameId) -> &[u16] {
         &self.names[name.index()].values
     }
@@ -248,21 +264,56 @@ impl StringTable {
         found.ok_or(hash)
     }
 
-    /// Adds a value to the global partition and to the local one of `owner`.
+    /// Adds a value to the global partition and to the local one of `owner`. It has to be one that
+    /// the tables take, and replaces the oldest where they are full.
+    #[inline(always)]
     pub fn add_value(&mut self, owner: NameId, text: Span, hash: u32) -> Result<(), Refusal> {
         let id = self.values.len();
-        if id == MAX_VALUES {
+        if id == self.bounds.capacity as usize {
+            return self.replace_value(owner, text, hash);
+        }
+        let value = self.new_value(id, owner, text, hash);
+        self.values.push(value);
+        Ok(())
+    }
+
+    #[inline(never)]
+    fn replace_value(&mut self, owner: NameId, text: Span, hash: u32) -> Result<(), Refusal> {
+        if !self.bounds.replaces {
             return Err(Refusal::Limit);
         }
+        let id = self.oldest_value as usize;
+        let old = self.values[id];
+        self.names[old.owner.index()].values[old.local_id] = TAKEN;
+        let last = self
+            .values_by_text
+            .remove_oldest(usize::from(old.bucket), id, |id| {
+                self.values[id].next_in_bucket
+            });
+        if let Some(last) = last {
+            self.values[last].next_in_bucket = Link::NONE;
+        }
+        self.values[id] = self.new_value(id, owner, text, hash);
+        self.oldest_value += 1;
+        if self.oldest_value == self.bounds.capacity {
+            self.oldest_value = 0;
+        }
+        Ok(())
+    }
+
+    /// Gives a value the next local number, and puts it into its bucket.
+    #[inline(always)]
+    fn new_value(&mut self, id: usize, owner: NameId, text: Span, hash: u32) -> Value {
         let local = &mut self.names[owner.index()].values;
-        self.values.push(Value {
+        let local_id = local.len();
+        local.push(id as u16);
+        Value {
             text,
             owner,
-            local_id: local.len(),
+            local_id,
+            bucket: ValueBuckets::bucket(hash) as u16,
             next_in_bucket: self.values_by_text.add(hash, id),
-        });
-        local.push(id as u16);
-        Ok(())
+        }
     }
 }
 

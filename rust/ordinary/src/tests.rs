@@ -7,6 +7,7 @@ mod fragments;
 mod names;
 mod packets;
 mod readings;
+mod values;
 
 /// Work memory that is asked for.
 const WORK: usize = 100;
@@ -685,15 +686,9 @@ fn room_settings_and_length_in_this_order() {
         settings(0, 0, 0, 3),
     ];
     for number in [1, 2, 2_049, u32::MAX] {
-        for place in 0..5 {
+        for place in 0..3 {
             let mut s = BYTES;
-            *[
-                &mut s.value_length,
-                &mut s.value_capacity,
-                &mut s.loose,
-                &mut s.prefixes,
-                &mut s.grammar_cap,
-            ][place] = number;
+            *[&mut s.loose, &mut s.prefixes, &mut s.grammar_cap][place] = number;
             all.push(s);
         }
     }

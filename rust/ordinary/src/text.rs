@@ -13,10 +13,6 @@ impl Span {
         }
     }
 
-    pub fn is_empty(self) -> bool {
-        self.length == 0
-    }
-
     /// The code points, if all of them lie inside the store.
     pub fn get(self, store: &[u32]) -> Option<&[u32]> {
         store

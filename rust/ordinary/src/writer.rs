@@ -20,7 +20,7 @@ pub fn write(
     store.extend_from_slice(&INITIAL_TEXT);
     let mut writer = Writer {
         bits: BitWriter::new(octets, options.alignment),
-        strings: StringTable::new(),
+        strings: StringTable::new(options.values),
         grammars: Grammars::new(&options),
         text,
         store,
@@ -198,9 +198,8 @@ impl<'a> Writer<'a> {
     }
 
     fn value(&mut self, owner: NameId, text: &[u32]) -> Result<(), Refusal> {
-        if text.is_empty() {
-            self.bits.unsigned(2);
-            return Ok(());
+        if !self.strings.takes_value(text.len()) {
+            return self.value_outside_the_tables(text);
         }
         match self.strings.find_value(&self.store, text) {
             Ok(id) => {
@@ -221,6 +220,15 @@ impl<'a> Writer<'a> {
                 self.strings.add_value(owner, text, hash)
             }
         }
+    }
+
+    #[inline(never)]
+    fn value_outside_the_tables(&mut self, text: &[u32]) -> Result<(), Refusal> {
+        if text.is_empty() {
+            self.bits.unsigned(2);
+            return Ok(());
+        }
+        self.literal(text, 2).map(|_| ())
     }
 
     /// Writes a text, its length raised by `raise`, and lays it at the end of the store.

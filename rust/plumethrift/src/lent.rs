@@ -55,7 +55,7 @@ pub const WRITER_WORK_CELLS: usize = 18_432;
 pub const HELD_OCTETS: usize = 16_384;
 
 /// Words of 64 bits in a [`ReceiverRecord`].
-pub const RECEIVER_WORDS: usize = 44;
+pub const RECEIVER_WORDS: usize = 45;
 
 /// Stamps, and as many movements, to lend where readings are taken out, at least; also the most
 /// readings that there are in one list.
@@ -69,9 +69,9 @@ pub const MAX_MOVEMENT: i32 = 20_000;
 
 /// Settings of a stream, as numbers. A number other than those named is refused as SETTINGS.
 ///
-/// The default, all zero, is bit-packed, no cookie, nothing kept; of the last six numbers no other
-/// than 0 has a meaning yet. Value length, value capacity and grammar cap are bounds: 0 is none,
-/// and a bound n is n + 1. [`Settings`](crate::Settings) are the same in types.
+/// The default, all zero, is bit-packed, no cookie, nothing kept, no bounds; of the last three
+/// numbers no other than 0 has a meaning yet. Value length, value capacity and grammar cap are
+/// bounds: 0 is none, and a bound n is n + 1. [`Settings`](crate::Settings) are the same in types.
 #[repr(C)]
 #[derive(Clone, Copy, Debug, PartialEq, Eq, Default)]
 pub struct SettingNumbers {
@@ -85,9 +85,10 @@ pub struct SettingNumbers {
     pub instructions: u32,
     /// 1 for a fragment, with elements in any number; 0 for a document, with one root.
     pub fragment: u32,
-    /// 0, values of any length join the tables.
+    /// n + 1, no value of more than n code points joins the tables; 0, values of any length do.
     pub value_length: u32,
-    /// 0, no value in the tables is replaced.
+    /// n + 1, n at most 2,048: at most n values are in the tables, and the oldest are replaced; 0,
+    /// none is.
     pub value_capacity: u32,
     /// 0, the reader takes strict forms alone.
     pub loose: u32,

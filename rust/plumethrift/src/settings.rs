@@ -57,7 +57,7 @@ impl FromStr for Alignment {
 /// assert_eq!(settings.numbers().comments, 1);
 /// ```
 ///
-/// The last five fields are for what this version does not do: reader and writer refuse any other
+/// The last three fields are for what this version does not do: reader and writer refuse any other
 /// than the default as [`Refusal::Settings`](crate::Refusal::Settings).
 #[derive(Clone, Copy, Debug, Default, PartialEq, Eq, Hash)]
 pub struct Settings {
@@ -71,9 +71,10 @@ pub struct Settings {
     pub instructions: bool,
     /// A fragment: any number of elements, none too, and not one root.
     pub fragment: bool,
-    /// Values with more code points than this join no table. Not in this version.
+    /// Values with more code points than this join no table: they go out as literals each time.
     pub value_length: Option<u32>,
-    /// How many values the tables hold; the oldest are replaced. Not in this version.
+    /// How many values the tables hold, at most 2,048; where they are full, the oldest is replaced.
+    /// Without a bound there are 2,048, and one more is refused.
     pub value_capacity: Option<u32>,
     /// The reader also takes forms that are not strict. Not in this version.
     pub loose: bool,

@@ -229,27 +229,30 @@ int main(void) {
         "comments = 2",
         "instructions = 2",
         "fragment = 2",
-        "value_length = PLUMETHRIFT_BOUND(0)",
-        "value_length = PLUMETHRIFT_BOUND(UINT32_MAX)",
-        "value_capacity = PLUMETHRIFT_BOUND(0)",
-        "value_capacity = PLUMETHRIFT_BOUND(2048)",
+        "value_capacity = PLUMETHRIFT_BOUND(2049)",
         "value_capacity = PLUMETHRIFT_BOUND(UINT32_MAX)",
         "loose = 1",
         "prefixes = 1",
         "grammar_cap = PLUMETHRIFT_BOUND(0)",
         "grammar_cap = PLUMETHRIFT_BOUND(UINT32_MAX)",
     ];
+    let good = [
+        "value_length = PLUMETHRIFT_BOUND(0)",
+        "value_length = PLUMETHRIFT_BOUND(UINT32_MAX)",
+        "value_capacity = PLUMETHRIFT_BOUND(0)",
+        "value_capacity = PLUMETHRIFT_BOUND(2048)",
+        "value_capacity = PLUMETHRIFT_UNBOUNDED",
+    ];
     let mut source = String::from(CALLS);
-    for member in members {
+    for member in members.iter().chain(&good) {
         source += &format!("  ask((plumethrift_settings){{.{member}}});\n");
     }
-    source +=
-        "  ask((plumethrift_settings){.value_capacity = PLUMETHRIFT_UNBOUNDED});\n  return 0;\n}\n";
+    source += "  return 0;\n}\n";
 
     let file = Path::new(env!("CARGO_TARGET_TMPDIR")).join("settings.c");
     fs::write(&file, source).unwrap();
     let output = run(&mut Command::new(program(&file)), &[]);
-    let expected = "2 2\n".repeat(members.len()) + "3 14\n";
+    let expected = "2 2\n".repeat(members.len()) + &"3 14\n".repeat(good.len());
     assert_eq!(text(&output.stdout), expected);
     assert_eq!(output.status.code(), Some(0));
 }

@@ -192,12 +192,18 @@ fn room_is_judged_part_by_part() {
 }
 
 /// Each settings number is judged in its place, before the length of the stream: the first five
-/// are at most 1, the others 0.
+/// are at most 1, a capacity at most 2,048, with 1 added, the last three 0. All lengths have a
+/// meaning.
 #[test]
 fn settings_without_a_meaning() {
     for place in 0..10 {
-        let first = if place < 5 { 2 } else { 1 };
-        for bad in [first, 2, 3, 256, 65_536, u32::MAX] {
+        let first = match place {
+            0..5 => 2,
+            5 => continue,
+            6 => 2_050,
+            _ => 1,
+        };
+        for bad in [first, 2, 3, 256, 65_536, u32::MAX].map(|bad| bad.max(first)) {
             let mut numbers = [1, 0, 0, 0, 0, 0, 0, 0, 0, 0];
             numbers[place] = bad;
             let s = settings(numbers);

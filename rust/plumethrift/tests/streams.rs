@@ -104,6 +104,36 @@ fn fragments() {
     });
 }
 
+/// A table of two values, whose third replaces the first; and values that join none.
+#[test]
+fn bounded_values() {
+    let all = |texts: &[&str], list: &mut EventList| {
+        list.start_element("", "a");
+        for text in texts {
+            list.characters(text);
+        }
+        list.end_element();
+    };
+    let two = Settings {
+        value_capacity: Some(2),
+        ..BYTE_ALIGNED
+    };
+    let stream = [
+        0x80, 0x01, 0x02, 0x61, 0x03, 0x03, 0x78, 0x01, 0x01, 0x03, 0x79, 0x00, 0x03, 0x7A, 0x00,
+        0x00, 0x02, 0x01,
+    ];
+    both_ways(two, &stream, |list| all(&["x", "y", "z", "z"], list));
+    let short = Settings {
+        value_length: Some(1),
+        ..BYTE_ALIGNED
+    };
+    let stream = [
+        0x80, 0x01, 0x02, 0x61, 0x03, 0x04, 0x78, 0x79, 0x01, 0x01, 0x04, 0x78, 0x79, 0x00, 0x03,
+        0x78, 0x00, 0x00, 0x01,
+    ];
+    both_ways(short, &stream, |list| all(&["xy", "xy", "x", "x"], list));
+}
+
 #[test]
 fn k5_an_attribute() {
     let stream = [

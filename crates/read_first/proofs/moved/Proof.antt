@@ -1,4 +1,4 @@
-use Rattle.spec_exi.specs.Sizes.{maxUris, maxNames, maxValues, maxLearned, maxGrammars}
+use Rattle.spec_exi.specs.Sizes.{maxUris, maxNames, maxStore, maxLearned, maxGrammars}
 use native.Mathlib.Omega.{arith}
 use borrow.Author.Needs.{needs}
 use Rattle.read_first.proofs.moved.Statement.{statement}
@@ -26,10 +26,10 @@ one-requires-3 : tie.Need-one-requires-3
 one-requires-3 c κs = search needs
 
 add-t17 : tie.Need-add-t17
-unfolding maxValues
+unfolding maxStore
 add-t17 c =
     let pre = c .before .before .before .before .before .before .pre in
-    omega (arith, pre .values, c .before .one3 .ensures .most)
+    omega (arith, pre .values, pre .stored, c .before .one3 .ensures .most)
 
 one-requires-4 : tie.Need-one-requires-4
 one-requires-4 c κs = search needs

@@ -1,4 +1,4 @@
-use Rattle.spec_exi.specs.Sizes.{maxValues, maxGrammars}
+use Rattle.spec_exi.specs.Sizes.{maxStore, maxGrammars}
 use native.Mathlib.Omega.{arith}
 use borrow.Author.Needs.{needs}
 use Rattle.read_known.proofs.moved_on.Statement.{statement}
@@ -8,8 +8,10 @@ one-requires : tie.Need-one-requires
 one-requires c κs = search needs
 
 add-t11 : tie.Need-add-t11
-unfolding maxValues
-add-t11 c = omega (arith, c .before .before .pre .values, c .before .one .ensures .most)
+unfolding maxStore
+add-t11 c =
+    let pre = c .before .before .pre in
+    omega (arith, pre .values, pre .stored, c .before .one .ensures .most)
 
 one-requires-2 : tie.Need-one-requires-2
 one-requires-2 c κs = search needs

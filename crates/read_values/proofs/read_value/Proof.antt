@@ -30,7 +30,7 @@ returns c = (
   value-own (c .before .before .before .before .before .before .before .before .before
       .pre) (c .before .before .before .before .before .unsigned .ensures)
       (c .before .before .before .value .given .1) (c .before .if1 .taken)
-      (c .own-value .ensures .0 _),
+      (c .own-value .ensures .0 _ _),
   c .own-value .ensures .1 _,
 )
 
@@ -46,7 +46,7 @@ returns-2 c = (
       (c .before .before .before .before .before .before .before .before .before .before .pre)
       (c .before .before .before .before .before .before .unsigned .ensures)
       (c .before .before .before .before .value .given .1) (c .before .if2 .taken)
-      (c .any-value .ensures .0 _),
+      (c .any-value .ensures .0 _ _),
   c .any-value .ensures .1 _,
 )
 

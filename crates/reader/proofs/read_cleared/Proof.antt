@@ -2,6 +2,7 @@
 use denote.Ref.{now}
 use Rattle.spec_exi.specs.Sizes.{maxStream, maxEvents, maxStore, readerWork, eventCells}
 use Rattle.reader.proofs.Stream.{no-room, no-meaning, too-long, stream-asks, stream-answered}
+use Rattle.reader.proofs.Stream.{capacity-asks}
 use borrow.Author.Needs.{needs}
 use Rattle.reader.proofs.read_cleared.Statement.{statement}
 use Rattle.reader.proofs.read_cleared.Tie as tie
@@ -55,13 +56,20 @@ settings-of-requires c κs = search needs
 read-stream-requires : tie.Need-read-stream-requires
 unfolding eventCells maxEvents maxStore readerWork maxStream
 read-stream-requires c κs =
-    let if3 = c .before .before .before .before in
+    let settings-of = c .before .before .before in
+    let if3 = settings-of .before in
     let if2 = if3 .before in
     let are-meaningful = if2 .before in
     let if1 = are-meaningful .before in
     let start = if1 .before .before .before .before .before in
-    stream-asks (start .args .s) (now (start .args .stream)) (now (start .args .work)) (start .pre)
-    (if1 .if1 .left) (are-meaningful .are-meaningful .ensures) (if2 .if2 .left) (if3 .if3 .left)
+    (
+      stream-asks (start .args .s) (now (start .args .stream)) (now (start .args .work))
+          (start .pre) (if1 .if1 .left) (are-meaningful .are-meaningful .ensures) (if2 .if2 .left)
+          (if3 .if3 .left),
+      capacity-asks (start .args .s) (now (start .args .stream)) (now (start .args .work))
+          (start .pre) (if1 .if1 .left) (are-meaningful .are-meaningful .ensures) (if2 .if2 .left)
+          (if3 .if3 .left) (settings-of .settings-of .ensures),
+    )
 
 same-length : tie.Need-same-length
 same-length c = search needs

@@ -6,7 +6,7 @@ use Rattle.mem_initial.specs.Initial.{startRows}
 use Rattle.open_elements.specs.Opened.{noneOpen}
 use Rattle.reader.proofs.Stream.{header-refused, header-inside, header-passed, filled-as}
 use Rattle.reader.proofs.Start.{counts-ask, rows-ask, text-asks, events-ask, body-ready}
-use Rattle.reader.proofs.Start.{body-answer}
+use Rattle.reader.proofs.Start.{body-answer, bounds-from}
 use Rattle.reader.proofs.read_stream.Statement.{statement}
 use Rattle.reader.proofs.read_stream.Tie as tie
 
@@ -21,26 +21,26 @@ returns c =
     let if1 = c .before in
     let read-header = if1 .before .before in
     let start = read-header .before .before .before .before .before in
-    header-refused (settingsFrom (start .args .o)) (read-header .read-header .ensures) ((start .pre)
+    header-refused (settingsFrom (start .args .o)) (read-header .read-header .ensures) ((start .pre .0)
     .cleared) (if1 .if1 .taken) (c .refused .ensures)
 
 clear-counts-requires : tie.Need-clear-counts-requires
 clear-counts-requires c κs =
     let start = c .before .before .before .before .before .before .before .before in
-    counts-ask (start .pre)
+    counts-ask (start .pre .0)
 
 lay-rows-requires : tie.Need-lay-rows-requires
 lay-rows-requires c κs =
     let work = c .before .before in
     let start = work .before .before .before .before .before .before .before .before .before .before
     in
-    rows-ask (start .pre) (work .work .given)
+    rows-ask (start .pre .0) (work .work .given)
 
 lay-text-requires : tie.Need-lay-text-requires
 lay-text-requires c κs =
     let start = c .before .before .before .before .before .before .before .before .before .before
     .before .before .before .before .before .before in
-    text-asks (start .pre)
+    text-asks (start .pre .0)
 
 start-requires : tie.Need-start-requires
 start-requires c κs = search needs
@@ -62,10 +62,11 @@ read-events-requires c κs =
     let read-header = if1 .before .before in
     let start′ = read-header .before .before .before .before .before in
     let begins = (none-open .none-open .ensures ∙ ap noneOpen (start .start .ensures)) in
-    events-ask (start′ .pre) (read-header .read-header .result .at) (clear-counts .clear-counts
+    events-ask (start′ .pre .0) (read-header .read-header .result .at) (start′ .args .o .longest)
+    (start′ .args .o .capacity) (clear-counts .clear-counts
     .ensures) (lay-rows .lay-rows .ensures) (lay-text .lay-text .ensures) begins (work .work .given)
     (work2 .work2 .given) (text .text .given) (header-inside (settingsFrom (start′ .args .o))
-    (read-header .read-header .ensures) (if1 .if1 .left))
+    (read-header .read-header .ensures) (if1 .if1 .left)) (start′ .pre .1)
 
 same-length : tie.Need-same-length
 same-length c =
@@ -101,13 +102,16 @@ returns-2 c =
     let read-header = if1 .before .before in
     let start′ = read-header .before .before .before .before .before in
     let begins = (none-open .none-open .ensures ∙ ap noneOpen (start .start .ensures)) in
-    filled-as (body-answer (start′ .pre) (read-header .read-header .result .at) (clear-counts
+    filled-as (body-answer (start′ .pre .0) (read-header .read-header .result .at) (start′ .args .o .longest)
+    (start′ .args .o .capacity) (clear-counts
     .clear-counts .ensures) (lay-rows .lay-rows .ensures) (lay-text .lay-text .ensures) begins (work
-    .work .given) (work2 .work2 .given) (text .text .given) (settingsFrom (start′ .args .o)) ∙
+    .work .given) (work2 .work2 .given) (text .text .given) (settingsFrom (start′ .args .o))
+    (bounds-from (start′ .args .o)) ∙
     header-passed (settingsFrom (start′ .args .o)) (read-header .read-header .ensures) (if1 .if1
     .left)) refl (text .text .given)
-    (read-events .read-events .ensures .meant startRows (body-ready (start′ .pre) (read-header
-    .read-header .result .at) (clear-counts .clear-counts .ensures) (lay-rows .lay-rows .ensures)
+    (read-events .read-events .ensures .meant
+    (startRows (start′ .args .o .longest) (start′ .args .o .capacity)) (body-ready (start′ .pre .0) (read-header
+    .read-header .result .at) (start′ .args .o .longest) (start′ .args .o .capacity) (clear-counts .clear-counts .ensures) (lay-rows .lay-rows .ensures)
     (lay-text .lay-text .ensures) begins (work .work .given) (work2 .work2 .given) (text .text
     .given)))
 

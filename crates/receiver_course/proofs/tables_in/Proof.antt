@@ -21,6 +21,12 @@ cast-result-4 c = search needs
 cast-result-5 : tie.Need-cast-result-5
 cast-result-5 c = search needs
 
+cast-result-6 : tie.Need-cast-result-6
+cast-result-6 c = search needs
+
+add-result : tie.Need-add-result
+add-result c = search needs
+
 returns : tie.Need-returns
 unfolding tablesIn maxUris maxNames maxValues maxGrammars maxLearned maxStore
 returns c = refl
@@ -28,4 +34,12 @@ returns c = refl
 pub tables-in-spec : {M : Type 1} → statement M
 tables-in-spec =
     tie.close
-    (tie.spec cast-result cast-result-2 cast-result-3 cast-result-4 cast-result-5 returns)
+    (tie.spec
+    cast-result
+    cast-result-2
+    cast-result-3
+    cast-result-4
+    cast-result-5
+    cast-result-6
+    add-result
+    returns)

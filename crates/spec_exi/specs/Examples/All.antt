@@ -14,6 +14,7 @@ use Rattle.spec_exi.specs.Examples.Attributes.{equalRead, equalWritten}
 use Rattle.spec_exi.specs.Examples.Names.{InitialNames, namesRead, textsRead}
 use Rattle.spec_exi.specs.Examples.Names.{namesWritten, namesInOrder}
 use Rattle.spec_exi.specs.Examples.Fragments.{fragmentsRead, fragmentsWritten}
+use Rattle.spec_exi.specs.Examples.Values.{boundedRead}
 use Rattle.spec_exi.specs.Examples.Pieces.{Tell, pieces}
 
 -- Each holds.
@@ -41,4 +42,5 @@ pub record WorkedExamples : Type 0 where
   pub names-in-order : WrittenUnder namesInOrder
   pub fragments-read : Hold fragmentsRead
   pub fragments-written : Written fragmentsWritten
+  pub bounded-read : Hold boundedRead
   pub pieces-told : Tell pieces

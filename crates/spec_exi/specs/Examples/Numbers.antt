@@ -14,10 +14,10 @@ use Rattle.spec_exi.specs.Examples.Bounds.{sizesAs, Bounded, bounds}
 unfoldable pub setting : ℕ → ℕ → SettingNumbers
 setting i v = numbers (replicate i 0 ++ (v ∷ []))
 
--- Each at the first number that has no meaning.
+-- Each at the first number that has no meaning; of value lengths there is none.
 unfoldable pub meaningless : List SettingNumbers
 meaningless =
-    setting 0 2 ∷ setting 1 2 ∷ setting 2 2 ∷ setting 3 2 ∷ setting 4 2 ∷ setting 5 1 ∷ setting 6 1
+    setting 0 2 ∷ setting 1 2 ∷ setting 2 2 ∷ setting 3 2 ∷ setting 4 2 ∷ setting 6 2050
     ∷ setting 7 1 ∷ setting 8 1 ∷ setting 9 1 ∷ []
 
 -- Lent lengths.
@@ -43,9 +43,9 @@ pub record Pinned : Type 0 where
       ≡ sizesAs (16384 ∷ 4096 ∷ 100 ∷ 16 ∷ 128 ∷ 2048 ∷ 64 ∷ 512 ∷ 4096 ∷ 16384 ∷ 18432 ∷ [])
   pub bothSides : Bounded bounds
   -- Of a stream, and of a list, without octets and events: SETTINGS. ROOM comes before it.
-  pub readerSettings : map (λ o. readReply (read full o []) .number) meaningless ≡ replicate 10 2
+  pub readerSettings : map (λ o. readReply (read full o []) .number) meaningless ≡ replicate 9 2
   pub writerSettings : map (λ o. writeReply (write fullToWrite o [] []) .number) meaningless
-      ≡ replicate 10 2
+      ≡ replicate 9 2
   pub readerLent : map (λ r. readReply (read r (setting 0 2) []) .number) readerRooms
       ≡ 2 ∷ 1 ∷ 1 ∷ 1 ∷ []
   pub writerLent : map (λ r. writeReply (write r (setting 0 2) [] []) .number) writerRooms

@@ -26,7 +26,7 @@ use std::path::Path;
 use std::process::ExitCode;
 use std::time::Instant;
 
-use compare::encode::encode;
+use compare::encode::{encode, Form};
 use compare::event::{document, element, events, text, Event, Stored, Text, CELLS};
 use compare::lent::{Codec, ReaderSizes, Settings, WriterSizes};
 use compare::prng::Prng;
@@ -126,6 +126,15 @@ macro_rules! both {
     };
 }
 
+impl Row {
+    fn with_capacity(self, capacity: u32) -> Row {
+        Row {
+            settings: self.settings.with_capacity(capacity),
+            ..self
+        }
+    }
+}
+
 fn rows() -> Vec<Row> {
     let growth = |name, lists| Row {
         name,
@@ -150,6 +159,10 @@ fn rows() -> Vec<Row> {
     rows.extend(both!("long notes", long_notes, 10, 1, GOALS));
     rows.extend(both!("500 readings", day, 10, 1, GOALS));
     rows.extend(both!("2,048 short", short_values, 10, 1, GOALS));
+    let bounded = both!("capacity 64", long_day, 10, 1, GOALS);
+    rows.extend(bounded.map(|row| row.with_capacity(64)));
+    let bounded = both!("capacity 512", long_day, 10, 1, GOALS);
+    rows.extend(bounded.map(|row| row.with_capacity(512)));
     rows.push(growth("growth, 2 KB", |count| records(count, 32)));
     rows.push(growth("growth, 4 KB", |count| records(count, 64)));
     rows.push(growth("growth, 8 KB", |count| records(count, 128)));
@@ -507,6 +520,31 @@ fn day(count: usize) -> Vec<Vec<Event>> {
         }
         inner.push(END);
         document(inner)
+    };
+    (0..count).map(|_| one()).collect()
+}
+
+/// 1,000 readings with short stamps and 300 movements: a table of 64 values turns over 20 times.
+fn long_day(count: usize) -> Vec<Vec<Event>> {
+    let mut rng = Prng::new(16);
+    let (r, t, um) = (text("r"), text("t"), text("um"));
+    let mut one = || {
+        let first = rng.below(10_000);
+        let mut inner = vec![element("", "readings")];
+        for k in 0..1_000 {
+            let stamp = text(&format!("{:04}", (first + 7 * k) % 10_000));
+            let movement = text(&format!("{}", rng.below(300)));
+            inner.push(start(&r));
+            inner.push(attribute(&t, stamp));
+            inner.push(attribute(&um, movement));
+            inner.push(END);
+        }
+        inner.push(END);
+        let list = document(inner);
+        let forms = encode(BYTES.with_capacity(64), &list).forms;
+        let replaced = forms.iter().filter(|form| **form == Form::Replacing);
+        assert!(replaced.count() >= 20 * 64);
+        list
     };
     (0..count).map(|_| one()).collect()
 }
