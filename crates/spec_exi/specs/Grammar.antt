@@ -85,8 +85,8 @@ eqSite fragment (tagOf q) = false
 eqSite fragment (contentOf q) = false
 eqSite fragment fragment = true
 
--- The two states of an element's grammar learn (EXI 8.4.3), and the content of a fragment (EXI 8.4.2);
--- document content learns nothing (scope, "Grammars").
+-- The two states of an element's grammar learn (EXI 8.4.3), and the content of a fragment (EXI
+-- 8.4.2); document content learns nothing (scope, "Grammars").
 unfoldable pub siteOf : State → Option Site
 siteOf document = none
 siteOf docContent = none
@@ -119,8 +119,8 @@ learnedAt (some k) ls = learnedIn k ls
 unfoldable pub kept : Settings → List Production
 kept s = cond (s .comments) (unnamed CM ∷ []) [] ++ cond (s .instructions) (unnamed PI ∷ []) []
 
--- The productions of a state where these are learned, level by level of their codes (EXI 8.4; scope,
--- "Grammars": the table of codes; P1). The newest learned one is first.
+-- The productions of a state where these are learned, level by level of their codes (EXI 8.4;
+-- scope, "Grammars": the table of codes; P1). The newest learned one is first.
 unfoldable pub levelsWith : Settings → List Production → State → List (List Production)
 levelsWith s ls document = (unnamed SD ∷ []) ∷ []
 levelsWith s ls docContent = (unnamed SE ∷ []) ∷ kept s ∷ []
@@ -201,9 +201,9 @@ hasKind k [] = false
 hasKind k (p ∷ ps) = eqb (kindNumber k) (kindNumber (p .kind)) || hasKind k ps
 
 -- Which kinds of event with this code put a production at 0 and raise the first part of the others,
--- where these are learned (EXI 8.4.2, 8.4.3): SE(*) and AT(*) do; CH and EE with a code of two parts, if
--- theirs of one part does not exist yet. (That condition holds wherever it is asked, as yet: where
--- a production of one part exists, a code of two parts is LOOSE.)
+-- where these are learned (EXI 8.4.2, 8.4.3): SE(*) and AT(*) do; CH and EE with a code of two
+-- parts, if theirs of one part does not exist yet. (That condition holds wherever it is asked, as
+-- yet: where a production of one part exists, a code of two parts is LOOSE.)
 unfoldable pub teaches : List Production → Code → Kind → Bool
 teaches ls x SD = false
 teaches ls x ED = false
@@ -250,13 +250,13 @@ inContent finished = finished
 inContent (startTag q outer) = elementContent q outer
 inContent (elementContent q outer) = elementContent q outer
 
--- Where no element is open any more: at the end of the document (EXI 8.4.1), or in the content of the
--- fragment (EXI 8.4.2).
+-- Where no element is open any more: at the end of the document (EXI 8.4.1), or in the content of
+-- the fragment (EXI 8.4.2).
 unfoldable pub outermost : Settings → State
 outermost s = cond (s .fragment) fragmentContent docEnd
 
--- The innermost of the open elements ends. The first clause is not reached: an end element closes an
--- open one.
+-- The innermost of the open elements ends. The first clause is not reached: an end element closes
+-- an open one.
 unfoldable pub closed : Settings → List (QName Text) → State
 closed s [] = outermost s
 closed s (q ∷ []) = outermost s

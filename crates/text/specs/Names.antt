@@ -21,7 +21,8 @@ startRanges =
     ∷ (0x370, 0x37D) ∷ (0x37F, 0x1FFF) ∷ (0x200C, 0x200D) ∷ (0x2070, 0x218F) ∷ (0x2C00, 0x2FEF)
     ∷ (0x3001, 0xD7FF) ∷ (0xF900, 0xFDCF) ∷ (0xFDF0, 0xFFFD) ∷ (0x10000, 0xEFFFF) ∷ []
 
--- What NameChar has besides (XML 1.0, production 4a): - . 0-9, the middle dot, combining marks, ties.
+-- What NameChar has besides (XML 1.0, production 4a): - . 0-9, the middle dot, combining marks,
+-- ties.
 unfoldable pub furtherRanges : List (ℕ × ℕ)
 furtherRanges =
     (0x2D, 0x2E) ∷ (0x30, 0x39) ∷ (0xB7, 0xB7) ∷ (0x300, 0x36F) ∷ (0x203F, 0x2040) ∷ []

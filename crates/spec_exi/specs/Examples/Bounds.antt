@@ -1,5 +1,5 @@
--- By small sizes: both sides of each size, for the reader and the writer, and which test comes first
--- where a size is passed, too.
+-- By small sizes: both sides of each size, for the reader and the writer, and which test comes
+-- first where a size is passed, too.
 use Rattle.spec_fields.specs.Prelude.{ℕ, suc, _+_, String, _≡_, List, [], _∷_, _++_, map, getD}
 use Rattle.spec_fields.specs.Prelude.{replicate}
 use Rattle.spec_fields.specs.Refusal.{Refusal, long, loose, name, limit, Answer, refused, accepted}
@@ -90,8 +90,8 @@ bounds =
     ∷ bound 6 0 "80 01 02 61 02 01 00 01 00 00" limit 1
     -- learned productions: K1, the end of its start tag
     ∷ bound 7 0 "80 01 02 61 00" limit 2
-    -- code points of a string: K1; of the store, which begins with 99: K1, and K6, whose second name
-    -- is a hit
+    -- code points of a string: K1; of the store, which begins with 99: K1, and K6, whose second
+    -- name is a hit
     ∷ bound 8 0 "80 01 02 61 00" limit 1
     ∷ bound 9 99 "80 01 02 61 00" limit 1
     ∷ bound 9 99 "80 01 02 61 02 01 00 01 00 00" limit 1 ∷ []

@@ -6,7 +6,8 @@ use Rattle.spec_exi.specs.Event.{startDocument, endDocument, endElement,
 use Rattle.spec_exi.specs.Event.{attribute, characters}
 use Rattle.spec_exi.specs.Settings.{SettingNumbers}
 use Rattle.spec_exi.specs.Writer.{Stored}
-use Rattle.spec_exi.specs.Examples.{Example, numbers, inOctets, octets, example, begin, remark}
+use Rattle.spec_exi.specs.Examples.{Example, numbers, inOctets, octets, example, begin}
+use Rattle.spec_exi.specs.Examples.{remark}
 use Rattle.spec_exi.specs.Examples.{instruct, end, whole}
 use Rattle.spec_exi.specs.Examples.Places.{at, named}
 use Rattle.spec_exi.specs.Examples.Written.{WriteExample}

@@ -32,8 +32,8 @@ mistakes =
     -- nothing learned.
     ∷ example inBits "80 40 98 54 09 AC 0C C7 81 BC 48 13 10 80"
     (whole (begin "a" ∷ attr "k" "1" ∷ chars "x" ∷ begin "b" ∷ end ∷ end ∷ []))
-    -- <r><a/><a k="1"/><a>x</a><a><b/></a></r>, the four twice: the start tag of a has learned SE(b),
-    -- CH, AT(k) and EE, the newest first, and the second four go by them.
+    -- <r><a/><a k="1"/><a>x</a><a><b/></a></r>, the four twice: the start tag of a has learned
+    -- SE(b), CH, AT(k) and EE, the newest first, and the second four go by them.
     ∷ twoLines inOctets
     "80 01 02 72 02 01 02 61 00 01 00 01 00 01 01 01 01 02 6B 03 31 01 00 02 03 03 78 00 00 03 02"
     "01 02 62 00 00 00 03 00 02 00 03 00 01 00 00 00 00 00 00 01"

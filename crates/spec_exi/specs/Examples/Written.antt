@@ -58,8 +58,8 @@ writes =
     -- A local name outside the store, which looked up is empty: PLACE. An empty one outside, too.
     ∷ listed (some (startElement (named 9 9)) ∷ []) [] (refused place 1)
     ∷ listed (some (startElement (named 9 0)) ∷ []) [] (refused place 1)
-    -- A URI that is no Char, and a local name outside the store; an empty name, and a value outside:
-    -- PLACE for all strings of the event comes first.
+    -- A URI that is no Char, and a local name outside the store; an empty name, and a value
+    -- outside: PLACE for all strings of the event comes first.
     ∷ listed (some (startElement (inUri 0 1 9 9)) ∷ []) (0 ∷ []) (refused place 1)
     ∷ listed (some (startElement (named 0 1)) ∷ some (attribute (named 0 0) (at 9 9)) ∷ [])
     (text "a") (refused place 2)
