@@ -30,7 +30,9 @@ use Rattle.spec_exi.specs.Examples.Names.{before, namesRead, textsRead, 
 use Rattle.spec_exi.specs.Examples.Names.{namesWritten, namesInOrder}
 use Rattle.spec_exi.specs.Examples.Fragments.{inPieces, fragmentsRead, pieced}
 use Rattle.spec_exi.specs.Examples.Fragments.{fragmentsWritten}
-use Rattle.spec_exi.specs.Examples.Values.{longestOf, roomFor, inA, withChars, boundedRead}
+use Rattle.spec_exi.specs.Examples.Values.{longestOf, roomFor, inA, letters, within, inB}
+use Rattle.spec_exi.specs.Examples.Values.{boundedRead, repliedUnder, wroteUnder}
+use Rattle.spec_exi.specs.Examples.Values.{BoundedSizes}
 use Rattle.spec_exi.specs.Examples.Pieces.{Tell, pieces}
 use Rattle.spec_exi.specs.Examples.All.{WorkedExamples}
 use Rattle.spec_exi.proofs.Definitions.{definitions}
@@ -89,6 +91,8 @@ pinned =
       bothSides = bounds-hold;
       readerSettings = refl;
       writerSettings = refl;
+      readerBounds = refl;
+      writerBounds = refl;
       readerLent = refl;
       writerLent = refl;
       outside = refl;
@@ -140,8 +144,12 @@ unfolding definitions afterComment afterInstruction before textsRead
 texts-read = record { answers = refl; strictForms = same-streams textsRead tt }
 
 bounded-read : Hold boundedRead
-unfolding definitions longestOf roomFor inA withChars boundedRead
+unfolding definitions longestOf roomFor inA letters within inB boundedRead
 bounded-read = record { answers = refl; strictForms = same-streams boundedRead tt }
+
+bounded-sizes : BoundedSizes
+unfolding definitions sizesAs only longestOf roomFor rewritten repliedUnder wroteUnder wrote
+bounded-sizes = record { replacing = refl; rewriting = refl; joining = refl; stored = refl }
 
 names-written : Written namesWritten
 unfolding definitions at inUri named writtenFor listed element keeping namesWritten
@@ -191,5 +199,6 @@ worked-examples =
       fragments-read = fragments-read;
       fragments-written = fragments-written;
       bounded-read = bounded-read;
+      bounded-sizes = bounded-sizes;
       pieces-told = pieces-told;
     }

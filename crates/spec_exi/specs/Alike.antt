@@ -1,6 +1,6 @@
 -- Contexts that differ at most in where their strings lie: same state, grammars and start tag, same
--- texts under the same keys in the same order, same learned productions by the texts of their
--- names, text stores of the same length.
+-- texts under the same keys in the same order, same bounds of values, same learned productions by
+-- the texts of their names, text stores of the same length.
 use mathlib.Core.Path.{_≡_}
 use mathlib.Core.List.{map}
 use mathlib.Core.Option.{Option, none, some, Option·map}

@@ -142,7 +142,7 @@ pub record WellFormed (s : Settings) (l : List (Event Text)) : Type 0 where
 -- ---- inside the limits (scope, "Sizes"): the list and its strict form pass no size (z)
 
 module _ (z : Sizes) where
-  -- The tables and the store (scope, "Sizes").
+  -- The tables and the store (scope, "Sizes"); of values those that are present (P5).
   unfoldable pub withinTables : Tables → Bool
   withinTables t =
       leb (length (t .uris)) (z .uris)

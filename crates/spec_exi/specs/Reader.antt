@@ -46,8 +46,8 @@ module _ (z : Sizes) (s : Settings) where
     x ← times n (readCharacter s)
     return (literal, laid t x)
 
-  -- A number that names no entry is REFERENCE (scope, "Refusal numbers", 9). The second test
-  -- passes, as yet: no slot is empty.
+  -- A number that was never given, or whose value was replaced (P5), is REFERENCE (scope, "Refusal
+  -- numbers", 9).
   unfoldable pub readHit : ℕ → List Slot → Parser (Form × Placed)
   readHit j es = do
     (i, slot) ← choice (s .alignment) reference es
@@ -66,8 +66,8 @@ module _ (z : Sizes) (s : Settings) where
     v ← unsigned
     readIn t (length ess) v (getElem? ess v)
 
-  -- By a partition for compact identifiers (EXI 7.3.2): 0 is a miss, i + 1 is entry i. (That test
-  -- passes too.)
+  -- By a partition for compact identifiers (EXI 7.3.2): 0 is a miss, i + 1 is entry i. (The test
+  -- passes: no URI is ever replaced.)
   unfoldable pub readEntry : Tables → ℕ → Option Slot → Parser (Form × Placed)
   readEntry t v none = readByLiterals t []
   readEntry t v (some slot) = do

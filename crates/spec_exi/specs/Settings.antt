@@ -34,8 +34,8 @@ pub record SettingNumbers : Type 0 where
 
 -- Each number has a meaning (which numbers is our choice): alignment 0 is bit-packed and 1
 -- byte-aligned, cookie, comments, instructions and fragment 0 is no and 1 yes; any value length has
--- a meaning, and a value capacity up to our value size (P5). The last three are reserved: no number
--- but 0 has a meaning yet. Else SETTINGS (scope, "Refusal numbers", 2).
+-- a meaning, and a value capacity up to our value size, as n + 1 (P5). The last three are reserved:
+-- no number but 0 has a meaning yet. Else SETTINGS (scope, "Refusal numbers", 2).
 unfoldable pub meaningful : SettingNumbers → Bool
 meaningful o =
     leb (o .alignment) 1

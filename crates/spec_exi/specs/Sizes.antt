@@ -22,7 +22,7 @@ maxUris = 16
 unfoldable pub maxNames : ℕ
 maxNames = 128
 
--- distinct non-empty values
+-- distinct non-empty values, present at once
 unfoldable pub maxValues : ℕ
 maxValues = 2048
 

@@ -70,7 +70,7 @@ replaced none n = 0
 replaced (some c) n = n - c
 
 -- EXI's globalID after n values: one more with each, and 0 again where that is the capacity (EXI
--- 7.3.3).
+-- 7.3.1, 7.3.3).
 unfoldable pub globalId : Option ℕ → ℕ → ℕ
 globalId none n = n
 globalId (some c) zero = 0
@@ -84,13 +84,13 @@ gone v = replaced (v .capacity) (length (v .added))
 unfoldable pub presentValues : Values → List (Entry (QName Text))
 presentValues v = drop (gone v) (v .added)
 
--- A value, where g values from it on are gone.
+-- A value, gone unless g is 0: g counts the values gone from it on.
 unfoldable pub slotAfter : ℕ → Placed → Slot
 slotAfter zero x = some x
 slotAfter (suc g) x = none
 
--- The values local to a name, the first g of these being gone: each was given its name's next
--- number, which no other value gets (EXI 7.3.3).
+-- The values local to a name, the first g of all values being gone: each was given its name's next
+-- number, which no other value gets, and which still counts in the width of a choice (EXI 7.3.3).
 unfoldable pub localSlots : ℕ → QName Text → List (Entry (QName Text)) → List Slot
 localSlots g q [] = []
 localSlots g q (x ∷ xs) =
@@ -198,7 +198,7 @@ stringBits k x = unsignedBits (length x + k) ++ each unsignedBits x
 
 -- A URI: a choice among m + 1, i + 1 for a hit, 0 for a miss, and the String (EXI 7.3.2). Else a
 -- miss is the String, its length raised by the number of partitions; a hit is the partition's
--- number, then a choice among its entries (EXI 7.3.3; scope, "String tables").
+-- number, then a choice among its slots (EXI 7.3.3; scope, "String tables").
 unfoldable pub formBits : Alignment → Partitions → Form → Text → Bits
 formBits a (compact es) (hit j i) x = choiceBits a (suc (length es)) (suc i)
 formBits a (compact es) literal x = choiceBits a (suc (length es)) 0 ++ stringBits 0 x
@@ -228,11 +228,12 @@ newName commentText x = []
 newName instructionText x = []
 newName plain x = []
 
--- No number is over the bound.
+-- The number is not over the bound, if there is one.
 unfoldable pub atMost : ℕ → Option ℕ → Bool
 atMost n none = true
 atMost n (some m) = leb n m
 
+-- The bound is 0.
 unfoldable pub isZero : Option ℕ → Bool
 isZero none = false
 isZero (some c) = eqb c 0

@@ -14,7 +14,7 @@ use Rattle.spec_exi.specs.Examples.Attributes.{equalRead, equalWritten}
 use Rattle.spec_exi.specs.Examples.Names.{InitialNames, namesRead, textsRead}
 use Rattle.spec_exi.specs.Examples.Names.{namesWritten, namesInOrder}
 use Rattle.spec_exi.specs.Examples.Fragments.{fragmentsRead, fragmentsWritten}
-use Rattle.spec_exi.specs.Examples.Values.{boundedRead}
+use Rattle.spec_exi.specs.Examples.Values.{boundedRead, BoundedSizes}
 use Rattle.spec_exi.specs.Examples.Pieces.{Tell, pieces}
 
 -- Each holds.
@@ -43,4 +43,5 @@ pub record WorkedExamples : Type 0 where
   pub fragments-read : Hold fragmentsRead
   pub fragments-written : Written fragmentsWritten
   pub bounded-read : Hold boundedRead
+  pub bounded-sizes : BoundedSizes
   pub pieces-told : Tell pieces

@@ -3,7 +3,7 @@
 use Rattle.spec_fields.specs.Prelude.{ℕ, suc, _+_, String, _≡_, List, [], _∷_, _++_, map, getD}
 use Rattle.spec_fields.specs.Prelude.{replicate}
 use Rattle.spec_fields.specs.Refusal.{Refusal, long, loose, name, limit, Answer, refused, accepted}
-use Rattle.spec_exi.specs.Settings.{settingsOf}
+use Rattle.spec_exi.specs.Settings.{SettingNumbers, settingsOf}
 use Rattle.spec_exi.specs.Sizes.{Sizes}
 use Rattle.spec_exi.specs.Reader.{Reading, readSized, read, listOf, readReply}
 use Rattle.spec_exi.specs.Writer.{writeList, writeReply}
@@ -50,21 +50,22 @@ RefusedUnder xs =
     map (λ x. listOf (readSized (only (x .size) (x .most)) full inOctets (x .stream))) xs
     ≡ map (λ x. refused (x .refusal) (x .index)) xs
 
--- What the writer makes under these sizes of what was read.
-unfoldable pub rewritten : Sizes → Answer Reading → Answer (List ℕ)
-rewritten z (refused k i) = refused k i
-rewritten z (accepted x) = writeList z (settingsOf inOctets) (map storedOf (x .events)) (x .store)
+-- What the writer makes under these sizes and settings of what was read.
+unfoldable pub rewritten : Sizes → SettingNumbers → Answer Reading → Answer (List ℕ)
+rewritten z o (refused k i) = refused k i
+rewritten z o (accepted x) = writeList z (settingsOf o) (map storedOf (x .events)) (x .store)
 
 -- Both accept the stream under these sizes: the sum of the replies' numbers is 0.
 unfoldable pub sumUnder : Sizes → List ℕ → ℕ
 sumUnder z stream =
     readReply (readSized z full inOctets stream) .number
-    + writeReply (rewritten z (read full inOctets stream)) .number
+    + writeReply (rewritten z inOctets (read full inOctets stream)) .number
 
 -- Reader and writer refuse alike at that number, and take the stream at one more.
 pub record Bounded (xs : List Bound) : Type 0 where
   pub reader : RefusedUnder xs
-  pub writer : map (λ x. rewritten (only (x .size) (x .most)) (read full inOctets (x .stream))) xs
+  pub writer : map
+      (λ x. rewritten (only (x .size) (x .most)) inOctets (read full inOctets (x .stream))) xs
       ≡ map (λ x. refused (x .refusal) (x .index)) xs
   pub above : map (λ x. sumUnder (only (x .size) (suc (x .most))) (x .stream)) xs ≡ map (λ x. 0) xs
 

@@ -46,6 +46,11 @@ pub record Pinned : Type 0 where
   pub readerSettings : map (λ o. readReply (read full o []) .number) meaningless ≡ replicate 9 2
   pub writerSettings : map (λ o. writeReply (write fullToWrite o [] []) .number) meaningless
       ≡ replicate 9 2
+  -- ENDED and SHAPE: the largest value capacity and any value length have a meaning.
+  pub readerBounds : map (λ o. readReply (read full o []) .number)
+      (setting 5 4294967295 ∷ setting 6 2049 ∷ []) ≡ replicate 2 5
+  pub writerBounds : map (λ o. writeReply (write fullToWrite o [] []) .number)
+      (setting 5 4294967295 ∷ setting 6 2049 ∷ []) ≡ replicate 2 14
   pub readerLent : map (λ r. readReply (read r (setting 0 2) []) .number) readerRooms
       ≡ 2 ∷ 1 ∷ 1 ∷ 1 ∷ []
   pub writerLent : map (λ r. writeReply (write r (setting 0 2) [] []) .number) writerRooms
