@@ -1,7 +1,8 @@
 -- How many levels an event begins, and how many it ends: lines are indented by them.
 use Prim.Native.Nat.{ℕ}
 use Rattle.event.specs.declared.Event.{Event}
-use Rattle.event.specs.declared.Event.the-variants.{StartDocument, EndDocument, StartElement, Attribute}
+use Rattle.event.specs.declared.Event.the-variants.{StartDocument, EndDocument, StartElement}
+use Rattle.event.specs.declared.Event.the-variants.{Attribute}
 use Rattle.event.specs.declared.Event.the-variants.{EndElement, Characters, Comment, Instruction}
 
 abbrev pub beginsOf : Event → ℕ

@@ -27,8 +27,8 @@ maxLevels = 3
 unfoldable pub keptKinds : Bool → Bool → List Kind
 keptKinds comments instructions = cond comments (CM ∷ []) [] ++ cond instructions (PI ∷ []) []
 
--- By the state's number. In an element and a fragment's content the learned productions stand before
--- the first level's.
+-- By the state's number. In an element and a fragment's content the learned productions stand
+-- before the first level's.
 unfoldable pub tables : Bool → Bool → List (List (List Kind))
 tables comments instructions =
     let kept = keptKinds comments instructions in

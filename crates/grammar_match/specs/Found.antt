@@ -71,8 +71,8 @@ pub record FoundHere (work : List ℕ) (mode top kind name learned r : ℕ) : Ty
       → CodeRows work learned mode top w opened → kindNumber (kindOf e) ≡ kind → NamedBy v e name
       → Finds w mode top name opened e r
   -- no learned production of the site has this kind and name
-  pub fresh : (w : Rows) → LearnedHold work learned (taughtIn w) → inFragment ≤ mode → numberSE ≤ kind
-      → kind ≤ numberCH → r ≡ 0 → (i : ℕ) → i < length (w .learned)
+  pub fresh : (w : Rows) → LearnedHold work learned (taughtIn w) → inFragment ≤ mode
+      → numberSE ≤ kind → kind ≤ numberCH → r ≡ 0 → (i : ℕ) → i < length (w .learned)
       → learntAt (w .learned) i
       ≡ record { site = siteIn mode top; kind = kind; name = name } → ⊥
 

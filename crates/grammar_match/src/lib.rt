@@ -1,5 +1,5 @@
-// The learned productions of the grammar's state (EXI 8.4.2, 8.4.3): how many, and which one fits an
-// event. Memory is not written, and every function is safe and ends on any memory. What the
+// The learned productions of the grammar's state (EXI 8.4.2, 8.4.3): how many, and which one fits
+// an event. Memory is not written, and every function is safe and ends on any memory. What the
 // functions ask and leave is in specs/.
 ghost use mathlib.Core.Path.{_≡_};
 ghost use Prim.Native.Nat.{_<_};
@@ -12,7 +12,8 @@ use event_code::IN_TAG;
 use event_code::SE;
 use mem_layout::FRAGMENT_SITE;
 
-// The site of the innermost element's grammar, in its start tag or its content; else the fragment's.
+// The site of the innermost element's grammar, in its start tag or its content; else the
+// fragment's.
 pub fn site_in(mode: u32, top: u32) -> u32
     requires { ⌜ top < nameRows ⌝ }
     ensures { λ r. ⌜ r ≡ siteIn mode top ⌝ }

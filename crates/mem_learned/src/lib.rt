@@ -4,7 +4,8 @@
 // that a search answers is its number and 1, or 0 for none. Every function is safe and ends on any
 // memory. What the contracts cite is in specs/Learned.antt.
 ghost use mathlib.Core.Path.{_≡_};
-ghost use Rattle.mem_learned.specs.Learned.{siteIndex, nameIndex, Sited, CountedAt, NthLearned};
+ghost use Rattle.mem_learned.specs.Learned.{siteIndex, nameIndex, Sited, CountedAt};
+ghost use Rattle.mem_learned.specs.Learned.{NthLearned};
 ghost use Rattle.mem_learned.specs.Learned.{Findable, FoundLearned, LearnedRow, ProductionAt};
 ghost use Rattle.mem_learned.specs.Learned.{partIn, withRows, Addable, withLearned};
 ghost use Rattle.mem_learned.specs.Grammars.{NameCell, flagIn, withGrammarOf};

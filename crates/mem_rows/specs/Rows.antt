@@ -1,6 +1,6 @@
--- What work memory holds, as lists: the rows of each table in order of insertion, which refer to one
--- another by their numbers. The definitions' tables, learned productions, grammars and context are
--- functions of these lists; which cells hold them is said in the other crates of lent memory.
+-- What work memory holds, as lists: the rows of each table in order of insertion, which refer to
+-- one another by their numbers. The definitions' tables, learned productions, grammars and context
+-- are functions of these lists; which cells hold them is said in the other crates of lent memory.
 use Prim.Native.Nat.{ℕ, suc, _+_, _*_, _/_, _%_, _≤_, _<_}
 use mathlib.Core.Path.{_≡_}
 use mathlib.Core.Bool.{Bool, true, false, cond, _||_}
@@ -102,7 +102,8 @@ unfoldable pub carriedAt : Rows → Kind → ℕ → Option (QName Placed)
 carriedAt w k n = cond (carries k) (some (placedAt w n)) none
 
 unfoldable pub productionOf : Rows → Learnt → Production
-productionOf w l = record { kind = kindAt (l .kind); qname = carriedAt w (kindAt (l .kind)) (l .name) }
+productionOf w l =
+    record { kind = kindAt (l .kind); qname = carriedAt w (kindAt (l .kind)) (l .name) }
 
 unfoldable pub learntAs : Rows → Learnt → Learned
 learntAs w l = record { site = siteAt w (l .site); production = productionOf w l }
@@ -153,7 +154,8 @@ modeAfter isFragment kind mode depth =
 -- The open elements after it, where its name has this row.
 unfoldable pub openedAfter : ℕ → ℕ → List ℕ → List ℕ
 openedAfter kind n opened =
-    cond (eqb kind (kindNumber SE)) (n ∷ opened) (cond (eqb kind (kindNumber EE)) (drop 1 opened) opened)
+    cond (eqb kind (kindNumber SE)) (n ∷ opened)
+    (cond (eqb kind (kindNumber EE)) (drop 1 opened) opened)
 
 -- The state is one of an element's grammar just where an element is open.
 pub record ModeFits (mode depth : ℕ) : Type 0 where
@@ -267,7 +269,8 @@ withAttributes ns w =
       capacity = w .capacity;
     }
 
--- The rows that an event leaves, where its strings have left v: its name has row n, and l is learned.
+-- The rows that an event leaves, where its strings have left v: its name has row n, and l is
+-- learned.
 unfoldable pub leaves : ℕ → ℕ → Bool → Learnt → Rows → Rows
 leaves kind n b l v =
     withAttributes (attributesAfter kind n (v .attributes))

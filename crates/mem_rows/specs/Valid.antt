@@ -29,8 +29,8 @@ pub record KeysBelow (most : ℕ) (es : List (Entry ℕ)) : Type 0 where
 abbrev pub SiteFits : ℕ → ℕ → Type 0
 SiteFits names k = (k ≡ fragmentSite → ⊥) → k / 2 < names
 
--- A learned production is SE, AT, EE or CH, stands at a site that is there, AT in a start tag and SE
--- alone in a fragment's content, and carries the name of a row, or 0.
+-- A learned production is SE, AT, EE or CH, stands at a site that is there, AT in a start tag and
+-- SE alone in a fragment's content, and carries the name of a row, or 0.
 pub record LearntFits (names : ℕ) (l : Learnt) : Type 0 where
   pub site : SiteFits names (l .site)
   pub alone : l .site ≡ fragmentSite → l .kind ≡ numberSE

@@ -1,5 +1,5 @@
--- What an accepted event adds to memory and to the numbers, over cells and for every memory; what it
--- means is a law (proofs/Commit.antt).
+-- What an accepted event adds to memory and to the numbers, over cells and for every memory; what
+-- it means is a law (proofs/Commit.antt).
 use Prim.Native.Nat.{ℕ, _+_, _-_, _≤_, _<_}
 use mathlib.Core.Path.{_≡_}
 use mathlib.Core.Bool.{Bool, true, cond}

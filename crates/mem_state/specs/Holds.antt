@@ -74,9 +74,9 @@ pub record Ahead (w v : Rows) : Type 0 where
 
 -- ---- the numbers
 
--- No number passes its size, every value that joined has a code point in the store, and an element is
--- open just in its grammar's states. This holds of every state that a function is given or answers,
--- whatever memory holds.
+-- No number passes its size, every value that joined has a code point in the store, and an element
+-- is open just in its grammar's states. This holds of every state that a function is given or
+-- answers, whatever memory holds.
 pub record Bounded (c : Core) : Type 0 where
   pub stored : c .stored ≤ maxStore
   pub uris : c .uris ≤ maxUris
@@ -113,8 +113,8 @@ pub record Topped (c : Core) (opened : List ℕ) : Type 0 where
 abbrev pub inTagOf : Rows → ℕ → Bool
 inTagOf w n = isAmong n (w .attributes)
 
--- Memory and numbers are those of these rows and open elements. (The top is said apart: it is the one
--- number that memory does not know.)
+-- Memory and numbers are those of these rows and open elements. (The top is said apart: it is the
+-- one number that memory does not know.)
 pub record Represents (work : List ℕ) (from : Stores) (c : Core) (w : Rows) (opened : List ℕ) :
     Type 0 where
   pub valid : Valid w

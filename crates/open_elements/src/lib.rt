@@ -1,5 +1,5 @@
-// The state that goes from event to event: the numbers, and the open elements beside them. The array
-// is read and written in place by who loops over events. What the functions ask and leave is
+// The state that goes from event to event: the numbers, and the open elements beside them. The
+// array is read and written in place by who loops over events. What the functions ask and leave is
 // in specs/Opened.antt.
 ghost use mathlib.Core.Path.{_≡_};
 ghost use Prim.Native.Nat.{_%_, _≤_};

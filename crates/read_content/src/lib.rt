@@ -1,6 +1,6 @@
-// The content of an event (EXI 4), read by the production that its code names, which is not learned.
-// Work memory is not written; text that is read before a string that is refused stays, and is the caller's to clear.
-// What the functions ask and leave is in specs/Contents.antt.
+// The content of an event (EXI 4), read by the production that its code names, which is not
+// learned. Work memory is not written; text that is read before a string that is refused stays, and
+// is the caller's to clear. What the functions ask and leave is in specs/Contents.antt.
 ghost use mathlib.Core.Path.{_≡_};
 ghost use mathlib.Core.Bool.{false};
 ghost use Rattle.spec_exi.specs.Event.{SE, AT, CH, CM, PI};
@@ -25,8 +25,9 @@ use names::INSTRUCTION;
 use names::TARGET;
 use read_production::ProductionRead;
 
-// The number of a refusal or 0; the position after the content or where it stopped, and how many code
-// points of a literal are left there; the code points in the store; the event; and what is to join.
+// The number of a refusal or 0; the position after the content or where it stopped, and how many
+// code points of a literal are left there; the code points in the store; the event; and what is to
+// join.
 pub struct Content {
     pub number: u32,
     pub next: usize,

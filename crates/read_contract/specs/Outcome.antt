@@ -1,5 +1,5 @@
--- What a parser of the definitions comes to at a bit position of a stream, for a function that answers the number of a refusal or 0 and the
--- position behind what it read.
+-- What a parser of the definitions comes to at a bit position of a stream, for a function that
+-- answers the number of a refusal or 0 and the position behind what it read.
 use Prim.Native.Nat.{ℕ, _*_, _≤_, _<_}
 use mathlib.Core.Path.{_≡_}
 use mathlib.Core.List.{List}
@@ -22,7 +22,8 @@ module _ {A : Type 0} where
     pub after : at ≤ q
     pub inside : q ≤ 8 * length stream
 
-  pub record Outcome (p : Parser A) (stream : List ℕ) (at number q : ℕ) (good : A → Type 0) : Type 0 where
+  pub record Outcome (p : Parser A) (stream : List ℕ) (at number q : ℕ) (good : A → Type 0)
+      : Type 0 where
     pub refused : 0 < number → Declined p stream at number
     pub read : number ≡ 0 → Gotten p stream at q
     -- what holds of the value that was read

@@ -1,1 +1,2 @@
-// What a function that reads answers, against a parser of the definitions: definitions and laws alone.
+// What a function that reads answers, against a parser of the definitions: definitions and laws
+// alone.

@@ -138,8 +138,8 @@ fn refused(number: u32, c: Core) -> EventRead
     }
 }
 
-// Reads one event after its code, by a production that is not learned, and judges it; work memory is
-// not written. A refusal clears the text that it laid.
+// Reads one event after its code, by a production that is not learned, and judges it; work memory
+// is not written. A refusal clears the text that it laid.
 pub fn read_event(
     o: Settings,
     stream: &[u8],

@@ -57,8 +57,10 @@ pub record Plain (stream : List ℕ) (at o : ℕ) : Type 0 where
 
 -- The code point at bit k of octet j, or a refusal.
 pub record PointRead (stream : List ℕ) (j k : ℕ) (r : point.Point) : Type 0 where
-  pub refused : 0 < r .number → fieldAt (readCharacter base) stream (8 * j + k) ≡ Refused (r .number)
-  pub read : r .number ≡ 0 → fieldAt (readCharacter base) stream (8 * j + k) ≡ Value (r .value) (8 * r .behind + k)
+  pub refused : 0 < r .number
+      → fieldAt (readCharacter base) stream (8 * j + k) ≡ Refused (r .number)
+  pub read : r .number ≡ 0
+      → fieldAt (readCharacter base) stream (8 * j + k) ≡ Value (r .value) (8 * r .behind + k)
 
 -- The text x behind the store.
 unfoldable pub laidAt : List ℕ → ℕ → Text → List ℕ
@@ -86,8 +88,10 @@ pub record LiteralHash (text′ : List ℕ) (stored n : ℕ) (r : declared.Liter
   pub none : 0 < r .number → r .hash ≡ 0
 
 -- n code points, read to the store's end.
-pub record CharactersRead (stream : List ℕ) (at : ℕ) (text : List ℕ) (stored n : ℕ) (text′ : List ℕ) (r : declared.Literal) : Type 0 where
-  pub outcome : Outcome (times n (readCharacter base)) stream at (r .number) (r .next) (λ x. (text′ ≡ laidAt text stored x) × (length x ≡ n))
+pub record CharactersRead (stream : List ℕ) (at : ℕ) (text : List ℕ) (stored n : ℕ)
+    (text′ : List ℕ) (r : declared.Literal) : Type 0 where
+  pub outcome : Outcome (times n (readCharacter base)) stream at (r .number) (r .next)
+      (λ x. (text′ ≡ laidAt text stored x) × (length x ≡ n))
   pub inside : r .next ≤ 8 * length stream
   pub cut : 0 < r .number → Cut stream at n (r .number) (r .next) (r .left)
   pub whole : r .number ≡ 0 → r .left ≡ 0
@@ -108,7 +112,8 @@ pub record Laid (text : List ℕ) (stored n : ℕ) (text′ : List ℕ) (v : For
   pub text-is : text′ ≡ laidAt text stored (v .1 .text)
 
 -- By the definitions' literal over any tables whose store has so many code points.
-pub record LiteralRead (stream : List ℕ) (at : ℕ) (text : List ℕ) (stored n : ℕ) (text′ : List ℕ) (r : declared.Literal) : Type 0 where
+pub record LiteralRead (stream : List ℕ) (at : ℕ) (text : List ℕ) (stored n : ℕ) (text′ : List ℕ)
+    (r : declared.Literal) : Type 0 where
   pub outcome : (s : Settings) (t : Tables) → length (t .store) ≡ stored
       → Outcome (readLiteral sizes s t n) stream at (r .number) (r .next) (Laid text stored n text′)
   pub inside : r .next ≤ 8 * length stream

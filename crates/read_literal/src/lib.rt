@@ -1,10 +1,12 @@
-// A literal, read into the text store: the length limit, the store limit, then each code point. A refusal clears the cells that it wrote, and says where it
-// stopped: the code point's position, and how many are still to be read. What the functions ask and leave is in specs/Literal.antt.
+// A literal, read into the text store: the length limit, the store limit, then each code point. A
+// refusal clears the cells that it wrote, and says where it stopped: the code point's position, and
+// how many are still to be read. What the functions ask and leave is in specs/Literal.antt.
 ghost use mathlib.Core.Path.{_≡_};
 ghost use Prim.Native.Nat.{_+_, _*_, _≤_, _<_};
 ghost use lib.ListN.{length, replicate};
 ghost use Rattle.read_field.specs.Parts.{Octet};
-ghost use Rattle.read_literal.specs.Literal.{laidAt, Place, Plain, PointRead, CharactersFit, CharactersRead, LiteralFit, LiteralRead};
+ghost use Rattle.read_literal.specs.Literal.{laidAt, Place, Plain, PointRead, CharactersFit};
+ghost use Rattle.read_literal.specs.Literal.{CharactersRead, LiteralFit, LiteralRead};
 use read_field::Field;
 use refusal::CHARACTER;
 use refusal::LIMIT;
@@ -46,7 +48,8 @@ fn octet_at(s: &[u8], i: usize) -> u32
     s[i] as u32
 }
 
-// The code point at bit k of octet j where it is one octet from 32 to 127, and another octet follows; else 0.
+// The code point at bit k of octet j where it is one octet from 32 to 127, and another octet
+// follows; else 0.
 fn plain(s: &[u8], j: usize, k: usize) -> u32
     requires { ⌜ Place (now s) j k ⌝ }
     ensures { λ r. ⌜ Plain (now (s .entry)) (8 * j + k) r ⌝ }
@@ -107,7 +110,8 @@ fn character(s: &[u8], j: usize, k: usize) -> Point
 // Reads n code points to the store's end.
 fn read_characters(stream: &[u8], at: usize, text: &mut [u32], stored: usize, n: usize) -> Literal
     requires { ⌜ CharactersFit (now stream) at (now text) stored n ⌝ }
-    ensures { λ r. ⌜ CharactersRead (now (stream .entry)) at (now (text .entry)) stored n (now (text .exit)) r ⌝ }
+    ensures { λ r. ⌜
+        CharactersRead (now (stream .entry)) at (now (text .entry)) stored n (now (text .exit)) r ⌝ }
 {
     let k = at % 8;
     let mut j = at / 8;
@@ -140,7 +144,8 @@ fn read_characters(stream: &[u8], at: usize, text: &mut [u32], stored: usize, n:
 // A literal of n code points.
 pub fn read_literal(stream: &[u8], at: usize, text: &mut [u32], stored: usize, n: u32) -> Literal
     requires { ⌜ LiteralFit (now stream) at (now text) stored ⌝ }
-    ensures { λ r. ⌜ LiteralRead (now (stream .entry)) at (now (text .entry)) stored n (now (text .exit)) r ⌝ }
+    ensures { λ r. ⌜
+        LiteralRead (now (stream .entry)) at (now (text .entry)) stored n (now (text .exit)) r ⌝ }
 {
     if MAX_STRING < n as usize {
         return Literal {

@@ -1,6 +1,7 @@
--- What reading a string leaves: of every memory outright, and by the definitions where memory holds rows.
--- A string function reads its own table alone. So its contract speaks of every w whose rows of this table
--- memory holds, also of one that is ahead of memory by the URI and the name of the same event.
+-- What reading a string leaves: of every memory outright, and by the definitions where memory holds
+-- rows. A string function reads its own table alone. So its contract speaks of every w whose rows
+-- of this table memory holds, also of one that is ahead of memory by the URI and the name of the
+-- same event.
 use Prim.Native.Nat.{ℕ, _+_, _*_, _≤_, _<_}
 use mathlib.Core.Path.{_≡_}
 use mathlib.Core.Bool.{Bool, true, false}
@@ -91,7 +92,8 @@ pub record Laid (text : List ℕ) (stored : ℕ) (text′ : List ℕ) (r : Strin
 
 -- A string that is found by its hash: where it joins, the hash is that of its text.
 pub record Hashed (text : List ℕ) (r : StringRead) : Type 0 where
-  pub is : r .joins ≡ true → r .hash ≡ hashOf (part text (record { place = r .place; size = r .size }))
+  pub is : r .joins ≡ true
+      → r .hash ≡ hashOf (part text (record { place = r .place; size = r .size }))
 
 -- ---- by the definitions
 
@@ -103,14 +105,15 @@ pub record Tabled (text : List ℕ) (stored : ℕ) (w : Rows) (store : Text) : T
   pub within : withinTables sizes (tablesOf w store) ≡ true
 
 -- v is the string and the tables after it; the rows grow by it where it joins.
-pub record Means (join : Rows → Placed → Rows) (w : Rows) (store : Text) (text : List ℕ) (stored : ℕ)
-    (text′ : List ℕ) (r : StringRead) (v : Placed × Tables) : Type 0 where
+pub record Means (join : Rows → Placed → Rows) (w : Rows) (store : Text) (text : List ℕ)
+    (stored : ℕ) (text′ : List ℕ) (r : StringRead) (v : Placed × Tables) : Type 0 where
   pub laid : Laid text stored text′ r
   pub place : r .place ≡ v .0 .place
   pub size : r .size ≡ length (v .0 .text)
   pub found : part text′ (record { place = r .place; size = r .size }) ≡ v .0 .text
   pub old : r .joins ≡ false → v .1 ≡ tablesOf w (store ++ laid .x)
-  pub new : r .joins ≡ true → (v .0 .text ≡ laid .x) × (v .1 ≡ tablesOf (join w (v .0)) (store ++ laid .x))
+  pub new : r .joins ≡ true
+      → (v .0 .text ≡ laid .x) × (v .1 ≡ tablesOf (join w (v .0)) (store ++ laid .x))
   pub valid : r .joins ≡ true → Valid (join w (v .0))
 
 -- What stands after a string's form v: CHARACTER for a comment or an instruction's text, LOOSE,
@@ -123,7 +126,8 @@ judge t r v = do
   need (withinTables sizes (tablesAfter t r (v .0) (v .1 .text))) limit
   return (v .1, tablesAfter t r (v .0) (v .1 .text))
 
--- A whole string, and what is left of one where a hit, or a literal of n code points, is to be read.
+-- A whole string, and what is left of one where a hit, or a literal of n code points, is to be
+-- read.
 abbrev pub Reading : Type 0
 Reading = Settings → Tables → Parser (Placed × Tables)
 
@@ -136,11 +140,11 @@ asHit r j es s t = readHit sizes s j es >>= judge t r
 abbrev pub asLiteral : Role → ℕ → Reading
 asLiteral r n s t = readLiteral sizes s t n >>= judge t r
 
--- What a reading of the definitions over the tables of any rows comes to, where the premise on memory and
--- rows holds; and what holds on every memory.
+-- What a reading of the definitions over the tables of any rows comes to, where the premise on
+-- memory and rows holds; and what holds on every memory.
 pub record StringPost (a : Alignment) (Premise : Rows → Type 0) (read : Rows → Text → Reading)
-    (join : Rows → Placed → Rows) (stream : List ℕ) (at : ℕ) (text : List ℕ) (stored : ℕ) (text′ : List ℕ)
-    (r : StringRead) : Type 0 where
+    (join : Rows → Placed → Rows) (stream : List ℕ) (at : ℕ) (text : List ℕ) (stored : ℕ)
+    (text′ : List ℕ) (r : StringRead) : Type 0 where
   pub inside : r .next ≤ 8 * length stream
   pub refused : 0 < r .number → Refused text stored text′ r
   pub laid : r .number ≡ 0 → Laid text stored text′ r

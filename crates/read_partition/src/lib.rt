@@ -6,9 +6,10 @@ ghost use lib.ListN.{length};
 ghost use Rattle.spec_exi.specs.Sizes.{maxStore};
 ghost use Rattle.read_partition.specs.Strings.{refusedAs, foundAs, literalAs, Dropped};
 
-// The number of a refusal or 0; the position after the string or, where code points of a literal are
-// left, that of the first of these; where the string lies; its row in its table, or the row that it is to
-// have; the code points in the store; and whether it is to join, with the hash of its text.
+// The number of a refusal or 0; the position after the string or, where code points of a literal
+// are left, that of the first of these; where the string lies; its row in its table, or the row
+// that it is to have; the code points in the store; and whether it is to join, with the hash of its
+// text.
 pub struct StringRead {
     pub number: u32,
     pub next: usize,

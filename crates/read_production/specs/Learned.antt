@@ -54,7 +54,8 @@ pub record LearnedRead (work : List ℕ) (site count v learned at next : ℕ) (r
   pub read : r .number ≡ 0 → (r .learned ≡ true) × (r .next ≡ next)
   pub bounds : r .number ≡ 0 → LearnedBounds r
   pub means : (w : Rows) → Valid w → LearnedHold work learned (taughtIn w)
-      → SiteFits (length (w .names)) site → CountedAt work site count → v < count → IsLearned w site v r
+      → SiteFits (length (w .names)) site → CountedAt work site count → v < count
+      → IsLearned w site v r
 
 -- In a fragment's content, where SE alone is learned.
 pub record ChildRead (work : List ℕ) (count v learned at next : ℕ) (r : ProductionRead) : Type 0

@@ -1,5 +1,5 @@
--- What reading one string or more leaves of the text store: those read are laid after it. Of one that
--- is refused the cells are cleared.
+-- What reading one string or more leaves of the text store: those read are laid after it. Of one
+-- that is refused the cells are cleared.
 use Prim.Native.Nat.{ℕ, _+_, _≤_}
 use mathlib.Core.Path.{_≡_}
 use mathlib.Core.List.{List, _++_}

@@ -32,7 +32,8 @@ fn general(
     requires { ⌜ ByCode false (settingsFrom o) (now stream) (now work) c p ⌝ }
     ensures { λ r. ⌜
         StepPost (settingsFrom o) (now (stream .entry)) (now (events .entry)) (now (text .entry))
-        (now (work .entry)) c cell n (now (events .exit)) (now (text .exit)) (now (work .exit)) r ⌝ }
+        (now (work .entry)) c cell n (now (events .exit)) (now (text .exit)) (now (work .exit))
+        r ⌝ }
 {
     let r = read_event::read_event(o, stream, p, c, text, work);
     if r.number != 0 {
@@ -62,7 +63,8 @@ fn learned(
     requires { ⌜ ByCode true (settingsFrom o) (now stream) (now work) c p ⌝ }
     ensures { λ r. ⌜
         StepPost (settingsFrom o) (now (stream .entry)) (now (events .entry)) (now (text .entry))
-        (now (work .entry)) c cell n (now (events .exit)) (now (text .exit)) (now (work .exit)) r ⌝ }
+        (now (work .entry)) c cell n (now (events .exit)) (now (text .exit)) (now (work .exit))
+        r ⌝ }
 {
     let kind = p.kind;
     match kind {
@@ -89,7 +91,8 @@ fn fixed(
     requires { ⌜ ByCode false (settingsFrom o) (now stream) (now work) c p ⌝ }
     ensures { λ r. ⌜
         StepPost (settingsFrom o) (now (stream .entry)) (now (events .entry)) (now (text .entry))
-        (now (work .entry)) c cell n (now (events .exit)) (now (text .exit)) (now (work .exit)) r ⌝ }
+        (now (work .entry)) c cell n (now (events .exit)) (now (text .exit)) (now (work .exit))
+        r ⌝ }
 {
     if (p.kind == EE) & (c.mode == IN_ELEMENT) {
         return read_tags::end_tag(o.fragment, p, c, cell, n, events, work);
@@ -121,7 +124,8 @@ pub fn step(
     requires { ⌜ StepPre (now stream) (now events) (now text) (now work) c cell n ⌝ }
     ensures { λ r. ⌜
         StepPost (settingsFrom o) (now (stream .entry)) (now (events .entry)) (now (text .entry))
-        (now (work .entry)) c cell n (now (events .exit)) (now (text .exit)) (now (work .exit)) r ⌝ }
+        (now (work .entry)) c cell n (now (events .exit)) (now (text .exit)) (now (work .exit))
+        r ⌝ }
 {
     let p = read_production::read_production(o, stream, c.at, c.mode, c.top, c.learned, work);
     if p.number != 0 {

@@ -51,16 +51,16 @@ pub record Plain (work : List ℕ) (c : Core) (p : ProductionRead) : Type 0 wher
 
 -- The step, wherever p is the production of the event's code, in a fragment or not: of any work
 -- memory, which stays.
-pub record PlainPost (fragment : Bool) (events : List ℕ) (c : Core) (cell n : ℕ) (p : ProductionRead)
-    (events′ : List ℕ) (r : Stepped) : Type 0 where
+pub record PlainPost (fragment : Bool) (events : List ℕ) (c : Core) (cell n : ℕ)
+    (p : ProductionRead) (events′ : List ℕ) (r : Stepped) : Type 0 where
   pub steps : (s : Settings) → s .fragment ≡ fragment → (stream text work : List ℕ)
       → StepPre stream events text work c cell n
       → CodeRead s stream work c p → Plain work c p
       → StepPost s stream events text work c cell n events′ text work r
 
 -- The step over work memory.
-pub record TagPost (fragment : Bool) (events work : List ℕ) (c : Core) (cell n : ℕ) (p : ProductionRead)
-    (events′ work′ : List ℕ) (r : Stepped) : Type 0 where
+pub record TagPost (fragment : Bool) (events work : List ℕ) (c : Core) (cell n : ℕ)
+    (p : ProductionRead) (events′ work′ : List ℕ) (r : Stepped) : Type 0 where
   pub steps : (s : Settings) → s .fragment ≡ fragment → (stream text : List ℕ)
       → StepPre stream events text work c cell n
       → CodeRead s stream work c p

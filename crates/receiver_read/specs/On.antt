@@ -102,8 +102,8 @@ pub record Ends (s : Settings) (stream text work : List ℕ) (st : State) (n : �
   pub next : InContext text work st n
       (λ c. Declined (step sizes s c) stream (st .core .at) (numberOf ended))
 
--- They end among the code points of a literal: whatever follows, the event goes on with so many code
--- points from a position on.
+-- They end among the code points of a literal: whatever follows, the event goes on with so many
+-- code points from a position on.
 pub record Awaiting (s : Settings) (stream text work : List ℕ) (st : State) (n at left : ℕ) : Type 0
   where
     pub going : st .core .mode ≡ isOver → ⊥

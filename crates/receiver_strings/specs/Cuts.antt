@@ -31,6 +31,8 @@ module _ {A : Type 0} (p : Parser A) (bs : Bits) where
     cut : Awaits (readCharacter s) p bs mid n → CutAt s mid n
 
 -- A look at what p reads from a position on.
-pub record Sees {A : Type 0} (s : Settings) (p : Parser A) (stream : List ℕ) (at : ℕ) (r : Looked) : Type 0 where
+pub record Sees {A : Type 0} (s : Settings) (p : Parser A) (stream : List ℕ) (at : ℕ)
+    (r : Looked) : Type 0 where
   pub past : r .past ≡ true → Passes p (drop at (unpack stream)) (drop (r .at) (unpack stream))
-  pub cut : 0 < r .left → CutAt p (drop at (unpack stream)) s (drop (r .at) (unpack stream)) (r .left)
+  pub cut : 0 < r .left
+      → CutAt p (drop at (unpack stream)) s (drop (r .at) (unpack stream)) (r .left)

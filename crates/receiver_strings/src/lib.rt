@@ -1,5 +1,5 @@
-// Strings of an event that is cut, passed over (02, P8): no text is laid, and no table is read. What
-// the functions ask and leave is in specs/.
+// Strings of an event that is cut, passed over (02, P8): no text is laid, and no table is read.
+// What the functions ask and leave is in specs/.
 ghost use Rattle.receiver_strings.specs.Strings.{SpotIn, PointRead, SkipPost, StringSeen};
 ghost use Rattle.receiver_strings.specs.Strings.{NumberSeen};
 use read_field::Field;

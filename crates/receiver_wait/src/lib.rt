@@ -1,5 +1,5 @@
-// A literal that is cut is continued at the code point where it was cut (02, P8). What the functions
-// ask and leave is in specs/Wait.antt.
+// A literal that is cut is continued at the code point where it was cut (02, P8). What the
+// functions ask and leave is in specs/Wait.antt.
 ghost use mathlib.Core.Path.{_≡_};
 ghost use lib.ListN.{take};
 ghost use Rattle.settings.specs.Meant.{settingsFrom};

@@ -1,4 +1,5 @@
-// What the two sides agree on outside the stream: the numbers that a caller hands over, and what they mean.
+// What the two sides agree on outside the stream: the numbers that a caller hands over, and what
+// they mean.
 ghost use mathlib.Core.Path.{_≡_};
 ghost use Rattle.spec_exi.specs.Settings.{meaningful};
 ghost use Rattle.settings.specs.Meant.{numbersOf, settingsMeant};

@@ -175,7 +175,7 @@ pub record CommitPre (work : List ℕ) (c : Core) (r : EventJudged) (n : ℕ) : 
   pub early : n < maxEvents
   pub bounds : JudgedRows c r
 
-pub record CommitPost (fragment : Bool) (work : List ℕ) (c : Core) (at : ℕ) (r : EventJudged) (n : ℕ)
-    (work′ : List ℕ) (d : Core) : Type 0 where
+pub record CommitPost (fragment : Bool) (work : List ℕ) (c : Core) (at : ℕ) (r : EventJudged)
+    (n : ℕ) (work′ : List ℕ) (d : Core) : Type 0 where
   pub work-is : work′ ≡ grown c (r .growth) (joinedStrings c (r .content .strings) work)
   pub core-is : d ≡ coreAfter fragment c at (r .content .stored) (r .content .strings) (r .growth) n

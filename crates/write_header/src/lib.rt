@@ -1,4 +1,5 @@
-// The header of a stream (EXI 5), written. What the functions ask and leave is in specs/Header.antt.
+// The header of a stream (EXI 5), written. What the functions ask and leave is in
+// specs/Header.antt.
 ghost use Rattle.settings.specs.Meant.{settingsFrom};
 ghost use Rattle.write_header.specs.Header.{HeaderFits, CookiePut, HeaderPut};
 use settings::Settings;

@@ -1,6 +1,7 @@
 // What a function that judges a string answers, before anything is written or added: whether it is
-// refused, and what is to join its table once the whole event is accepted. And the two forms in which
-// a string of a partition is written (EXI 7.3.3). What the functions ask and leave is in specs/.
+// refused, and what is to join its table once the whole event is accepted. And the two forms in
+// which a string of a partition is written (EXI 7.3.3). What the functions ask and leave is in
+// specs/.
 ghost use mathlib.Core.Path.{_≡_};
 ghost use Prim.Native.Nat.{_+_, _≤_};
 ghost use lib.ListN.{length};

@@ -11,8 +11,8 @@ use event_code::IN_ELEMENT;
 use grammar_codes::Place;
 use settings::Settings;
 
-// Whether the code is a learned production's; how many are learned in the state; and of a learned one
-// how many are newer, the value of its part.
+// Whether the code is a learned production's; how many are learned in the state; and of a learned
+// one how many are newer, the value of its part.
 pub struct Code {
     pub learned: bool,
     pub count: u32,
