@@ -247,80 +247,80 @@ module _ {stream : List ℕ} {at : ℕ} {text work : List ℕ} {c : Core} {p : P
       (c .capacity) (c .top) text₁ x)
       (joins : JoinsWithin (c .values) text₁ x) (i : kindAt (p .kind) ≡ CH)
       (j : p .kind ≡ kindNumber CH) where
-      abbrev charactersAs : Content
-      charactersAs =
-          record {
-            number = 0;
-            next = x .next;
-            left = 0;
-            stored = x .stored;
-            event = Characters (partOf x);
-            strings = valuedStrings noStrings (c .top) (joiningOf x);
-          }
+    abbrev charactersAs : Content
+    charactersAs =
+        record {
+          number = 0;
+          next = x .next;
+          left = 0;
+          stored = x .stored;
+          event = Characters (partOf x);
+          strings = valuedStrings noStrings (c .top) (joiningOf x);
+        }
 
-      own-rows : {w : Rows} → Prepared work text c w → c .top < length (w .names)
-          → ValueRows work text (c .stored) (c .values) (c .longest) (c .capacity) (c .top) w
-      own-rows q h =
-          value-rows q (text-grown room (text-none text (c .stored) stored-few 0))
-          (record { values = refl; longest = refl; capacity = refl }) h
+    own-rows : {w : Rows} → Prepared work text c w → c .top < length (w .names)
+        → ValueRows work text (c .stored) (c .values) (c .longest) (c .capacity) (c .top) w
+    own-rows q h =
+        value-rows q (text-grown room (text-none text (c .stored) stored-few 0))
+        (record { values = refl; longest = refl; capacity = refl }) h
 
-      characters-outcome : (s : Settings) → s .alignment ≡ a → (w : Rows) (st : State)
-          → Prepared work text c w → ContentRows c p st w
-          → Outcome (readString sizes s (tablesAt text (c .stored) w) (characterRole st)) stream at
-          (x .number) (x .next) (StringIs (λ b w y. valueAdded b (c .top) w y) w text₁ x)
-      characters-outcome s e w st q r =
-          let (role, row) = r .inner j in
-          subst
-          (λ (o : Role). Outcome (readString sizes s (tablesAt text (c .stored) w) o) stream at
-          (x .number) (x .next) (StringIs (λ b w y. valueAdded b (c .top) w y) w text₁ x)) (sym role)
-          (value-outcome room stored-few post s e (q .valid) (few-rows (pre .pair .bounded) (q .counts))
-          (own-rows q row))
+    characters-outcome : (s : Settings) → s .alignment ≡ a → (w : Rows) (st : State)
+        → Prepared work text c w → ContentRows c p st w
+        → Outcome (readString sizes s (tablesAt text (c .stored) w) (characterRole st)) stream at
+        (x .number) (x .next) (StringIs (λ b w y. valueAdded b (c .top) w y) w text₁ x)
+    characters-outcome s e w st q r =
+        let (role, row) = r .inner j in
+        subst
+        (λ (o : Role). Outcome (readString sizes s (tablesAt text (c .stored) w) o) stream at
+        (x .number) (x .next) (StringIs (λ b w y. valueAdded b (c .top) w y) w text₁ x)) (sym role)
+        (value-outcome room stored-few post s e (q .valid) (few-rows (pre .pair .bounded) (q .counts))
+        (own-rows q row))
 
-      pub characters-refused : 0 < x .number → ContentPost a stream at text work c p text₁
-          (stoppedAs (x .number) (x .next) (x .left) (x .stored))
-      unfolding readContent
-      characters-refused h =
-          content-refused pre (x .number) (x .next) (x .left) (x .stored) h (post .inside)
-          (value-text room stored-few post) CH i
-          (λ s b w st q r. declined-then _ (characters-outcome s b w st q r .refused h))
+    pub characters-refused : 0 < x .number → ContentPost a stream at text work c p text₁
+        (stoppedAs (x .number) (x .next) (x .left) (x .stored))
+    unfolding readContent
+    characters-refused h =
+        content-refused pre (x .number) (x .next) (x .left) (x .stored) h (post .inside)
+        (value-text room stored-few post) CH i
+        (λ s b w st q r. declined-then _ (characters-outcome s b w st q r .refused h))
 
-      characters-means : {w : Rows} → Valid w → {y : Placed × Tables}
-          → StringIs (λ b w y. valueAdded b (c .top) w y) w text₁ x y
-          → ContentMeans (p .kind) text₁ w charactersAs (characters (y .0), y .1)
-      unfolding meaning mapEvent kindOf nameOf carries
-      characters-means {w} v {y} k =
-          record {
-            rows = valueAdded (x .joins) (c .top) w (y .0);
-            joins = join-value refl (none-join (inStore text (c .stored)) v)
-                (text-grown room (value-text room stored-few post)) (c .top) k (joins .hashed);
-            tables = k .tables;
-            event = ap characters (span-is k);
-            kind-is = sym i;
-            named = λ h. absurd (true≢false (sym h));
-            unnamed = λ _. record { row = refl; uri = refl };
-          }
+    characters-means : {w : Rows} → Valid w → {y : Placed × Tables}
+        → StringIs (λ b w y. valueAdded b (c .top) w y) w text₁ x y
+        → ContentMeans (p .kind) text₁ w charactersAs (characters (y .0), y .1)
+    unfolding meaning mapEvent kindOf nameOf carries
+    characters-means {w} v {y} k =
+        record {
+          rows = valueAdded (x .joins) (c .top) w (y .0);
+          joins = join-value refl (none-join (inStore text (c .stored)) v)
+              (text-grown room (value-text room stored-few post)) (c .top) k (joins .hashed);
+          tables = k .tables;
+          event = ap characters (span-is k);
+          kind-is = sym i;
+          named = λ h. absurd (true≢false (sym h));
+          unnamed = λ _. record { row = refl; uri = refl };
+        }
 
-      pub characters-read : x .number ≡ 0 → ContentPost a stream at text work c p text₁ charactersAs
-      unfolding readContent
-      characters-read z =
-          content-read pre charactersAs refl (post .inside)
-          (subst (λ k. TextRead text (c .stored) text₁ k (x .stored)) z
-          (value-text room stored-few post))
-          (record {
-            uris = λ b. absurd (true≢false (sym b));
-            names = λ b. absurd (true≢false (sym b));
-            values = joins .left;
-            uri = omega arith;
-            name = omega arith;
-            owner = pre .pair .bounded .top;
-          })
-          CH i
-          (λ s b w st q r.
-          subst (λ k. Outcome (readString sizes s (tablesAt text (c .stored) w) (characterRole st)
-          >>= λ v. return (characters (v .0), v .1)) stream at k (x .next)
-          (ContentMeans (p .kind) text₁ w charactersAs)) z
-          (outcome-map (λ v. (characters (v .0), v .1)) (characters-outcome s b w st q r)
-          (λ _ v m. characters-means (q .valid) m)))
+    pub characters-read : x .number ≡ 0 → ContentPost a stream at text work c p text₁ charactersAs
+    unfolding readContent
+    characters-read z =
+        content-read pre charactersAs refl (post .inside)
+        (subst (λ k. TextRead text (c .stored) text₁ k (x .stored)) z
+        (value-text room stored-few post))
+        (record {
+          uris = λ b. absurd (true≢false (sym b));
+          names = λ b. absurd (true≢false (sym b));
+          values = joins .left;
+          uri = omega arith;
+          name = omega arith;
+          owner = pre .pair .bounded .top;
+        })
+        CH i
+        (λ s b w st q r.
+        subst (λ k. Outcome (readString sizes s (tablesAt text (c .stored) w) (characterRole st)
+        >>= λ v. return (characters (v .0), v .1)) stream at k (x .next)
+        (ContentMeans (p .kind) text₁ w charactersAs)) z
+        (outcome-map (λ v. (characters (v .0), v .1)) (characters-outcome s b w st q r)
+        (λ _ v m. characters-means (q .valid) m)))
 
   -- ---- an attribute
 

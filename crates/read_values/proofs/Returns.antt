@@ -94,7 +94,7 @@ module _ {a : Alignment} {stream : List ℕ} {at stored : ℕ} {work : List ℕ}
         post-missing (valueRole owner) 1 anyList text (fit .place) (fit .store) answer
         (λ w store t p. any-count t p gone) z
         (λ w store t p x s.
-        let y = at-none (anyList w store) i 
+        let y = at-none (anyList w store) i
         (omega (arith, any-count t p gone, nth-none values low newer i n e)) in
         let w : _≡_ {A = ℕ} 0 1 = cc in omega arith)
 

@@ -21,7 +21,7 @@ use Rattle.mem_layout.specs.Layout.{workCells, zeroCells}
 use Rattle.mem_state.specs.Holds.{inStore, Represents, Topped, contextAt}
 use Rattle.mem_initial.specs.Initial.{zeroed, withText, withRows, startAt, startRows}
 use Rattle.mem_initial.proofs.Initial.{store-sourced, heads-zero, start-represents, start-topped}
-use Rattle.mem_initial.proofs.Initial.{start-means}
+use Rattle.mem_initial.proofs.Initial.{BoundsOf, start-means}
 use Rattle.open_elements.specs.Opened.{lastFirst, noneOpen, openedIn}
 use Rattle.read_run.specs.declared.Advanced.{Advanced}
 use Rattle.read_run.specs.Events.{Steps, none-read, one-read}
@@ -63,6 +63,11 @@ five-reach = refl
 not-over : isFinished (start asOctets .state) ≡ false
 unfolding definitions asOctets
 not-over = refl
+
+-- No bound is set for values.
+unbounded : BoundsOf asOctets 0 0
+unfolding definitions asOctets
+unbounded = record { longest-is = refl; capacity-is = refl }
 
 -- ---- in memory
 
@@ -108,8 +113,8 @@ module _ {events text work events′ text′ work′ : List ℕ} {r : Advanced}
       (openedIn (noneOpen (startAt 8 0 0)))
 
   begins : begun ≡ start asOctets
-  unfolding noneOpen lastFirst startAt definitions asOctets
-  begins = start-means text 8 (record { longest-is = refl; capacity-is = refl })
+  unfolding noneOpen lastFirst startAt
+  begins = start-means text 8 unbounded
 
   abbrev onward : Bits
   onward = drop (noneOpen (startAt 8 0 0) .core .at) (unpack firstReading)

@@ -48,9 +48,9 @@ refused-requires-2 c κs = search needs
 returns : tie.Need-returns
 unfolding numberOf
 returns c = rw (c .refused2 .ensures) (
-    (λ text longest. any-absent (c .before .before .before .before .before .before .before .before .before .before .before .pre) (c .before .before .before .before .before .before .before .before .replaced .ensures) (c .before .before .before .before .before .before .before .choice .ensures) text (c .before .before .before .before .before .value .given .1) (c .before .before .before .newest-numbers .ensures) (c .before .before .nth-global .ensures) (c .before .if1 .taken)),
-    (λ text. joins-not refl),
-    )
+  (λ text longest. any-absent (c .before .before .before .before .before .before .before .before .before .before .before .pre) (c .before .before .before .before .before .before .before .before .replaced .ensures) (c .before .before .before .before .before .before .before .choice .ensures) text (c .before .before .before .before .before .value .given .1) (c .before .before .before .newest-numbers .ensures) (c .before .before .nth-global .ensures) (c .before .if1 .taken)),
+  (λ text. joins-not refl),
+)
 
 sub-value-at : tie.Need-sub-value-at
 sub-value-at c = search needs
@@ -64,9 +64,9 @@ refused-requires-3 c κs = search needs
 returns-2 : tie.Need-returns-2
 unfolding numberOf
 returns-2 c = rw (c .refused3 .ensures) (
-    (λ text longest. any-own (c .before .before .before .before .before .before .before .before .before .before .before .before .before .pre) (c .before .before .before .before .before .before .before .before .before .before .replaced .ensures) (c .before .before .before .before .before .before .before .before .before .choice .ensures) text (c .before .before .before .before .before .before .before .value .given .1) (c .before .before .before .before .before .newest-numbers .ensures) (c .before .before .before .before .nth-global .ensures) (c .before .before .before .if1 .left) (c .before .before .value-at .ensures) (c .before .if2 .taken)),
-    (λ text. joins-not refl),
-    )
+  (λ text longest. any-own (c .before .before .before .before .before .before .before .before .before .before .before .before .before .pre) (c .before .before .before .before .before .before .before .before .before .before .replaced .ensures) (c .before .before .before .before .before .before .before .before .before .choice .ensures) text (c .before .before .before .before .before .before .before .value .given .1) (c .before .before .before .before .before .newest-numbers .ensures) (c .before .before .before .before .nth-global .ensures) (c .before .before .before .if1 .left) (c .before .before .value-at .ensures) (c .before .if2 .taken)),
+  (λ text. joins-not refl),
+)
 
 sub-found : tie.Need-sub-found
 sub-found c = search needs
@@ -76,15 +76,15 @@ found-requires c κs = search needs
 
 returns-3 : tie.Need-returns-3
 returns-3 c = rw (c .refused .ensures) (
-    (λ text longest. any-refused (c .before .before .before .before .before .before .before .before .pre) (c .before .before .before .before .before .replaced .ensures) (c .before .before .before .before .choice .ensures) text (c .before .before .k .given .1)),
-    (λ text. joins-not refl),
-    )
+  (λ text longest. any-refused (c .before .before .before .before .before .before .before .before .pre) (c .before .before .before .before .before .replaced .ensures) (c .before .before .before .before .choice .ensures) text (c .before .before .k .given .1)),
+  (λ text. joins-not refl),
+)
 
 returns-4 : tie.Need-returns-4
 returns-4 c = rw (c .found .ensures) (
-    (λ text longest. any-found (c .before .before .before .before .before .before .before .before .before .before .before .before .before .pre) (c .before .before .before .before .before .before .before .before .before .before .replaced .ensures) (c .before .before .before .before .before .before .before .before .before .choice .ensures) text (c .before .before .before .before .before .before .before .value .given .1) (c .before .before .before .before .before .newest-numbers .ensures) (c .before .before .before .before .nth-global .ensures) (c .before .before .before .if1 .left) (c .before .before .value-at .ensures) (c .before .if2 .left)),
-    (λ text. joins-not refl),
-    )
+  (λ text longest. any-found (c .before .before .before .before .before .before .before .before .before .before .before .before .before .pre) (c .before .before .before .before .before .before .before .before .before .before .replaced .ensures) (c .before .before .before .before .before .before .before .before .before .choice .ensures) text (c .before .before .before .before .before .before .before .value .given .1) (c .before .before .before .before .before .newest-numbers .ensures) (c .before .before .before .before .nth-global .ensures) (c .before .before .before .if1 .left) (c .before .before .value-at .ensures) (c .before .if2 .left)),
+  (λ text. joins-not refl),
+)
 
 pub any-value-spec : {M : Type 1} → statement M
 any-value-spec =

@@ -31,9 +31,9 @@ same-length c = search needs
 
 returns : tie.Need-returns
 returns c = rw (c .refused .ensures) (
-    (λ a owner. literal-refused (valueRole owner) (c .before .before .before .before .before .read-literal .ensures) (omega (arith, c .before .if1 .taken))),
-    joins-not refl,
-    )
+  (λ a owner. literal-refused (valueRole owner) (c .before .before .before .before .before .read-literal .ensures) (omega (arith, c .before .if1 .taken))),
+  joins-not refl,
+)
 
 seek-requires : tie.Need-seek-requires
 seek-requires c κs = seek-asks (c .before .before .before .before .before .before .before .before .before .before .pre) (c .before .before .before .before .before .read-literal .ensures) (c .before .if1 .left)
@@ -47,9 +47,9 @@ same-length-2 c = search needs
 returns-2 : tie.Need-returns-2
 unfolding numberOf
 returns-2 c = rw (c .before .before .dropped .ensures .is) (
-    (λ a owner. new-loose (c .before .before .before .before .before .before .before .before .before .before .before .before .before .before .before .before .pre) (c .before .before .before .before .before .before .before .before .before .before .before .read-literal .ensures) (c .before .before .before .before .before .before .before .if1 .left) (c .before .before .before .before .before .seek .ensures) (c .before .before .before .before .if2 .taken) (c .before .before .dropped .ensures .text-is)),
-    joins-not refl,
-    )
+  (λ a owner. new-loose (c .before .before .before .before .before .before .before .before .before .before .before .before .before .before .before .before .pre) (c .before .before .before .before .before .before .before .before .before .before .before .read-literal .ensures) (c .before .before .before .before .before .before .before .if1 .left) (c .before .before .before .before .before .seek .ensures) (c .before .before .before .before .if2 .taken) (c .before .before .dropped .ensures .text-is)),
+  joins-not refl,
+)
 
 joins-requires : tie.Need-joins-requires
 joins-requires c κs = search needs
@@ -62,9 +62,9 @@ same-length-3 c = search needs
 
 returns-3 : tie.Need-returns-3
 returns-3 c = rw (c .laid .ensures) (
-    (λ a owner. new-stays (c .before .before .before .before .before .before .before .before .before .before .before .before .before .before .before .pre) (c .before .before .before .before .before .before .before .before .before .before .read-literal .ensures) (c .before .before .before .before .before .before .if1 .left) (c .before .before .before .before .seek .ensures) (c .before .before .before .if2 .left) (sym (c .before .before .joins .ensures) ∙ not-true _ (c .before .if3 .taken))),
-    joins-not refl,
-    )
+  (λ a owner. new-stays (c .before .before .before .before .before .before .before .before .before .before .before .before .before .before .before .pre) (c .before .before .before .before .before .before .before .before .before .before .read-literal .ensures) (c .before .before .before .before .before .before .if1 .left) (c .before .before .before .before .seek .ensures) (c .before .before .before .if2 .left) (sym (c .before .before .joins .ensures) ∙ not-true _ (c .before .if3 .taken))),
+  joins-not refl,
+)
 
 dropped-requires-2 : tie.Need-dropped-requires-2
 dropped-requires-2 c κs = new-room (c .before .before .before .before .before .before .before .before .before .before .before .before .before .before .before .before .pre .literal) (c .before .before .before .before .before .before .before .before .before .before .before .read-literal .ensures) (c .before .before .before .before .before .before .before .if1 .left)
@@ -75,9 +75,9 @@ same-length-4 c = search needs
 returns-4 : tie.Need-returns-4
 unfolding numberOf maxValues
 returns-4 c = rw (c .before .before .dropped2 .ensures .is) (
-    (λ a owner. new-full (c .before .before .before .before .before .before .before .before .before .before .before .before .before .before .before .before .before .before .before .pre) (c .before .before .before .before .before .before .before .before .before .before .before .before .before .before .read-literal .ensures) (c .before .before .before .before .before .before .before .before .before .before .if1 .left) (c .before .before .before .before .before .before .before .before .seek .ensures) (c .before .before .before .before .before .before .before .if2 .left) (sym (c .before .before .before .before .before .before .joins .ensures) ∙ not-false _ (c .before .before .before .before .before .if3 .left)) (c .before .before .before .before .if4 .taken) (c .before .before .dropped2 .ensures .text-is)),
-    joins-not refl,
-    )
+  (λ a owner. new-full (c .before .before .before .before .before .before .before .before .before .before .before .before .before .before .before .before .before .before .before .pre) (c .before .before .before .before .before .before .before .before .before .before .before .before .before .before .read-literal .ensures) (c .before .before .before .before .before .before .before .before .before .before .if1 .left) (c .before .before .before .before .before .before .before .before .seek .ensures) (c .before .before .before .before .before .before .before .if2 .left) (sym (c .before .before .before .before .before .before .joins .ensures) ∙ not-false _ (c .before .before .before .before .before .if3 .left)) (c .before .before .before .before .if4 .taken) (c .before .before .dropped2 .ensures .text-is)),
+  joins-not refl,
+)
 
 laid-requires-2 : tie.Need-laid-requires-2
 laid-requires-2 c κs = c .before .before .before .before .before .before .before .before .before .before .read-literal .ensures .ends (c .before .before .before .before .before .before .if1 .left)
@@ -88,9 +88,9 @@ same-length-5 c = search needs
 returns-5 : tie.Need-returns-5
 unfolding maxValues
 returns-5 c = rw (c .laid2 .ensures) (
-    (λ a owner. new-joins (c .before .before .before .before .before .before .before .before .before .before .before .before .before .before .before .before .pre) (c .before .before .before .before .before .before .before .before .before .before .before .read-literal .ensures) (c .before .before .before .before .before .before .before .if1 .left) (c .before .before .before .before .before .seek .ensures) (c .before .before .before .before .if2 .left) (sym (c .before .before .before .joins .ensures) ∙ not-false _ (c .before .before .if3 .left)) (c .before .if4 .left)),
-    new-within (c .before .before .before .before .before .before .before .before .before .before .before .before .before .before .before .before .pre) (c .before .before .before .before .before .before .before .before .before .before .before .read-literal .ensures) (c .before .before .before .before .before .before .before .if1 .left) (c .before .before .before .before .before .before .before .before .before .before .before .before .before .before .before .before .args .longest) (c .before .before .before .before .before .before .before .before .before .before .before .before .before .before .before .before .args .capacity) (sym (c .before .before .before .joins .ensures) ∙ not-false _ (c .before .before .if3 .left)),
-    )
+  (λ a owner. new-joins (c .before .before .before .before .before .before .before .before .before .before .before .before .before .before .before .before .pre) (c .before .before .before .before .before .before .before .before .before .before .before .read-literal .ensures) (c .before .before .before .before .before .before .before .if1 .left) (c .before .before .before .before .before .seek .ensures) (c .before .before .before .before .if2 .left) (sym (c .before .before .before .joins .ensures) ∙ not-false _ (c .before .before .if3 .left)) (c .before .if4 .left)),
+  new-within (c .before .before .before .before .before .before .before .before .before .before .before .before .before .before .before .before .pre) (c .before .before .before .before .before .before .before .before .before .before .before .read-literal .ensures) (c .before .before .before .before .before .before .before .if1 .left) (c .before .before .before .before .before .before .before .before .before .before .before .before .before .before .before .before .args .longest) (c .before .before .before .before .before .before .before .before .before .before .before .before .before .before .before .before .args .capacity) (sym (c .before .before .before .joins .ensures) ∙ not-false _ (c .before .before .if3 .left)),
+)
 
 pub new-value-spec : {M : Type 1} → statement M
 new-value-spec =

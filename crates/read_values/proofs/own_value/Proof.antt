@@ -45,9 +45,9 @@ refused-requires-2 c κs = search needs
 returns : tie.Need-returns
 unfolding numberOf
 returns c = rw (c .refused2 .ensures) (
-    (λ text longest. own-absent (c .before .before .before .before .before .before .before .before .before .before .before .pre) (c .before .before .before .before .before .before .before .before .count-local .ensures) (c .before .before .before .before .before .before .before .choice .ensures) text (c .before .before .before .before .before .value .given .1) (c .before .before .before .replaced .ensures) (c .before .before .nth-local .ensures) (c .before .if1 .taken)),
-    (λ text. joins-not refl),
-    )
+  (λ text longest. own-absent (c .before .before .before .before .before .before .before .before .before .before .before .pre) (c .before .before .before .before .before .before .before .before .count-local .ensures) (c .before .before .before .before .before .before .before .choice .ensures) text (c .before .before .before .before .before .value .given .1) (c .before .before .before .replaced .ensures) (c .before .before .nth-local .ensures) (c .before .if1 .taken)),
+  (λ text. joins-not refl),
+)
 
 sub-value-at : tie.Need-sub-value-at
 sub-value-at c = search needs
@@ -63,15 +63,15 @@ found-requires c κs = search needs
 
 returns-2 : tie.Need-returns-2
 returns-2 c = rw (c .refused .ensures) (
-    (λ text longest. own-refused (c .before .before .before .before .before .before .before .before .pre) (c .before .before .before .before .before .count-local .ensures) (c .before .before .before .before .choice .ensures) text (c .before .before .k .given .1)),
-    (λ text. joins-not refl),
-    )
+  (λ text longest. own-refused (c .before .before .before .before .before .before .before .before .pre) (c .before .before .before .before .before .count-local .ensures) (c .before .before .before .before .choice .ensures) text (c .before .before .k .given .1)),
+  (λ text. joins-not refl),
+)
 
 returns-3 : tie.Need-returns-3
 returns-3 c = rw (c .found .ensures) (
-    (λ text longest. own-found (c .before .before .before .before .before .before .before .before .before .before .before .before .pre) (c .before .before .before .before .before .before .before .before .before .count-local .ensures) (c .before .before .before .before .before .before .before .before .choice .ensures) text (c .before .before .before .before .before .before .value .given .1) (c .before .before .before .before .replaced .ensures) (c .before .before .before .nth-local .ensures) (c .before .before .if1 .left) (c .before .value-at .ensures)),
-    (λ text. joins-not refl),
-    )
+  (λ text longest. own-found (c .before .before .before .before .before .before .before .before .before .before .before .before .pre) (c .before .before .before .before .before .before .before .before .before .count-local .ensures) (c .before .before .before .before .before .before .before .before .choice .ensures) text (c .before .before .before .before .before .before .value .given .1) (c .before .before .before .before .replaced .ensures) (c .before .before .before .nth-local .ensures) (c .before .before .if1 .left) (c .before .value-at .ensures)),
+  (λ text. joins-not refl),
+)
 
 pub own-value-spec : {M : Type 1} → statement M
 own-value-spec =

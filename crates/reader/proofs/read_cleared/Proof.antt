@@ -61,8 +61,7 @@ read-stream-requires c κs =
     let if2 = if3 .before in
     let are-meaningful = if2 .before in
     let if1 = are-meaningful .before in
-    let start = if1 .before .before .before .before .before in
-    (
+    let start = if1 .before .before .before .before .before in (
       stream-asks (start .args .s) (now (start .args .stream)) (now (start .args .work))
           (start .pre) (if1 .if1 .left) (are-meaningful .are-meaningful .ensures) (if2 .if2 .left)
           (if3 .if3 .left),
