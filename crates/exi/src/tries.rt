@@ -3,8 +3,8 @@ ghost use Prim.Native.Nat.{_≤_};
 use exi_say::tell;
 use settings::SettingNumbers;
 
-// How many settings are tried: one for each set of the flags for a stream, with the bounds of values
-// that are asked for, then without them.
+// How many settings are tried: one for each set of the flags for a stream, with the bounds of
+// values that are asked for, then without them.
 const TRIED: u32 = 64;
 
 const BOUNDED: u32 = 32;

@@ -6,7 +6,7 @@ use mathlib.Core.Bool.{Bool, true, false, _&&_, _||_, not, true≢false}
 use mathlib.Core.List.{List, _++_}
 use lib.ListN.{length, replicate, length-replicate}
 use lib.Dec.{leb, ltb}
-use borrow.Author.Tests.{le-leb, lt-leb, ltb-true, ltb-false}
+use borrow.Author.Tests.{le-leb, lt-leb, ltb-true, ltb-false, not-false}
 use Rattle.spec_fields.specs.Bits.{Bits, unpack, octetsFor, pack}
 use Rattle.spec_fields.specs.Refusal.{Refusal, numberOf, room, settings, long, Answer, refused, numberRoom, numberLong}
 use Rattle.spec_fields.specs.Refusal.{accepted, numberSettings}
@@ -15,13 +15,13 @@ use Rattle.spec_fields.proofs.Refusal.{refusal-number}
 use Rattle.text.specs.Text.{Text}
 use Rattle.spec_exi.specs.Settings.{meaningful, settingsOf, headerOf}
 use Rattle.spec_exi.specs.Settings as format
-use Rattle.spec_exi.specs.Sizes.{sizes, maxStream, maxEvents, readerWork, writerWork}
+use Rattle.spec_exi.specs.Sizes.{sizes, maxStream, maxEvents, maxValues, readerWork, writerWork}
 use Rattle.spec_exi.specs.Context.{start}
 use Rattle.spec_exi.specs.Writer.{Stored, writeEvents, asOctets, writeList, enoughToWrite}
 use Rattle.spec_exi.specs.Writer.{writeReply}
 use Rattle.spec_exi.specs.Writer as format-writer
 use Rattle.settings.specs.Meant.{numbersOf, settingsMeant, settingsFrom}
-use Rattle.settings.proofs.Laws.{settings-from}
+use Rattle.settings.proofs.Laws.{settings-from, capacity-few}
 use Rattle.settings.specs.declared.SettingNumbers.{SettingNumbers}
 use Rattle.settings.specs.declared.Settings.{Settings}
 use Rattle.event.specs.Cells.{eventsOf}
@@ -189,17 +189,26 @@ module _ (s : SettingNumbers) (stream events : List ℕ) (store : Text) (work : 
   no-room after e = attempted-refused room 0 numberRoom 0 (rw (lent-is, e)) refl refl
 
   module _ (few : too-short ≡ false) where
-    pub list-asks : {zeros : List ℕ} → zeros ≡ replicate (length stream) 0 → ListFits zeros work
+    pub list-asks : {zeros : List ℕ} → zeros ≡ replicate (length stream) 0 → {capacity : ℕ}
+        → capacity ≤ maxValues + 1 → ListFits capacity zeros work
     unfolding maxStream writerWork readerWork
-    list-asks e =
+    list-asks e c =
         let (a, b) = fits (length stream) (length work) maxStream writerWork few in
         rw e (record {
           blank = zeros-blank (length stream);
           octets = rw (length-replicate {A = ℕ} (length stream) 0) a;
           rows = b;
+          bound = c;
         })
 
     module _ {asked : Bool} (meant : asked ≡ meaningful (numbersOf s)) where
+      pub bound-asked : {o : Settings} → not asked ≡ false → o ≡ settingsMeant s
+          → o .capacity ≤ maxValues + 1
+      unfolding settingsMeant
+      bound-asked e o-is =
+          subst (λ n. n ≤ maxValues + 1) (sym (ap (λ (x : Settings). x .capacity) o-is))
+          (capacity-few s (sym meant ∙ not-false asked e))
+
       pub no-meaning : (after : List ℕ) → not asked ≡ true
           → Attempted answer-here stream after (refusedAs numberSettings 0)
       unfolding answerOf writerRoom format-writer.write enoughToWrite maxStream writerWork readerWork numberOf

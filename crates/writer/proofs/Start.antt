@@ -1,6 +1,6 @@
 -- Work memory with the initial entries, after the header: the events can be written, and the
 -- context is the definitions' start, up to the places of strings.
-use Prim.Native.Nat.{ℕ, zero, suc, _≤_, _<_}
+use Prim.Native.Nat.{ℕ, zero, suc, _+_, _≤_, _<_}
 use native.Mathlib.Omega.{arith}
 use native.Mathlib.Nat.{le-refl}
 use mathlib.Core.Path.{_≡_, refl, sym, ap, subst, _∙_}
@@ -13,11 +13,14 @@ use Rattle.spec_fields.proofs.Tests.{split}
 use Rattle.spec_fields.proofs.Pack.{length-unpack}
 use Rattle.text.specs.Text.{Text, text, allChars, isChar}
 use Rattle.spec_exi.specs.Settings.{Settings, headerOf}
-use Rattle.spec_exi.specs.Sizes.{sizes, maxEvents, maxString, maxOpen, readerWork, writerWork}
+use Rattle.spec_exi.specs.Sizes.{sizes, maxEvents, maxString, maxOpen, maxValues, readerWork}
+use Rattle.spec_exi.specs.Sizes.{writerWork}
 use Rattle.spec_exi.specs.Tables.{xmlUri, xsiUri}
 use Rattle.spec_exi.specs.Context.{start}
 use Rattle.spec_exi.specs.Writer.{Stored, writeEvents}
 use Rattle.spec_exi.proofs.Alike.{write-alike}
+use Rattle.settings.specs.declared.Settings as declared
+use Rattle.settings.specs.Meant.{settingsFrom}
 use Rattle.mem_layout.specs.Layout.{workCells, zeroCells}
 use Rattle.mem_entries.specs.Texts.{upTo}
 use Rattle.mem_entries.specs.Entries.{entryAt, textAt}
@@ -28,7 +31,7 @@ use Rattle.mem_initial.specs.Initial.{zeroed, initialUris, initialNames, togeth
 use Rattle.mem_initial.specs.Initial.{initialText, withRows, plusUris, plusNames, initialRows}
 use Rattle.mem_initial.specs.Initial.{startRows, startAt, Layable}
 use Rattle.mem_initial.proofs.Initial.{opening-sourced, heads-zero, start-represents, start-topped}
-use Rattle.mem_initial.proofs.Initial.{start-bounded, start-alike}
+use Rattle.mem_initial.proofs.Initial.{start-bounded, BoundsOf, start-alike}
 use Rattle.open_elements.specs.declared.State.{State}
 use Rattle.open_elements.specs.Opened.{lastFirst, openedIn, noneOpen}
 use Rattle.write_field.specs.Written.{Put}
@@ -48,13 +51,15 @@ short-header : (s : Settings) → length (headerOf s) ≤ 5
 unfolding headerOf
 short-header s = split (s .cookie) (λ e. rw e (omega arith)) (λ e. rw e (omega arith))
 
-pub body-asks : (s : Settings) {stream mid work : List ℕ} {at : ℕ} → HeaderPut s stream mid at
-    → writerWork ≤ length work → BodyPre mid at work
-body-asks s put room =
+pub body-asks : (s : Settings) {capacity : ℕ} {stream mid work : List ℕ} {at : ℕ}
+    → HeaderPut s stream mid at → writerWork ≤ length work → capacity ≤ maxValues + 1
+    → BodyPre capacity mid at work
+body-asks s put room few =
     record {
       blank = put-blank put;
       near = omega (arith, put .next, length-unpack (headerOf s), short-header s);
       rows = room;
+      bound = few;
     }
 
 -- ---- the rows of the initial entries
@@ -65,18 +70,21 @@ written x e =
     record { short = leb-true (length x) maxString a; chars = b }
 
 -- Each was judged, by computation.
-start-writable : Writable startRows
+start-writable : (longest capacity : ℕ) → Writable (startRows longest capacity)
 unfolding initialRows plusUris plusNames withUri withName initialUris initialNames together urisText
     xmlUri xsiUri text uriAt entryAt allChars isChar maxString
-start-writable = record { uris = uris; names = names; values = λ i l. absurd (omega arith) }
+start-writable longest capacity =
+    record { uris = uris; names = names; values = λ i l. absurd (omega arith) }
   where
-    uris : (i : ℕ) → i < length (startRows .uris) → Written (uriText (startRows .uris) i)
+    uris : (i : ℕ) → i < length (startRows longest capacity .uris)
+        → Written (uriText (startRows longest capacity .uris) i)
     uris zero l = written _ refl
     uris (suc zero) l = written _ refl
     uris (suc (suc zero)) l = written _ refl
     uris (suc (suc (suc i))) l = absurd (omega arith)
 
-    names : (i : ℕ) → i < length (startRows .names) → Written (textAt (startRows .names) i)
+    names : (i : ℕ) → i < length (startRows longest capacity .names)
+        → Written (textAt (startRows longest capacity .names) i)
     names zero l = written _ refl
     names (suc zero) l = written _ refl
     names (suc (suc zero)) l = written _ refl
@@ -85,9 +93,9 @@ start-writable = record { uris = uris; names = names; values = λ i l. absurd (o
     names (suc (suc (suc (suc (suc zero))))) l = written _ refl
     names (suc (suc (suc (suc (suc (suc i)))))) l = absurd (omega arith)
 
-start-begun : Begun startRows
+start-begun : (longest capacity : ℕ) → Begun (startRows longest capacity)
 unfolding initialRows plusUris plusNames withUri withName initialUris initialNames
-start-begun = record { uris = le-refl 3; names = le-refl 6 }
+start-begun longest capacity = record { uris = le-refl 3; names = le-refl 6 }
 
 -- ---- the start
 
@@ -97,7 +105,13 @@ opening-source : (first : ℕ) (store : List ℕ) (i : ℕ) → i < first
 unfolding sourceOf
 opening-source first store i l = rw (lt-ltb i first l)
 
-module _ {stream : List ℕ} {at : ℕ} {work : List ℕ} (h : BodyPre stream at work) where
+-- The settings' numbers for values are those of the start.
+pub bounds-from : (o : declared.Settings) → BoundsOf (settingsFrom o) (o .longest) (o .capacity)
+unfolding settingsFrom
+bounds-from o = record { longest-is = refl; capacity-is = refl }
+
+module _ {capacity : ℕ} {stream : List ℕ} {at : ℕ} {work : List ℕ}
+    (h : BodyPre capacity stream at work) where
   pub heads-ask : workCells ≤ length work
   unfolding writerWork readerWork
   heads-ask = omega (arith, h .rows)
@@ -106,9 +120,9 @@ module _ {stream : List ℕ} {at : ℕ} {work : List ℕ} (h : BodyPre stream at
   rows-ask e = record { room = omega (arith, heads-ask); near = omega arith }
 
   -- Heads and counts are cleared, and the rows are laid.
-  module _ {work₁ work₂ opening : List ℕ} {st : State} (opens : opening ≡ initialText)
+  module _ {longest : ℕ} {work₁ work₂ opening : List ℕ} {st : State} (opens : opening ≡ initialText)
       (heads : work₁ ≡ zeroed zeroCells work) (rows : work₂ ≡ withRows work₁ 0)
-      (begins : st ≡ noneOpen (startAt at)) (same₁ : length work₁ ≡ length work)
+      (begins : st ≡ noneOpen (startAt at longest capacity)) (same₁ : length work₁ ≡ length work)
       (same₂ : length work₂ ≡ length work₁) where
     room₁ : workCells ≤ length work₁
     room₁ = omega (arith, heads-ask)
@@ -121,7 +135,7 @@ module _ {stream : List ℕ} {at : ℕ} {work : List ℕ} (h : BodyPre stream at
           blank = h .blank;
           near = h .near;
           rows = omega (arith, room₁, same₂);
-          bounded = start-bounded at;
+          bounded = start-bounded at longest capacity (h .bound);
           array = length-replicate {A = ℕ} maxOpen 0;
           tag = le-refl 1;
         })
@@ -129,38 +143,41 @@ module _ {stream : List ℕ} {at : ℕ} {work : List ℕ} (h : BodyPre stream at
     zeros : (j : ℕ) → j < zeroCells → getD work₁ j 0 ≡ 0
     zeros j l = ap (λ (m : List ℕ). getD m j 0) heads ∙ heads-zero work heads-ask j l
 
-    start-stands : (store : List ℕ) → Stands opening store work₂ (st .core) startRows (openedIn st)
+    start-stands : (store : List ℕ)
+        → Stands opening store work₂ (st .core) (startRows longest capacity) (openedIn st)
     unfolding noneOpen startAt lastFirst
     start-stands store =
         rw (begins, rows, opens)
         (record {
           represents = start-represents work₁ room₁ zeros
               (opening-sourced (opening-source 3 store) (opening-source 6 store)
-              (le-refl (length store))) at;
-          writable = start-writable;
-          begun = start-begun;
+              (le-refl (length store))) at longest capacity;
+          writable = start-writable longest capacity;
+          begun = start-begun longest capacity;
         })
 
     topped : Topped (st .core) (openedIn st)
     unfolding noneOpen startAt lastFirst
-    topped = rw begins (start-topped at)
+    topped = rw begins (start-topped at longest capacity)
 
     there : st .core .at ≡ at
     unfolding noneOpen startAt
     there = ap (λ (x : State). x .core .at) begins
 
-    answer-is : (s : Settings) (store : Text) (xs : List Stored)
-        → writeEvents maxEvents sizes s (contextIn (st .core) startRows (openedIn st)) store xs
+    answer-is : (s : Settings) → BoundsOf s longest capacity → (store : Text) (xs : List Stored)
+        → writeEvents maxEvents sizes s (contextIn (st .core) (startRows longest capacity) (openedIn st))
+        store xs
         ≡ writeEvents maxEvents sizes s (start s) store xs
     unfolding noneOpen startAt lastFirst
-    answer-is s store xs =
-        rw begins (write-alike maxEvents sizes s (start-alike (replicate initialSize 0) refl s) store xs)
+    answer-is s b store xs =
+        rw begins (write-alike maxEvents sizes s (start-alike (replicate initialSize 0) refl b) store xs)
 
     pub body-put : {s : Settings} {xs : List Stored} {store : Text} {stream′ work′ : List ℕ}
-        {r : Run} → RunPost s opening xs store stream work₂ st stream′ work′ r
+        {r : Run} → BoundsOf s longest capacity
+        → RunPost s opening xs store stream work₂ st stream′ work′ r
         → BodyPost s xs store stream at stream′ r
-    body-put {s} {xs} {store} {stream′} {r = r} p =
-        let m = p .meant startRows (start-stands store) topped in
+    body-put {s} {xs} {store} {stream′} {r = r} b p =
+        let m = p .meant (startRows longest capacity) (start-stands store) topped in
         let put-there =
         subst (λ k. Put stream (st .core .at) (p .progress .bits) stream′ k) (sym (p .at))
         (p .progress .put) in
@@ -171,7 +188,7 @@ module _ {stream : List ℕ} {at : ℕ} {work : List ℕ} (h : BodyPre stream at
           few = index-few p;
           means =
               record {
-                refused-as = λ k i e. m .refused-as k i (answer-is s store xs ∙ e);
-                accepted-as = λ bs e. m .accepted-as bs (answer-is s store xs ∙ e);
+                refused-as = λ k i e. m .refused-as k i (answer-is s b store xs ∙ e);
+                accepted-as = λ bs e. m .accepted-as bs (answer-is s b store xs ∙ e);
               };
         }

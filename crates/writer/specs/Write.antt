@@ -1,5 +1,5 @@
 -- What the writer's functions ask and leave.
-use Prim.Native.Nat.{ℕ, _-_, _≤_}
+use Prim.Native.Nat.{ℕ, _+_, _-_, _≤_}
 use mathlib.Core.Path.{_≡_}
 use mathlib.Core.List.{List, _++_}
 use lib.ListN.{length, replicate}
@@ -7,7 +7,7 @@ use lib.Dec.{T}
 use Rattle.spec_fields.specs.Bits.{Bits}
 use Rattle.spec_fields.specs.Refusal.{Refusal, numberOf, Answer, refused, accepted}
 use Rattle.text.specs.Text.{Text}
-use Rattle.spec_exi.specs.Sizes.{sizes, maxStream, maxEvents, writerWork}
+use Rattle.spec_exi.specs.Sizes.{sizes, maxStream, maxEvents, maxValues, writerWork}
 use Rattle.spec_exi.specs.Settings as format
 use Rattle.spec_exi.specs.Context.{start}
 use Rattle.spec_exi.specs.Writer.{Stored, WriterRoom, writeList, WriteReply, writeReply}
@@ -74,11 +74,12 @@ pub record Attempted (x : Answer (List ℕ)) (stream stream′ : List ℕ) (r : 
 
 -- ---- the list
 
--- The octets are zeros; octets and work memory are long enough.
-pub record ListFits (stream work : List ℕ) : Type 0 where
+-- The octets are zeros; octets and work memory are long enough; the capacity has a meaning.
+pub record ListFits (capacity : ℕ) (stream work : List ℕ) : Type 0 where
   pub blank : T (blankFrom stream 0)
   pub octets : maxStream ≤ length stream
   pub rows : writerWork ≤ length work
+  pub bound : capacity ≤ maxValues + 1
 
 abbrev pub ListPut :
     format.Settings → List Stored → Text → List ℕ → List ℕ → declared.WriteReply → Type 0
@@ -86,10 +87,11 @@ ListPut s xs store stream stream′ r = Attempted (writeList sizes s xs store) s
 
 -- ---- the events, after a header that ends at a position
 
-pub record BodyPre (stream : List ℕ) (at : ℕ) (work : List ℕ) : Type 0 where
+pub record BodyPre (capacity : ℕ) (stream : List ℕ) (at : ℕ) (work : List ℕ) : Type 0 where
   pub blank : T (blankFrom stream at)
   pub near : at ≤ 64
   pub rows : writerWork ≤ length work
+  pub bound : capacity ≤ maxValues + 1
 
 -- The bits of the events before the refused one, and no others.
 pub record BodyPost (s : format.Settings) (xs : List Stored) (store : Text) (stream : List ℕ)

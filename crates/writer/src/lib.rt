@@ -32,14 +32,14 @@ fn put_body(
     text: &[u32],
     work: &mut [u32],
 ) -> Run
-    requires { ⌜ BodyPre (now stream) at (now work) ⌝ }
+    requires { ⌜ BodyPre (o .capacity) (now stream) at (now work) ⌝ }
     ensures { λ r. ⌜ BodyPost (settingsFrom o) (eventsOf (now (events .entry)))
         (now (text .entry)) (now (stream .entry)) at (now (stream .exit)) r ⌝ }
 {
     let opening = mem_initial::opening_text();
     mem_initial::clear_heads(work);
     mem_initial::lay_rows(work, 0);
-    let st = open_elements::none_open(mem_initial::start(at));
+    let st = open_elements::none_open(mem_initial::start(at, o.longest, o.capacity));
     write_run::put_events(o, stream, st, &opening, events, text, work)
 }
 
@@ -61,7 +61,7 @@ fn put_list(
     text: &[u32],
     work: &mut [u32],
 ) -> WriteReply
-    requires { ⌜ ListFits (now stream) (now work) ⌝ }
+    requires { ⌜ ListFits (o .capacity) (now stream) (now work) ⌝ }
     ensures { λ r. ⌜ ListPut (settingsFrom o) (eventsOf (now (events .entry))) (now (text .entry))
         (now (stream .entry)) (now (stream .exit)) r ⌝ }
 {

@@ -2,7 +2,7 @@
 use borrow.Author.Needs.{needs}
 use denote.Ref.{now}
 use Rattle.spec_exi.specs.Sizes.{maxStream, readerWork, writerWork}
-use Rattle.writer.proofs.Reply.{no-room, no-meaning, list-asks, list-answered}
+use Rattle.writer.proofs.Reply.{no-room, no-meaning, list-asks, bound-asked, list-answered}
 use Rattle.writer.proofs.attempt.Statement.{statement}
 use Rattle.writer.proofs.attempt.Tie as tie
 
@@ -44,12 +44,18 @@ settings-of-requires c κs = search needs
 put-list-requires : tie.Need-put-list-requires
 unfolding maxStream writerWork readerWork
 put-list-requires c κs =
-    let octets = c .before .before .before .before .before in
-    let if1 = octets .before .before .before .before in
+    let settings-of = c .before .before in
+    let octets = settings-of .before .before .before in
+    let if2 = octets .before .before in
+    let are-meaningful = if2 .before in
+    let if1 = are-meaningful .before in
     let start = if1 .before .before .before .before .before in
     let a = start .args in
     list-asks (a .s) (now (a .stream)) (now (a .events)) (now (a .text)) (now (a .work)) (if1 .if1
     .left) (octets .octets .ensures)
+    (bound-asked (a .s) (now (a .stream)) (now (a .events)) (now (a .text)) (now (a .work)) (if1
+    .if1 .left) (are-meaningful .are-meaningful .ensures) (if2 .if2 .left)
+    (settings-of .settings-of .ensures))
 
 same-length : tie.Need-same-length
 same-length c = search needs

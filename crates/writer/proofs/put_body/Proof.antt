@@ -2,7 +2,7 @@
 use mathlib.Core.Path.{ap, _∙_}
 use borrow.Author.Needs.{needs}
 use Rattle.open_elements.specs.Opened.{noneOpen}
-use Rattle.writer.proofs.Start.{heads-ask, rows-ask, events-ask, body-put}
+use Rattle.writer.proofs.Start.{heads-ask, rows-ask, events-ask, bounds-from, body-put}
 use Rattle.writer.proofs.put_body.Statement.{statement}
 use Rattle.writer.proofs.put_body.Tie as tie
 
@@ -69,8 +69,8 @@ returns c =
     let start′ = opening-text .before .before .before .before .before in
     let begins = none-open .none-open .ensures ∙ ap noneOpen (start .start .ensures) in
     body-put (start′ .pre) (opening-text .opening-text .ensures) (clear-heads .clear-heads .ensures)
-    (lay-rows .lay-rows .ensures) begins (work .work .given) (work2 .work2 .given) (put-events
-    .put-events .ensures)
+    (lay-rows .lay-rows .ensures) begins (work .work .given) (work2 .work2 .given)
+    (bounds-from (start′ .args .o)) (put-events .put-events .ensures)
 
 pub put-body-spec : {M : Type 1} → statement M
 put-body-spec =

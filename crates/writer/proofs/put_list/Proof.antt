@@ -17,6 +17,7 @@ put-body-requires c κs =
     let put-header = c .before .before .before .before in
     let start = put-header .before .before .before .before .before .before in
     body-asks (settingsFrom (start .args .o)) (put-header .put-header .ensures) ((start .pre) .rows)
+    ((start .pre) .bound)
 
 cast-refused : tie.Need-cast-refused
 unfolding maxEvents
