@@ -5,15 +5,6 @@ use Rattle.read_values.proofs.Returns.{any-refused, any-absent, any-own
 use borrow.Author.Needs.{needs}
 use Rattle.read_values.proofs.any_value.Statement.{statement}
 use Rattle.read_values.proofs.any_value.Tie as tie
-use Rattle.read_values.proofs.any_value.Reads as reads
-use Rattle.read_values.proofs.any_value.Lts as lts
-use Rattle.mem_values.proofs.newest_numbers.Reads as newest-numbers-reads
-use Rattle.mem_values.proofs.nth_global.Reads as nth-global-reads
-use Rattle.mem_values.proofs.replaced.Reads as replaced-reads
-use Rattle.mem_values.proofs.value_at.Reads as value-at-reads
-use Rattle.read_field.proofs.choice.Reads as choice-reads
-use Rattle.read_partition.proofs.found.Reads as found-reads
-use Rattle.read_partition.proofs.refused.Reads as refused-reads
 
 replaced-requires : tie.Need-replaced-requires
 replaced-requires c κs = search needs
@@ -40,33 +31,60 @@ newest-numbers-requires : tie.Need-newest-numbers-requires
 newest-numbers-requires c κs = search needs
 
 nth-global-requires : tie.Need-nth-global-requires
-nth-global-requires c κs = global-asks (c .before .before .before .before .before .before .before .before .pre) (c .before .before .before .before .before .replaced .ensures) (c .newest-numbers .ensures)
+nth-global-requires c κs =
+    let replaced = c .before .before .before .before .before in
+    let start = replaced .before .before .before in
+    global-asks (start .pre) (replaced .replaced .ensures) (c .newest-numbers .ensures)
 
 refused-requires-2 : tie.Need-refused-requires-2
 refused-requires-2 c κs = search needs
 
 returns : tie.Need-returns
 unfolding numberOf
-returns c = rw (c .refused2 .ensures) (
-  (λ text longest. any-absent (c .before .before .before .before .before .before .before .before .before .before .before .pre) (c .before .before .before .before .before .before .before .before .replaced .ensures) (c .before .before .before .before .before .before .before .choice .ensures) text (c .before .before .before .before .before .value .given .1) (c .before .before .before .newest-numbers .ensures) (c .before .before .nth-global .ensures) (c .before .if1 .taken)),
-  (λ text. joins-not refl),
-)
+returns c =
+    let if1 = c .before in
+    let nth-global = if1 .before in
+    let newest-numbers = nth-global .before in
+    let value = newest-numbers .before .before in
+    let choice = value .before .before in
+    let replaced = choice .before in
+    let start = replaced .before .before .before in
+    rw (c .refused2 .ensures) (
+      (λ text longest. any-absent (start .pre) (replaced .replaced .ensures) (choice .choice .ensures) text
+          (value .value .given .1) (newest-numbers .newest-numbers .ensures) (nth-global .nth-global .ensures) (if1
+          .if1 .taken)),
+      (λ text. joins-not refl),
+    )
 
 sub-value-at : tie.Need-sub-value-at
 sub-value-at c = search needs
 
 value-at-requires : tie.Need-value-at-requires
-value-at-requires c κs = row-asks (c .before .before .before .before .before .before .before .before .before .before .pre)
+value-at-requires c κs =
+    let start = c .before .before .before .before .before .before .before .before .before .before in
+    row-asks (start .pre)
 
 refused-requires-3 : tie.Need-refused-requires-3
 refused-requires-3 c κs = search needs
 
 returns-2 : tie.Need-returns-2
 unfolding numberOf
-returns-2 c = rw (c .refused3 .ensures) (
-  (λ text longest. any-own (c .before .before .before .before .before .before .before .before .before .before .before .before .before .pre) (c .before .before .before .before .before .before .before .before .before .before .replaced .ensures) (c .before .before .before .before .before .before .before .before .before .choice .ensures) text (c .before .before .before .before .before .before .before .value .given .1) (c .before .before .before .before .before .newest-numbers .ensures) (c .before .before .before .before .nth-global .ensures) (c .before .before .before .if1 .left) (c .before .before .value-at .ensures) (c .before .if2 .taken)),
-  (λ text. joins-not refl),
-)
+returns-2 c =
+    let if2 = c .before in
+    let value-at = if2 .before in
+    let if1 = value-at .before in
+    let nth-global = if1 .before in
+    let newest-numbers = nth-global .before in
+    let value = newest-numbers .before .before in
+    let choice = value .before .before in
+    let replaced = choice .before in
+    let start = replaced .before .before .before in
+    rw (c .refused3 .ensures) (
+      (λ text longest. any-own (start .pre) (replaced .replaced .ensures) (choice .choice .ensures) text (value
+          .value .given .1) (newest-numbers .newest-numbers .ensures) (nth-global .nth-global .ensures) (if1 .if1
+          .left) (value-at .value-at .ensures) (if2 .if2 .taken)),
+      (λ text. joins-not refl),
+    )
 
 sub-found : tie.Need-sub-found
 sub-found c = search needs
@@ -75,16 +93,34 @@ found-requires : tie.Need-found-requires
 found-requires c κs = search needs
 
 returns-3 : tie.Need-returns-3
-returns-3 c = rw (c .refused .ensures) (
-  (λ text longest. any-refused (c .before .before .before .before .before .before .before .before .pre) (c .before .before .before .before .before .replaced .ensures) (c .before .before .before .before .choice .ensures) text (c .before .before .k .given .1)),
-  (λ text. joins-not refl),
-)
+returns-3 c =
+    let k = c .before .before in
+    let choice = k .before .before in
+    let replaced = choice .before in
+    let start = replaced .before .before .before in
+    rw (c .refused .ensures) (
+      (λ text longest. any-refused (start .pre) (replaced .replaced .ensures) (choice .choice .ensures) text (k
+          .k .given .1)),
+      (λ text. joins-not refl),
+    )
 
 returns-4 : tie.Need-returns-4
-returns-4 c = rw (c .found .ensures) (
-  (λ text longest. any-found (c .before .before .before .before .before .before .before .before .before .before .before .before .before .pre) (c .before .before .before .before .before .before .before .before .before .before .replaced .ensures) (c .before .before .before .before .before .before .before .before .before .choice .ensures) text (c .before .before .before .before .before .before .before .value .given .1) (c .before .before .before .before .before .newest-numbers .ensures) (c .before .before .before .before .nth-global .ensures) (c .before .before .before .if1 .left) (c .before .before .value-at .ensures) (c .before .if2 .left)),
-  (λ text. joins-not refl),
-)
+returns-4 c =
+    let if2 = c .before in
+    let value-at = if2 .before in
+    let if1 = value-at .before in
+    let nth-global = if1 .before in
+    let newest-numbers = nth-global .before in
+    let value = newest-numbers .before .before in
+    let choice = value .before .before in
+    let replaced = choice .before in
+    let start = replaced .before .before .before in
+    rw (c .found .ensures) (
+      (λ text longest. any-found (start .pre) (replaced .replaced .ensures) (choice .choice .ensures) text
+          (value .value .given .1) (newest-numbers .newest-numbers .ensures) (nth-global .nth-global .ensures) (if1
+          .if1 .left) (value-at .value-at .ensures) (if2 .if2 .left)),
+      (λ text. joins-not refl),
+    )
 
 pub any-value-spec : {M : Type 1} → statement M
 any-value-spec =

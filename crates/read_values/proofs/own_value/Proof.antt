@@ -5,15 +5,6 @@ use Rattle.read_values.proofs.Returns.{own-refused, own-absent, own-fou
 use borrow.Author.Needs.{needs}
 use Rattle.read_values.proofs.own_value.Statement.{statement}
 use Rattle.read_values.proofs.own_value.Tie as tie
-use Rattle.read_values.proofs.own_value.Reads as reads
-use Rattle.read_values.proofs.own_value.Lts as lts
-use Rattle.mem_values.proofs.count_local.Reads as count-local-reads
-use Rattle.mem_values.proofs.nth_local.Reads as nth-local-reads
-use Rattle.mem_values.proofs.replaced.Reads as replaced-reads
-use Rattle.mem_values.proofs.value_at.Reads as value-at-reads
-use Rattle.read_field.proofs.choice.Reads as choice-reads
-use Rattle.read_partition.proofs.found.Reads as found-reads
-use Rattle.read_partition.proofs.refused.Reads as refused-reads
 
 count-local-requires : tie.Need-count-local-requires
 count-local-requires c κs = count-asks (c .before .before .pre)
@@ -44,16 +35,28 @@ refused-requires-2 c κs = search needs
 
 returns : tie.Need-returns
 unfolding numberOf
-returns c = rw (c .refused2 .ensures) (
-  (λ text longest. own-absent (c .before .before .before .before .before .before .before .before .before .before .before .pre) (c .before .before .before .before .before .before .before .before .count-local .ensures) (c .before .before .before .before .before .before .before .choice .ensures) text (c .before .before .before .before .before .value .given .1) (c .before .before .before .replaced .ensures) (c .before .before .nth-local .ensures) (c .before .if1 .taken)),
-  (λ text. joins-not refl),
-)
+returns c =
+    let if1 = c .before in
+    let nth-local = if1 .before in
+    let replaced = nth-local .before in
+    let value = replaced .before .before in
+    let choice = value .before .before in
+    let count-local = choice .before in
+    let start = count-local .before .before .before in
+    rw (c .refused2 .ensures) (
+      (λ text longest. own-absent (start .pre) (count-local .count-local .ensures) (choice .choice .ensures)
+          text (value .value .given .1) (replaced .replaced .ensures) (nth-local .nth-local .ensures) (if1 .if1
+          .taken)),
+      (λ text. joins-not refl),
+    )
 
 sub-value-at : tie.Need-sub-value-at
 sub-value-at c = search needs
 
 value-at-requires : tie.Need-value-at-requires
-value-at-requires c κs = row-asks (c .before .before .before .before .before .before .before .before .before .before .pre)
+value-at-requires c κs =
+    let start = c .before .before .before .before .before .before .before .before .before .before in
+    row-asks (start .pre)
 
 sub-found : tie.Need-sub-found
 sub-found c = search needs
@@ -62,16 +65,33 @@ found-requires : tie.Need-found-requires
 found-requires c κs = search needs
 
 returns-2 : tie.Need-returns-2
-returns-2 c = rw (c .refused .ensures) (
-  (λ text longest. own-refused (c .before .before .before .before .before .before .before .before .pre) (c .before .before .before .before .before .count-local .ensures) (c .before .before .before .before .choice .ensures) text (c .before .before .k .given .1)),
-  (λ text. joins-not refl),
-)
+returns-2 c =
+    let k = c .before .before in
+    let choice = k .before .before in
+    let count-local = choice .before in
+    let start = count-local .before .before .before in
+    rw (c .refused .ensures) (
+      (λ text longest. own-refused (start .pre) (count-local .count-local .ensures) (choice .choice .ensures)
+          text (k .k .given .1)),
+      (λ text. joins-not refl),
+    )
 
 returns-3 : tie.Need-returns-3
-returns-3 c = rw (c .found .ensures) (
-  (λ text longest. own-found (c .before .before .before .before .before .before .before .before .before .before .before .before .pre) (c .before .before .before .before .before .before .before .before .before .count-local .ensures) (c .before .before .before .before .before .before .before .before .choice .ensures) text (c .before .before .before .before .before .before .value .given .1) (c .before .before .before .before .replaced .ensures) (c .before .before .before .nth-local .ensures) (c .before .before .if1 .left) (c .before .value-at .ensures)),
-  (λ text. joins-not refl),
-)
+returns-3 c =
+    let value-at = c .before in
+    let if1 = value-at .before in
+    let nth-local = if1 .before in
+    let replaced = nth-local .before in
+    let value = replaced .before .before in
+    let choice = value .before .before in
+    let count-local = choice .before in
+    let start = count-local .before .before .before in
+    rw (c .found .ensures) (
+      (λ text longest. own-found (start .pre) (count-local .count-local .ensures) (choice .choice .ensures) text
+          (value .value .given .1) (replaced .replaced .ensures) (nth-local .nth-local .ensures) (if1 .if1 .left)
+          (value-at .value-at .ensures)),
+      (λ text. joins-not refl),
+    )
 
 pub own-value-spec : {M : Type 1} → statement M
 own-value-spec =

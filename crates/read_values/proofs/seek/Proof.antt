@@ -4,11 +4,6 @@ use Rattle.read_values.proofs.Bounds.{find-asks}
 use borrow.Author.Needs.{needs}
 use Rattle.read_values.proofs.seek.Statement.{statement}
 use Rattle.read_values.proofs.seek.Tie as tie
-use Rattle.read_values.proofs.seek.Reads as reads
-use Rattle.read_values.proofs.seek.Lts as lts
-use Rattle.mem_values.proofs.find.Reads as find-reads
-use Rattle.mem_values.proofs.replaced.Reads as replaced-reads
-use Rattle.text.proofs.look_up.Reads as look-up-reads
 
 replaced-requires : tie.Need-replaced-requires
 replaced-requires c κs = search needs

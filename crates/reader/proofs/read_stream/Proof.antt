@@ -102,18 +102,16 @@ returns-2 c =
     let read-header = if1 .before .before in
     let start′ = read-header .before .before .before .before .before in
     let begins = (none-open .none-open .ensures ∙ ap noneOpen (start .start .ensures)) in
-    filled-as (body-answer (start′ .pre .0) (read-header .read-header .result .at) (start′ .args .o .longest)
-    (start′ .args .o .capacity) (clear-counts
-    .clear-counts .ensures) (lay-rows .lay-rows .ensures) (lay-text .lay-text .ensures) begins (work
-    .work .given) (work2 .work2 .given) (text .text .given) (settingsFrom (start′ .args .o))
-    (bounds-from (start′ .args .o)) ∙
-    header-passed (settingsFrom (start′ .args .o)) (read-header .read-header .ensures) (if1 .if1
-    .left)) refl (text .text .given)
-    (read-events .read-events .ensures .meant
-    (startRows (start′ .args .o .longest) (start′ .args .o .capacity)) (body-ready (start′ .pre .0) (read-header
-    .read-header .result .at) (start′ .args .o .longest) (start′ .args .o .capacity) (clear-counts .clear-counts .ensures) (lay-rows .lay-rows .ensures)
-    (lay-text .lay-text .ensures) begins (work .work .given) (work2 .work2 .given) (text .text
-    .given)))
+    filled-as (body-answer (start′ .pre .0) (read-header .read-header .result .at) (start′ .args .o
+    .longest) (start′ .args .o .capacity) (clear-counts .clear-counts .ensures) (lay-rows .lay-rows
+    .ensures) (lay-text .lay-text .ensures) begins (work .work .given) (work2 .work2 .given) (text
+    .text .given) (settingsFrom (start′ .args .o)) (bounds-from (start′ .args .o)) ∙ header-passed
+    (settingsFrom (start′ .args .o)) (read-header .read-header .ensures) (if1 .if1 .left)) refl
+    (text .text .given) (read-events .read-events .ensures .meant (startRows (start′ .args .o
+    .longest) (start′ .args .o .capacity)) (body-ready (start′ .pre .0) (read-header .read-header
+    .result .at) (start′ .args .o .longest) (start′ .args .o .capacity) (clear-counts .clear-counts
+    .ensures) (lay-rows .lay-rows .ensures) (lay-text .lay-text .ensures) begins (work .work .given)
+    (work2 .work2 .given) (text .text .given)))
 
 pub read-stream-spec : {M : Type 1} → statement M
 read-stream-spec =
