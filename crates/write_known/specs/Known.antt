@@ -70,9 +70,8 @@ pub record KeepPre (stream : List ℕ) (at : ℕ) (x : Text) (v : ValueJudged) (
 pub record ValueKept (a : Alignment) (stream : List ℕ) (at : ℕ) (x : Text) (p : Part)
     (v : ValueJudged) (owner values capacity : ℕ) (work stream′ work′ : List ℕ) (next : ℕ) : Type 0
   where
-    pub put : Put stream at
-        (valueBits work (v .partition) (v .id) owner values capacity x a) stream′
-        next
+    pub put : Put stream at (valueBits work (v .partition) (v .id) owner values capacity x a)
+        stream′ next
     pub work-is : work′ ≡ joinedValue values owner (joiningOf p (v .joins) (v .hash)) work
 
 -- ---- the step

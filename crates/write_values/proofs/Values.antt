@@ -6,7 +6,7 @@ use mathlib.Core.Bool.{Bool, true, false, cond, not, _&&_, true≢false}
 use mathlib.Core.List.{List, [], _∷_, _++_}
 use lib.ListN.{length, replicate}
 use lib.Dec.{eqb, leb, ltb}
-use borrow.Author.Tests.{eqb-true, eqb-false, eq-eqb, ne-eqb, ltb-true, leb-true, leb-false, le-ltb}
+use borrow.Author.Tests.{eqb-true, eqb-false, ne-eqb, leb-true, leb-false, le-ltb}
 use borrow.Author.Tests.{lt-ltb, le-leb, not-true, not-false}
 use Rattle.spec_fields.specs.Bits.{Bits}
 use Rattle.spec_fields.specs.Field.{Alignment}
@@ -27,7 +27,7 @@ use Rattle.mem_values.specs.declared.Form.{Form}
 use Rattle.mem_values.specs.declared.Form.the-variants.{Local, Global, Absent}
 use Rattle.mem_values.specs.Window.{newestIn, joinsBy, Replaced, Newest}
 use Rattle.mem_values.specs.Forms.{formIn, Formable, Formed}
-use Rattle.mem_values.proofs.Bounds.{joins-is}
+use Rattle.mem_values.proofs.Bounds.{joins-some, joins-is}
 use Rattle.mem_rows.specs.Rows.{Rows, nameAt, tablesOf}
 use Rattle.mem_rows.proofs.Joins.{nothing-joins}
 use Rattle.mem_rows.proofs.Alike.{value-joins-alike}
@@ -137,17 +137,6 @@ module _ (x : Text) (values longest capacity stored h : ℕ) (low : stored ≤ m
 
 -- ---- what the numbers of the settings say
 
-joins-some : (size longest capacity : ℕ) → joinsBy size longest capacity ≡ true → 0 < size
-unfolding joinsBy
-joins-some size longest capacity j =
-    split (eqb size 0)
-    (λ t. let z = rw t at j in absurd (both-not (isZero (boundOf capacity)) _ z))
-    (λ t. omega (arith, eqb-false size 0 t))
-  where
-    both-not : (a c : Bool) → (not a && false && c) ≡ true → ⊥
-    both-not true c e = true≢false (sym e)
-    both-not false c e = true≢false (sym e)
-
 joins-open : (size longest capacity : ℕ) → joinsBy size longest capacity ≡ true
     → isZero (boundOf capacity) ≡ false
 unfolding joinsBy
@@ -212,7 +201,8 @@ module _ {text : List ℕ} {x : Text} {owner values longest capacity stored : �
             means w (standing valid writable few meant row) _ _;
       }
 
-  pub value-long : maxString < length x → ValuePost text x owner values longest capacity stored work (refusedAs numberLimit stored)
+  pub value-long : maxString < length x
+      → ValuePost text x owner values longest capacity stored work (refusedAs numberLimit stored)
   value-long h =
       value-refused (omega arith) (λ w _ _ _. long-means (value (nameAt w owner)) w stored x h)
 
@@ -245,12 +235,14 @@ module _ {text : List ℕ} {x : Text} {owner values longest capacity stored : �
               (hit-written s stored b f e) refl refl valid writable (bits w s);
         }
 
-    pub value-own : {i : ℕ} → r ≡ Local i → ValuePost text x owner values longest capacity stored work (foundAs own i stored)
+    pub value-own : {i : ℕ} → r ≡ Local i
+        → ValuePost text x owner values longest capacity stored work (foundAs own i stored)
     unfolding formIn
     value-own e =
         value-found (ap formIn e) (omega arith) (λ w s. own-bits s stored b f (ap formIn e) (ask .low))
 
-    pub value-all : {i : ℕ} → r ≡ Global i → ValuePost text x owner values longest capacity stored work (foundAs all i stored)
+    pub value-all : {i : ℕ} → r ≡ Global i
+        → ValuePost text x owner values longest capacity stored work (foundAs all i stored)
     unfolding formIn
     value-all e =
         value-found (ap formIn e) (omega arith) (λ w s. all-bits s stored b f (ap formIn e))
@@ -355,7 +347,8 @@ module _ {text : List ℕ} {x : Text} {owner values longest capacity stored : �
         enters = joinsBy (length x) longest capacity
 
         value-taken : j .number ≡ 0
-            → ValuePost text x owner values longest capacity stored work (literalAs stored (length x) enters (cond enters h 0))
+            → ValuePost text x owner values longest capacity stored work
+            (literalAs stored (length x) enters (cond enters h 0))
         value-taken z =
             let q : Passed x stored ((hasRow (length x) values longest capacity, limit) ∷ []) =
             literal-passes x stored _ (p .number-is) z in
