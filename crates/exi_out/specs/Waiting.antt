@@ -10,7 +10,8 @@ use Rattle.exi_out.specs.declared.Out.{Out}
 abbrev pub noneWaits : Out
 noneWaits = record { at = 0; failed = false }
 
--- Where the next octet goes, in a buffer of n: behind those that wait, or to the start once they went out.
+-- Where the next octet goes, in a buffer of n: behind those that wait, or to the start once they
+-- went out.
 unfoldable pub placeIn : ℕ → ℕ → ℕ
 placeIn n at = cond (ltb at n) at 0
 
