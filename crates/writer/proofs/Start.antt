@@ -119,7 +119,7 @@ module _ {capacity : ℕ} {stream : List ℕ} {at : ℕ} {work : List ℕ}
   pub rows-ask : {work₁ : List ℕ} → length work₁ ≡ length work → Layable work₁ 0
   rows-ask e = record { room = omega (arith, counts-ask); near = omega arith }
 
-  -- Heads and counts are cleared, and the rows are laid.
+  -- The counts are cleared, and the rows are laid.
   module _ (longest : ℕ) {work₁ work₂ opening : List ℕ} {st : State} (opens : opening ≡ initialText)
       (counts : work₁ ≡ zeroed work) (rows : work₂ ≡ withRows work₁ 0)
       (begins : st ≡ noneOpen (startAt at longest capacity)) (same₁ : length work₁ ≡ length work)
