@@ -111,7 +111,8 @@ fn character(s: &[u8], j: usize, k: usize) -> Point
 fn read_characters(stream: &[u8], at: usize, text: &mut [u32], stored: usize, n: usize) -> Literal
     requires { ⌜ CharactersFit (now stream) at (now text) stored n ⌝ }
     ensures { λ r. ⌜
-        CharactersRead (now (stream .entry)) at (now (text .entry)) stored n (now (text .exit)) r ⌝ }
+        CharactersRead (now (stream .entry)) at (now (text .entry)) stored n (now (text .exit))
+        r ⌝ }
 {
     let k = at % 8;
     let mut j = at / 8;
