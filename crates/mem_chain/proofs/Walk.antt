@@ -74,8 +74,11 @@ module _ {work : List ℕ} {head nexts ring n : ℕ} {chain sought : ℕ → Boo
       split (ltb 0 (lastThat chain c))
       (λ y. w .member i e (ltb-true 0 (lastThat chain c) y))
       (λ y.
-      absurd (omega (arith, none-left (w .threaded) (w .wide) c (w .inside)
-      (omega (arith, ltb-false 0 (lastThat chain c) y)))))
+      absurd (omega (
+        arith,
+        none-left (w .threaded) (w .wide) c (w .inside)
+            (omega (arith, ltb-false 0 (lastThat chain c) y)),
+      )))
 
 module _ {work : List ℕ} {head nexts ring n : ℕ} {chain sought : ℕ → Bool} {c : ℕ}
     (w : Walking work head nexts ring n chain sought c) (low : ℕ) where
