@@ -120,7 +120,7 @@ module _ {capacity : ℕ} {stream : List ℕ} {at : ℕ} {work : List ℕ}
   rows-ask e = record { room = omega (arith, heads-ask); near = omega arith }
 
   -- Heads and counts are cleared, and the rows are laid.
-  module _ {longest : ℕ} {work₁ work₂ opening : List ℕ} {st : State} (opens : opening ≡ initialText)
+  module _ (longest : ℕ) {work₁ work₂ opening : List ℕ} {st : State} (opens : opening ≡ initialText)
       (heads : work₁ ≡ zeroed zeroCells work) (rows : work₂ ≡ withRows work₁ 0)
       (begins : st ≡ noneOpen (startAt at longest capacity)) (same₁ : length work₁ ≡ length work)
       (same₂ : length work₂ ≡ length work₁) where

@@ -40,8 +40,8 @@ put-events-requires c κs =
     let opening-text = clear-heads .before .before in
     let start′ = opening-text .before .before .before .before .before in
     let begins = none-open .none-open .ensures ∙ ap noneOpen (start .start .ensures) in
-    events-ask (start′ .pre) (opening-text .opening-text .ensures) (clear-heads .clear-heads
-    .ensures) (lay-rows .lay-rows .ensures) begins (work .work .given) (work2 .work2 .given)
+    events-ask (start′ .pre) (start′ .args .o .longest) (opening-text .opening-text .ensures)
+    (clear-heads .clear-heads .ensures) (lay-rows .lay-rows .ensures) begins (work .work .given) (work2 .work2 .given)
 
 same-length : tie.Need-same-length
 same-length c =
@@ -68,7 +68,8 @@ returns c =
     let opening-text = clear-heads .before .before in
     let start′ = opening-text .before .before .before .before .before in
     let begins = none-open .none-open .ensures ∙ ap noneOpen (start .start .ensures) in
-    body-put (start′ .pre) (opening-text .opening-text .ensures) (clear-heads .clear-heads .ensures)
+    body-put (start′ .pre) (start′ .args .o .longest) (opening-text .opening-text .ensures)
+    (clear-heads .clear-heads .ensures)
     (lay-rows .lay-rows .ensures) begins (work .work .given) (work2 .work2 .given)
     (bounds-from (start′ .args .o)) (put-events .put-events .ensures)
 

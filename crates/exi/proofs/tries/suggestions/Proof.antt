@@ -7,12 +7,15 @@ use Rattle.exi.proofs.tries.suggestions.Statement.{statement}
 use Rattle.exi.proofs.tries.suggestions.Tie as tie
 
 abbrev Inv-loop : tie.InvT-loop
-Inv-loop stream cells₀ store₀ work₀ found₀ k₀ cells store work found k =
+Inv-loop asked stream cells₀ store₀ work₀ most found₀ k₀ cells store work found k =
     (length cells ≡ length cells₀) × (length store ≡ length store₀)
-    × (length work ≡ length work₀) × (found ≤ k)
+    × (length work ≡ length work₀) × (found ≤ k) × (most ≤ 64)
 
 abbrev μ-loop : tie.MeasureT-loop
-μ-loop stream cells₀ store₀ work₀ found₀ k₀ cells store work found k = 32 - k
+μ-loop asked stream cells₀ store₀ work₀ most found₀ k₀ cells store work found k = most - k
+
+tried-requires : tie.Need-tried-requires Inv-loop μ-loop
+tried-requires c κs = search needs
 
 loop-holds : tie.Need-loop-holds Inv-loop μ-loop
 loop-holds c = search needs
@@ -62,6 +65,7 @@ suggestions-spec =
     (tie.spec
     Inv-loop
     μ-loop
+    tried-requires
     loop-holds
     accepted-requires
     add-found
