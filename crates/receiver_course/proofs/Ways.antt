@@ -230,31 +230,31 @@ mode-fits c known outer inner =
     }
 
 core-bounded : (c : Core) → tablesIn c ≡ true → elementsIn c ≡ true → Bounded c
-unfolding tablesIn elementsIn
+unfolding tablesIn valuesIn elementsIn
 core-bounded c t e =
-    let t₆ = both _ _ t in
-    let t₅ = both _ _ (t₆ .one) in
+    let t₅ = both _ _ t in
     let t₄ = both _ _ (t₅ .one) in
     let t₃ = both _ _ (t₄ .one) in
     let t₂ = both _ _ (t₃ .one) in
     let t₁ = both _ _ (t₂ .one) in
+    let v = both _ _ (t₁ .one) in
     let e₅ = both _ _ e in
     let e₄ = both _ _ (e₅ .one) in
     let e₃ = both _ _ (e₄ .one) in
     let e₂ = both _ _ (e₃ .one) in
     let e₁ = both _ _ (e₂ .one) in
     record {
-      stored = leb-true (c .stored) maxStore (t₁ .one);
-      uris = leb-true (c .uris) maxUris (t₁ .other);
-      names = leb-true (c .names) maxNames (t₂ .other);
-      values = leb-true (c .values) (c .stored) (t₃ .other);
+      stored = leb-true (c .stored) maxStore (t₁ .other);
+      uris = leb-true (c .uris) maxUris (t₂ .other);
+      names = leb-true (c .names) maxNames (t₃ .other);
+      values = leb-true (c .values) (c .stored) (v .one);
       learned = leb-true (c .learned) maxLearned (t₄ .other);
       grammars = leb-true (c .grammars) maxGrammars (t₅ .other);
       top = ltb-true (c .top) nameRows (e₂ .other);
       depth = leb-true (c .depth) maxOpen (e₁ .other);
       fits = mode-fits c (e₃ .other) (e₄ .other) (e₅ .other);
       tag = leb-true (c .tag) (maxEvents + 1) (e₁ .one);
-      capacity = leb-true (c .capacity) (maxValues + 1) (t₆ .other);
+      capacity = leb-true (c .capacity) (maxValues + 1) (v .other);
     }
 
 numbers-within : (r : Receiver) → numbersIn r ≡ true → Within r
@@ -295,7 +295,7 @@ module _ (r : Receiver) (sound : isSound r ≡ true) where
 -- ---- a record within its bounds is sound
 
 tables-are : (c : Core) → Bounded c → tablesIn c ≡ true
-unfolding tablesIn
+unfolding tablesIn valuesIn
 tables-are c b =
     rw (
       le-leb (c .stored) maxStore (b .stored),

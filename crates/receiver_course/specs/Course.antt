@@ -23,12 +23,15 @@ unfoldable pub hasRoom : ℕ → ℕ → ℕ → ℕ → Bool
 hasRoom held events text work =
     leb maxStream held && leb eventCells events && leb maxStore text && leb readerWork work
 
--- The counts are within their sizes; each value that joined has a code point in the store.
+-- Each value that joined has a code point in the store, and the capacity is within its size.
+unfoldable pub valuesIn : Core → Bool
+valuesIn c = leb (c .values) (c .stored) && leb (c .capacity) (maxValues + 1)
+
+-- The counts are within their sizes.
 unfoldable pub tablesIn : Core → Bool
 tablesIn c =
-    leb (c .stored) maxStore && leb (c .uris) maxUris && leb (c .names) maxNames
-    && leb (c .values) (c .stored) && leb (c .learned) maxLearned && leb (c .grammars) maxGrammars
-    && leb (c .capacity) (maxValues + 1)
+    valuesIn c && leb (c .stored) maxStore && leb (c .uris) maxUris && leb (c .names) maxNames
+    && leb (c .learned) maxLearned && leb (c .grammars) maxGrammars
 
 -- The mark is one that an event can have left, not too many elements are open, and one is just in
 -- the states of its grammar.

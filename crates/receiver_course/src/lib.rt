@@ -2,7 +2,8 @@
 // length, and the lengths of what is lent. What the contracts cite is in specs/Course.antt.
 ghost use mathlib.Core.Path.{_≡_};
 ghost use Rattle.receiver_record.specs.Record.{refusalAt};
-ghost use Rattle.receiver_course.specs.Course.{hasRoom, tablesIn, elementsIn, isSound};
+ghost use Rattle.receiver_course.specs.Course.{hasRoom, valuesIn, tablesIn, elementsIn};
+ghost use Rattle.receiver_course.specs.Course.{isSound};
 ghost use Rattle.receiver_course.specs.Course.{courseOf, counted, refusedAfter};
 use event_code::IN_ELEMENT;
 use event_code::IN_TAG;
@@ -59,17 +60,24 @@ pub fn has_room(held: usize, events: usize, text: usize, work: usize) -> bool
     (MAX_STREAM <= held) & (EVENT_CELLS <= events) & (MAX_STORE <= text) & (READER_WORK <= work)
 }
 
-// Whether the counts are within their sizes, the values and their capacity too.
+// Whether each value that joined has a code point in the store, and the capacity is within its size.
+fn values_in(c: Core) -> bool
+    ensures { λ r. ⌜ r ≡ valuesIn c ⌝ }
+{
+    (c.values as usize <= c.stored) & (c.capacity as usize <= MAX_VALUES + 1)
+}
+
+// Whether the counts are within their sizes.
 fn tables_in(c: Core) -> bool
     ensures { λ r. ⌜ r ≡ tablesIn c ⌝ }
 {
-    (c.stored <= MAX_STORE)
+    let values = values_in(c);
+    values
+        & (c.stored <= MAX_STORE)
         & (c.uris as usize <= MAX_URIS)
         & (c.names as usize <= MAX_NAMES)
-        & (c.values as usize <= c.stored)
         & (c.learned as usize <= MAX_LEARNED)
         & (c.grammars as usize <= MAX_GRAMMARS)
-        & (c.capacity as usize <= MAX_VALUES + 1)
 }
 
 // Whether the mark is one that an event can have left, not too many elements are open, and one is

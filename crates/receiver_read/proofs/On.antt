@@ -222,6 +222,8 @@ module _ {s : Settings} {stream events text work : List ℕ} {st : State} {first
                 values = x .counts .values;
                 learned = x .counts .learned;
                 grammars = x .counts .grammars;
+                longest = x .counts .longest;
+                capacity = x .counts .capacity;
               };
               opens = record { size = x .opens .size; rows = x .opens .rows };
               marks = x .marks;
