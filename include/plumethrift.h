@@ -87,9 +87,9 @@ typedef struct plumethrift_settings {
   uint32_t fragment;       /* 1: a fragment, elements in any number; 0: a document, one root */
   uint32_t value_length;   /* PLUMETHRIFT_BOUND(n): no value of more than n code points joins the
                               tables; PLUMETHRIFT_UNBOUNDED: values of any length do */
-  uint32_t value_capacity; /* PLUMETHRIFT_BOUND(n), n at most PLUMETHRIFT_MAX_VALUES: a value that
-                              joins n others replaces the oldest; PLUMETHRIFT_UNBOUNDED: none is
-                              replaced, and the one after PLUMETHRIFT_MAX_VALUES is refused */
+  uint32_t value_capacity; /* PLUMETHRIFT_BOUND(n), n at most 2,048: a value that joins n others
+                              replaces the oldest; PLUMETHRIFT_UNBOUNDED: none is replaced, and one
+                              that would join 2,048 others is refused (LIMIT) */
   uint32_t loose;          /* 0: the reader takes strict forms alone */
   uint32_t prefixes;       /* 0: prefixes are not kept */
   uint32_t grammar_cap;    /* PLUMETHRIFT_UNBOUNDED: element grammars are not capped */

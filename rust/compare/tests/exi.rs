@@ -141,8 +141,16 @@ fn bounded_values() {
     accepts("--max-length 0", alone);
     accepts("--max-length 0 --capacity 2048", alone);
     refused("check --byte-aligned -", turning, "10 LOOSE, event 4: ");
-    refused("check --byte-aligned --capacity 2 -", turning, "10 LOOSE, event 4: ");
-    refused("check --byte-aligned --max-length 1 -", alone, "10 LOOSE, event 3: ");
+    refused(
+        "check --byte-aligned --capacity 2 -",
+        turning,
+        "10 LOOSE, event 4: ",
+    );
+    refused(
+        "check --byte-aligned --max-length 1 -",
+        alone,
+        "10 LOOSE, event 3: ",
+    );
     let (_, _, stderr) = exi("check --capacity 1 -", turning);
     assert!(
         stderr.contains("\n  accepted with --byte-aligned --capacity 1\n"),
