@@ -59,8 +59,9 @@ pub fn hint() {
     );
 }
 
-// What help prints, on standard output. A flag that the library does not take yet gets its line here once it does:
-// --max-length N, no longer value joins the tables; --capacity N, so many values stay in them.
+// What help prints, on standard output. A flag that the library does not take yet gets its line
+// here once it does: --max-length N, no longer value joins the tables; --capacity N, so many values
+// stay in them.
 pub fn usage() {
     let written = io::write_all(
         STDOUT_FILENO,
