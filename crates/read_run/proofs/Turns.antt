@@ -226,9 +226,9 @@ module _ {s : Settings} {stream events text work : List ℕ} {st : State} {first
                   (refusal .work-is) a)) b d .refused (omega (arith, some)));
             }
 
-        pub turn-refused : AdvancePost s stream events text work st first events″ text″ work″
+        kept-refused : AdvancePost s stream events text work st first events″ text″ work″
             (record { number = r .number; index = n; state = t })
-        turn-refused =
+        kept-refused =
             record {
               progress = left;
               over = λ z. absurd (some z);
@@ -236,6 +236,18 @@ module _ {s : Settings} {stream events text work : List ℕ} {st : State} {first
               full = λ _ e. absurd (omega arith);
               refused = λ _ _. refuses;
             }
+
+        -- A refused step answers the numbers as they came in.
+        pub turn-refused : AdvancePost s stream events text work st first events″ text″ work″
+            (record {
+              number = r .number;
+              index = n;
+              state = record { core = coreOf r; opened = t .opened };
+            })
+        turn-refused =
+            subst (λ c. AdvancePost s stream events text work st first events″ text″ work″
+            (record { number = r .number; index = n; state = record { core = c; opened = t .opened } }))
+            (sym (refusal .core)) kept-refused
 
       -- ---- one event more
 

@@ -61,16 +61,8 @@ pub fn advance(
             return stopped(LIMIT, n, c, opened);
         }
         let cell = CELLS_PER_EVENT * n;
-        let r = read_step::step(o, stream, c, cell, n, events, text, work);
-        if r.number != 0 {
-            return stopped(r.number, n, c, opened);
-        }
         let before = c.depth;
-        let after = r.depth;
-        if before < after {
-            opened[before] = r.top as u16;
-        }
-        let top = open_elements::innermost(&opened, after);
+        let r = read_step::step(o, stream, c, cell, n, events, text, work);
         c = Core {
             at: r.at,
             stored: r.stored,
@@ -80,12 +72,19 @@ pub fn advance(
             learned: r.learned,
             grammars: r.grammars,
             mode: r.mode,
-            top,
-            depth: after,
+            top: r.top,
+            depth: r.depth,
             tag: r.tag,
             longest: r.longest,
             capacity: r.capacity,
         };
+        if r.number != 0 {
+            return stopped(r.number, n, c, opened);
+        }
+        if before < c.depth {
+            opened[before] = c.top as u16;
+        }
+        c.top = open_elements::innermost(&opened, c.depth);
         n += 1;
     }
     stopped(0, n, c, opened)

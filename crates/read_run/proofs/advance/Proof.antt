@@ -109,58 +109,58 @@ returns-2 c =
 
 cast-opened : tie.Need-cast-opened Inv-loop μ-loop
 cast-opened c =
-    let step = c .before .before .before .before .before .before .before .before .before .before .step .ensures
+    let step = c .before .before .before .before .before .before .before .before .before .before .before .step .ensures
     in
     omega (arith, step .bounded .top)
 
 mul-opened : tie.Need-mul-opened Inv-loop μ-loop
 unfolding maxOpen
 mul-opened c =
-    let step = c .before .before .before .before .before .before .before .before .before .before .step .ensures
+    let step = c .before .before .before .before .before .before .before .before .before .before .before .step .ensures
     in
     omega (arith, step .bounded .depth, c .before .if4 .taken)
 
 array-write-opened : tie.Need-array-write-opened Inv-loop μ-loop
 unfolding maxOpen
 array-write-opened c =
-    let step = c .before .before .before .before .before .before .before .before .before .before .step .ensures
+    let step = c .before .before .before .before .before .before .before .before .before .before .before .step .ensures
     in
     omega (arith, step .bounded .depth, c .before .if4 .taken)
 
 innermost-requires : tie.Need-innermost-requires Inv-loop μ-loop
 innermost-requires c κs =
-    let step = c .before .before .before .before .before .before .before .before .before .before .step .ensures
+    let step = c .before .before .before .before .before .before .before .before .before .before .before .step .ensures
     in
     step .bounded .depth
 
 add-n : tie.Need-add-n Inv-loop μ-loop
 add-n c =
-    let low = c .before .before .before .before .before .before .before .before .before .before .before .before
+    let low = c .before .before .before .before .before .before .before .before .before .before .before .before .before
     .before .before .before .if2 .left in
     omega (arith, low)
 
 loop-less : tie.Need-loop-less Inv-loop μ-loop
 unfolding maxEvents
 loop-less c =
-    let low = c .before .before .before .before .before .before .before .before .before .before .before .before
+    let low = c .before .before .before .before .before .before .before .before .before .before .before .before .before
     .before .before .before .if2 .left in
     omega (arith, low)
 
 loop-again : tie.Need-loop-again Inv-loop μ-loop
 unfolding maxEvents
 loop-again c =
-    let pre = c .before .before .before .before .before .before .before .before .before .before .before .before
+    let pre = c .before .before .before .before .before .before .before .before .before .before .before .before .before
     .before .before .before .before .before .before .before .before .before .before .before .before .before .pre
     in
-    let inv = c .before .before .before .before .before .before .before .before .before .before .before .before
+    let inv = c .before .before .before .before .before .before .before .before .before .before .before .before .before
     .before .before .before .before .before .before .loop .inv in
-    let on = c .before .before .before .before .before .before .before .before .before .before .before .before
+    let on = c .before .before .before .before .before .before .before .before .before .before .before .before .before
     .before .before .before .before .if1 .taken in
-    let low = c .before .before .before .before .before .before .before .before .before .before .before .before
+    let low = c .before .before .before .before .before .before .before .before .before .before .before .before .before
     .before .before .before .if2 .left in
-    let step = c .before .before .before .before .before .before .before .before .before .before .before .step
+    let step = c .before .before .before .before .before .before .before .before .before .before .before .before .step
     .ensures in
-    let zero = c .before .before .before .if3 .left in
+    let zero = c .before .before .before .before .if3 .left in
     let kept : KeptAfter pre inv on low step zero (c .before .before .if4 .opened) =
     ⊎-elim
     (λ w. subst (λ (x : List ℕ). KeptAfter pre inv on low step zero x) (sym (w .2))
