@@ -189,7 +189,13 @@ fn read_child(
 }
 
 // Reads an event code in a fragment's content (EXI 8.4.2).
-fn read_between(o: Settings, stream: &[u8], at: usize, learned: u32, work: &[u32]) -> ProductionRead
+pub fn read_between(
+    o: Settings,
+    stream: &[u8],
+    at: usize,
+    learned: u32,
+    work: &[u32],
+) -> ProductionRead
     requires { ⌜ ProductionPre (now stream) at 0 learned (now work) ⌝ }
     ensures { λ r. ⌜
         ((top : ℕ) → top < nameRows → ProductionPost (settingsFrom o) (now (stream .entry)) at
@@ -213,7 +219,7 @@ fn read_between(o: Settings, stream: &[u8], at: usize, learned: u32, work: &[u32
 }
 
 // Reads an event code outside of every element.
-pub fn read_outer(
+fn read_outer(
     o: Settings,
     stream: &[u8],
     at: usize,

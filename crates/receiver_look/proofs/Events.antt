@@ -1,6 +1,6 @@
 -- The content of an event, as a look sees it.
 use Prim.Native.Nat.{ℕ, _*_, _≤_}
-use mathlib.Core.Path.{_≡_, refl}
+use mathlib.Core.Path.{_≡_, refl, _∙_, ap}
 use mathlib.Core.Bool.{Bool, true, false}
 use mathlib.Core.List.{List, []}
 use native.Mathlib.Omega.{arith}
@@ -15,17 +15,22 @@ use Rattle.spec_exi.specs.Event.{QName}
 use Rattle.spec_exi.specs.Tables.{Tables, Role, value, target, commentText}
 use Rattle.spec_exi.specs.Tables.{literals, instructionText, partitionsOf, nameText}
 use Rattle.spec_exi.specs.Reader.{readString, readName, readContent}
-use Rattle.mem_rows.specs.Rows.{kindAt}
+use Rattle.mem_rows.specs.Rows.{kindAt, tablesOf}
 use Rattle.read_contract.proofs.Outcome.{return-gotten}
 use Rattle.receiver_strings.specs.declared.Looked.{Looked}
 use Rattle.receiver_strings.specs.Cuts.{Sees}
 use Rattle.receiver_strings.specs.Strings.{StringSeen}
-use Rattle.receiver_strings.proofs.Cuts.{passes-return, sees-then}
+use Rattle.receiver_strings.proofs.Cuts.{passes-return, sees-then, sees-after}
 use Rattle.receiver_strings.proofs.Cuts.{sees-nothing, sees-field}
-use Rattle.receiver_look.specs.Look.{ThenSeen, NameSeen, AttributeSeen}
+use Rattle.receiver_look.specs.Look.{ThenSeen, NameSeen, Tabled, HitSeen, AttributeSeen}
 use Rattle.receiver_look.specs.Look.{InstructionSeen, ContentSeen}
 use Rattle.receiver_look.proofs.Steady.{steady-string, steady-name}
 use Rattle.receiver_look.proofs.Names.{sees-string, sees-two}
+
+pub uris-count : {work : List ℕ} {uris : ℕ} {t : Tables} → Tabled work uris t
+    → length (t .uris) ≡ uris
+unfolding tablesOf
+uris-count h = ap (λ (x : Tables). length (x .uris)) (h .is) ∙ h .count
 
 -- ---- a value after a name
 
@@ -39,9 +44,9 @@ module _ (s : Settings) (t : Tables) (stream : List ℕ) (at : ℕ) (r : Looked)
       → Sees s (readString sizes s t role) stream at r
   text-seen role e h = sees-string s t stream at r role [] e (h .sees s t [] refl)
 
-module _ {a : Alignment} {stream : List ℕ} {at uris : ℕ} {r : Looked} where
+module _ {a : Alignment} {stream work : List ℕ} {at uris : ℕ} {r : Looked} where
   pub attribute-known : StringSeen stream at 2 r → at ≤ 8 * length stream
-      → AttributeSeen a stream at true uris r
+      → AttributeSeen a stream work at true uris r
   unfolding readContent readName
   attribute-known h l =
       record {
@@ -55,17 +60,34 @@ module _ {a : Alignment} {stream : List ℕ} {at uris : ℕ} {r : Looked} where
       }
 
   pub attribute-new : {n : Looked} → NameSeen a stream at uris n → ThenSeen stream n 2 r
-      → AttributeSeen a stream at false uris r
+      → AttributeSeen a stream work at false uris r
   unfolding readContent
   attribute-new {n} h y =
       record {
         bounds = y .bounds;
         sees = λ s b t e st q c.
             rw (c .none-is refl)
-            (sees-two s _ _ stream at n r (steady-name s t true) (h .sees s b t e true) y
+            (sees-two s _ _ stream at n r (steady-name s t true) (h .sees s b t (uris-count e) true) y
             (λ x z.
             sees-then s _ _ stream (n .at) r (λ v. passes-return _ _)
             (value-seen s (x .1) stream (n .at) r (nameText (x .0)) z)));
+      }
+
+  -- After a name that came by its numbers.
+  pub attribute-hit : {h : Looked} → HitSeen a stream work at uris h → h .past ≡ true
+      → StringSeen stream (h .at) 2 r → AttributeSeen a stream work at false uris r
+  unfolding readContent
+  attribute-hit {h} y p z =
+      record {
+        bounds = z .bounds;
+        sees = λ s b t e st q c.
+            rw (c .none-is refl)
+            (sees-after s _ _ stream at (steady-name s t true)
+            (record { past = true; at = h .at; left = 0 }) r
+            (record { past = λ _. y .past p s b e; cut = λ l. absurd (omega arith) }) refl
+            (λ x.
+            sees-then s _ _ stream (h .at) r (λ v. passes-return _ _)
+            (value-seen s (x .1) stream (h .at) r (nameText (x .0)) z)));
       }
 
 pub instruction-seen : {stream : List ℕ} {at : ℕ} {l r : Looked} → StringSeen stream at 0 l
@@ -84,9 +106,9 @@ instruction-seen {stream} {at} {l} {r} h y =
 
 -- ---- by the kind
 
-module _ {a : Alignment} {stream : List ℕ} {at : ℕ} (uris : ℕ) where
+module _ {a : Alignment} {stream work : List ℕ} {at : ℕ} (uris : ℕ) where
   pub content-nothing : (kind : ℕ) (learned : Bool) → at ≤ 8 * length stream
-      → ContentSeen a stream at kind learned uris (record { past = false; at = at; left = 0 })
+      → ContentSeen a stream work at kind learned uris (record { past = false; at = at; left = 0 })
   content-nothing kind learned l =
       record {
         bounds = record { inside = l; few = omega arith };
@@ -95,18 +117,18 @@ module _ {a : Alignment} {stream : List ℕ} {at : ℕ} (uris : ℕ) where
 
   module _ {kind : ℕ} {r : Looked} where
     pub content-name : kind ≡ 2 → NameSeen a stream at uris r
-        → ContentSeen a stream at kind false uris r
+        → ContentSeen a stream work at kind false uris r
     unfolding readContent kindAt
     content-name k h =
         record {
           bounds = h .bounds;
           sees = λ s b t e st v q c.
               rw (k, c .none-is refl)
-              (sees-then s _ _ stream at r (λ x. passes-return _ _) (h .sees s b t e false));
+              (sees-then s _ _ stream at r (λ x. passes-return _ _) (h .sees s b t (uris-count e) false));
         }
 
-    pub content-attribute : kind ≡ 3 → {learned : Bool} → AttributeSeen a stream at learned uris r
-        → ContentSeen a stream at kind learned uris r
+    pub content-attribute : kind ≡ 3 → {learned : Bool} → AttributeSeen a stream work at learned uris r
+        → ContentSeen a stream work at kind learned uris r
     unfolding kindAt
     content-attribute k h =
         record {
@@ -118,7 +140,7 @@ module _ {a : Alignment} {stream : List ℕ} {at : ℕ} (uris : ℕ) where
         }
 
     pub content-characters : kind ≡ 5 → {learned : Bool} → StringSeen stream at 2 r
-        → ContentSeen a stream at kind learned uris r
+        → ContentSeen a stream work at kind learned uris r
     unfolding readContent kindAt
     content-characters k h =
         record {
@@ -130,7 +152,7 @@ module _ {a : Alignment} {stream : List ℕ} {at : ℕ} (uris : ℕ) where
         }
 
     pub content-comment : kind ≡ 6 → {learned : Bool} → StringSeen stream at 0 r
-        → ContentSeen a stream at kind learned uris r
+        → ContentSeen a stream work at kind learned uris r
     unfolding readContent kindAt partitionsOf
     content-comment k h =
         record {
@@ -142,7 +164,7 @@ module _ {a : Alignment} {stream : List ℕ} {at : ℕ} (uris : ℕ) where
         }
 
     pub content-instruction : kind ≡ 7 → {learned : Bool} → InstructionSeen stream at r
-        → ContentSeen a stream at kind learned uris r
+        → ContentSeen a stream work at kind learned uris r
     unfolding kindAt
     content-instruction k h =
         record { bounds = h .bounds; sees = λ s b t e st v q c. rw k (h .sees s t st q) }

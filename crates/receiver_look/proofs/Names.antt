@@ -33,11 +33,11 @@ use Rattle.receiver_look.proofs.Steady.{steady-string}
 
 -- ---- refusals that are not ENDED
 
-not-ended : numberOf reference ≡ numberOf ended → ⊥
+pub not-ended : numberOf reference ≡ numberOf ended → ⊥
 unfolding numberOf
 not-ended e = absurd (omega arith)
 
-faulty-declined : {A : Type 0} {p : Parser A} {stream : List ℕ} {at n : ℕ}
+pub faulty-declined : {A : Type 0} {p : Parser A} {stream : List ℕ} {at n : ℕ}
     → Declined p stream at n → (n ≡ numberOf ended → ⊥) → Faulty p (drop at (unpack stream))
 faulty-declined d n =
     record {
@@ -100,17 +100,17 @@ module _ {A B : Type 0} (s : Settings) (p : Parser A) (f : A → Parser B) (stre
 
 -- ---- a URI
 
-some-at : {A : Type 0} (l : List A) (i : ℕ) → i < length l
+pub some-at : {A : Type 0} (l : List A) (i : ℕ) → i < length l
     → (x : A) × (getElem? (map some l) i ≡ some (some x))
 some-at [] i h = absurd (omega arith)
 some-at (x ∷ l) zero h = (x, refl)
 some-at (x ∷ l) (suc i) h = some-at l i (omega arith)
 
-length-some : {A : Type 0} (l : List A) → length (map (λ (x : A). some x) l) ≡ length l
+pub length-some : {A : Type 0} (l : List A) → length (map (λ (x : A). some x) l) ≡ length l
 length-some [] = refl
 length-some (x ∷ l) = ap suc (length-some l)
 
-passes-present : {A B : Type 0} (slot : Option A) (g : A → B) (bs : Bits)
+pub passes-present : {A B : Type 0} (slot : Option A) (g : A → B) (bs : Bits)
     → Passes (present reference slot >>= λ e. return (g e)) bs bs
 unfolding present fail return _>>=_ andThen numberOf
 passes-present none g bs =

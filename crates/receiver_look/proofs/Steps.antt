@@ -37,19 +37,19 @@ use Rattle.receiver_strings.specs.Cuts.{Passes, CutAt, Sees}
 use Rattle.receiver_strings.specs.Strings.{StringSeen}
 use Rattle.receiver_strings.proofs.Cuts.{passes-return, passes-need, passes-then, passes-behind}
 use Rattle.receiver_strings.proofs.Cuts.{cut-then, cut-behind, not-passed, cut-ended}
-use Rattle.receiver_look.specs.Look.{UriPre, Carries, ContentSeen, Valued}
+use Rattle.receiver_look.specs.Look.{HitPre, Tabled, Carries, ContentSeen, Valued}
 use Rattle.receiver_look.specs.Look.{FixedAsks, FixedSeen, LookPre, LookPost}
 use Rattle.receiver_look.proofs.Events.{attribute-known, content-attribute}
 use Rattle.receiver_look.proofs.Events.{content-characters}
 
 -- ---- the rest of a code that names no learned production
 
-module _ {stream : List ℕ} {next : ℕ} {c : Core} (pre : FixedAsks stream next c) where
+module _ {stream work : List ℕ} {next : ℕ} {c : Core} (pre : FixedAsks stream work next c) where
   pub rest-asks : FixedPre stream next (c .at)
   rest-asks = record { size = pre .spot .size; place = pre .place; start = pre .spot .place }
 
   pub fixed-nothing : (s : Settings)
-      → FixedSeen s stream next c (record { past = false; at = c .at; left = 0 })
+      → FixedSeen s stream work next c (record { past = false; at = c .at; left = 0 })
   fixed-nothing s =
       record {
         bounds = record { inside = pre .spot .place; few = omega arith };
@@ -58,16 +58,16 @@ module _ {stream : List ℕ} {next : ℕ} {c : Core} (pre : FixedAsks stream nex
 
   module _ {s : Settings} {p : ProductionRead} (read : FixedAt s (c .mode) stream next (c .at) p)
     where
-      pub fixed-content : UriPre stream (p .next) (c .uris)
+      pub fixed-content : HitPre stream work (p .next)
       fixed-content =
           record {
             spot = record { size = pre .spot .size; place = read .inside };
-            few = pre .bounded .uris;
+            rows = pre .rows;
           }
 
       pub fixed-seen : p .number ≡ 0 → {r : Looked}
-          → ContentSeen (s .alignment) stream (p .next) (p .kind) (p .learned) (c .uris) r
-          → FixedSeen s stream next c r
+          → ContentSeen (s .alignment) stream work (p .next) (p .kind) (p .learned) (c .uris) r
+          → FixedSeen s stream work next c r
       fixed-seen good h =
           record {
             bounds = h .bounds;
@@ -133,13 +133,27 @@ module _ {stream work : List ℕ} {c : Core} (pre : LookPre stream work c) where
         cut = λ l. absurd (omega arith);
       }
 
-  pub fixed-asked : {next : ℕ} → next ≤ 8 * length stream → FixedAsks stream next c
-  fixed-asked l = record { spot = pre .spot; place = l; bounded = pre .bounded }
+  pub fixed-asked : {next : ℕ} → next ≤ 8 * length stream → FixedAsks stream work next c
+  fixed-asked l =
+      record { spot = pre .spot; place = l; rows = pre .rows; bounded = pre .bounded }
 
   module _ (text : List ℕ) (w : Rows) (opened : List ℕ)
       (rep : Represents work (inStore text (c .stored)) c w opened) (top : Topped c opened) where
     abbrev here : Context
     here = contextAt text c w opened
+
+    tabled : Tabled work (c .uris) (here .tables)
+    unfolding contextOf
+    tabled =
+        record {
+          rows = w;
+          store = take (c .stored) text;
+          is = refl;
+          valid = rep .valid;
+          count = sym (rep .counts .uris);
+          from = inStore text (c .stored) .names;
+          hold = rep .holds .names;
+        }
 
     valued : inTag ≤ c .mode → Valued (here .state)
     unfolding contextOf
@@ -149,7 +163,7 @@ module _ {stream work : List ℕ} {c : Core} (pre : LookPre stream work c) where
     module _ {s : Settings} {p : ProductionRead} {r : Looked}
         (post : ProductionPost s stream (c .at) (c .mode) (c .top) (c .learned) work p)
         (good : p .number ≡ 0)
-        (h : ContentSeen (s .alignment) stream (p .next) (p .kind) (p .learned) (c .uris) r) where
+        (h : ContentSeen (s .alignment) stream work (p .next) (p .kind) (p .learned) (c .uris) r) where
       carried : (x : Code) → x .production
           ≡ record {
             kind = kindAt (p .kind);
@@ -177,7 +191,7 @@ module _ {stream work : List ℕ} {c : Core} (pre : LookPre stream work c) where
           ap (λ (y : Production). y .kind) (is .production) in
           step-cut s here stream (c .at) _ g {r = r}
           (rw kind-is
-          (h .sees s refl (here .tables) (sym (rep .counts .uris)) (here .state)
+          (h .sees s refl (here .tables) tabled (here .state)
           (λ k. valued (post .bounds good .stands .inside (omega arith) (omega arith)))
           (g .value .production .qname) (carried (g .value) (is .production)))) l
 
@@ -206,14 +220,14 @@ module _ {stream work : List ℕ} {c : Core} (pre : LookPre stream work c) where
           }
 
       content-cut : {r : Looked} → 0 < r .left
-          → ContentSeen (s .alignment) stream next (row .kind) true (c .uris) r
+          → ContentSeen (s .alignment) stream work next (row .kind) true (c .uris) r
           → CutAt (step sizes s here) (drop (c .at) (unpack stream)) s
           (drop (r .at) (unpack stream)) (r .left)
       unfolding contextOf tablesOf
       content-cut {r} l h =
           step-cut s here stream (c .at) _ g {r = r}
           (rw kind-is
-          (h .sees s refl (here .tables) (sym (rep .counts .uris)) (here .state)
+          (h .sees s refl (here .tables) tabled (here .state)
           (λ k. valued inner) (g .value .production .qname) named)) l
 
       start-reads : row .kind ≡ 2
@@ -263,15 +277,15 @@ module _ {stream work : List ℕ} {c : Core} (pre : LookPre stream work c) where
   module _ {s : Settings} {p : ProductionRead}
       (post : ProductionPost s stream (c .at) (c .mode) (c .top) (c .learned) work p)
       (good : p .number ≡ 0) where
-    pub content-asks : UriPre stream (p .next) (c .uris)
+    pub content-asks : HitPre stream work (p .next)
     content-asks =
         record {
           spot = record { size = pre .spot .size; place = post .inside };
-          few = pre .bounded .uris;
+          rows = pre .rows;
         }
 
     pub look-known : {r : Looked}
-        → ContentSeen (s .alignment) stream (p .next) (p .kind) (p .learned) (c .uris) r
+        → ContentSeen (s .alignment) stream work (p .next) (p .kind) (p .learned) (c .uris) r
         → LookPost s stream work c r
     look-known h =
         record {
@@ -283,7 +297,7 @@ module _ {stream work : List ℕ} {c : Core} (pre : LookPre stream work c) where
   pub look-fixed : {s : Settings} {next : ℕ} {r : Looked}
       → ((p : ProductionRead) → FixedAt s (c .mode) stream next (c .at) p
       → ProductionPost s stream (c .at) (c .mode) (c .top) (c .learned) work p)
-      → FixedSeen s stream next c r → LookPost s stream work c r
+      → FixedSeen s stream work next c r → LookPost s stream work c r
   look-fixed post h =
       record {
         bounds = h .bounds;

@@ -2,6 +2,7 @@
 use Rattle.receiver_look.proofs.Events.{content-nothing, content-name, content-attribute}
 use Rattle.receiver_look.proofs.Events.{content-characters, content-comment}
 use Rattle.receiver_look.proofs.Events.{content-instruction}
+use Rattle.receiver_look.proofs.Hits.{name-asks}
 use borrow.Author.Needs.{needs}
 use Rattle.receiver_look.proofs.content.Statement.{statement}
 use Rattle.receiver_look.proofs.content.Tie as tie
@@ -11,23 +12,25 @@ nothing-requires c κs = search needs
 
 returns : tie.Need-returns
 returns c =
-    let start = c .before .before .before .before in
-    rw (c .nothing .ensures) (content-nothing _ _ _ (start .pre .spot .place))
+    let start = c .before .before .before .before .before in
+    rw (c .nothing .ensures) (content-nothing _ _ _ (start .pre .0 .spot .place))
 
 name-requires : tie.Need-name-requires
-name-requires c κs = c .before .before .before .pre
+name-requires c κs =
+    let pre = c .before .before .before .before .pre in
+    name-asks (pre .0) (pre .1)
 
 attribute-requires : tie.Need-attribute-requires
-attribute-requires c κs = c .before .before .pre
+attribute-requires c κs = c .before .before .before .pre
 
 string-requires : tie.Need-string-requires
-string-requires c κs = c .before .before .pre .spot
+string-requires c κs = c .before .before .before .pre .0 .spot
 
 string-requires-2 : tie.Need-string-requires-2
-string-requires-2 c κs = c .before .before .pre .spot
+string-requires-2 c κs = c .before .before .before .pre .0 .spot
 
 instruction-requires : tie.Need-instruction-requires
-instruction-requires c κs = c .before .before .pre .spot
+instruction-requires c κs = c .before .before .before .pre .0 .spot
 
 nothing-requires-2 : tie.Need-nothing-requires-2
 nothing-requires-2 c κs = search needs
@@ -52,8 +55,8 @@ returns-6 c = content-instruction _ (c .before .match .keys5) (c .instruction .e
 
 returns-7 : tie.Need-returns-7
 returns-7 c =
-    let start = c .before .before .before in
-    rw (c .nothing2 .ensures) (content-nothing _ _ _ (start .pre .spot .place))
+    let start = c .before .before .before .before in
+    rw (c .nothing2 .ensures) (content-nothing _ _ _ (start .pre .0 .spot .place))
 
 pub content-spec : {M : Type 1} → statement M
 content-spec =

@@ -6,27 +6,28 @@ use Rattle.receiver_look.proofs.fixed.Statement.{statement}
 use Rattle.receiver_look.proofs.fixed.Tie as tie
 
 read-fixed-requires : tie.Need-read-fixed-requires
-read-fixed-requires c κs = rest-asks (c .before .pre)
+read-fixed-requires c κs = rest-asks (c .before .before .pre)
 
 nothing-requires : tie.Need-nothing-requires
 nothing-requires c κs = search needs
 
 returns : tie.Need-returns
 returns c =
-    let start = c .before .before .before .before .before in
+    let start = c .before .before .before .before .before .before in
     rw (c .nothing .ensures) (fixed-nothing (start .pre) _)
 
 content-requires : tie.Need-content-requires
 content-requires c κs =
     let read = c .before .before in
-    fixed-content (read .before .before .pre) (read .read-fixed .ensures)
+    let pre = read .before .before .before .pre in
+    (fixed-content pre (read .read-fixed .ensures), pre .bounded .uris)
 
 returns-2 : tie.Need-returns-2
 unfolding settingsFrom
 returns-2 c =
     let if1 = c .before in
     let read = if1 .before .before in
-    fixed-seen (read .before .before .pre) (read .read-fixed .ensures) (if1 .if1 .left)
+    fixed-seen (read .before .before .before .pre) (read .read-fixed .ensures) (if1 .if1 .left)
     (c .content .ensures)
 
 pub fixed-spec : {M : Type 1} → statement M

@@ -1,16 +1,12 @@
 -- `outside` meets its contract.
 use Rattle.settings.specs.Meant.{settingsFrom}
-use Rattle.read_production.proofs.Between.{at-none}
-use Rattle.receiver_look.proofs.Steps.{production-asks, look-nothing, content-asks}
-use Rattle.receiver_look.proofs.Steps.{look-known}
+use Rattle.receiver_look.proofs.Steps.{look-nothing, content-asks, look-known}
 use borrow.Author.Needs.{needs}
 use Rattle.receiver_look.proofs.outside.Statement.{statement}
 use Rattle.receiver_look.proofs.outside.Tie as tie
 
-read-outer-requires : tie.Need-read-outer-requires
-read-outer-requires c κs =
-    let pre = c .before .before .pre in
-    (at-none (production-asks (pre .0)), pre .1)
+outer-code-requires : tie.Need-outer-code-requires
+outer-code-requires c κs = c .before .before .pre
 
 nothing-requires : tie.Need-nothing-requires
 nothing-requires c κs = search needs
@@ -24,7 +20,7 @@ content-requires : tie.Need-content-requires
 content-requires c κs =
     let read = c .before .before in
     let pre = read .before .before .before .pre .0 in
-    content-asks pre (read .read-outer .ensures _ (pre .bounded .top)) (c .if1 .left)
+    (content-asks pre (read .outer-code .ensures) (c .if1 .left), pre .bounded .uris)
 
 returns-2 : tie.Need-returns-2
 unfolding settingsFrom
@@ -32,9 +28,8 @@ returns-2 c =
     let if1 = c .before in
     let read = if1 .before .before in
     let pre = read .before .before .before .pre .0 in
-    look-known pre (read .read-outer .ensures _ (pre .bounded .top)) (if1 .if1 .left)
-    (c .content .ensures)
+    look-known pre (read .outer-code .ensures) (if1 .if1 .left) (c .content .ensures)
 
 pub outside-spec : {M : Type 1} → statement M
 outside-spec =
-    tie.close (tie.spec read-outer-requires nothing-requires returns content-requires returns-2)
+    tie.close (tie.spec outer-code-requires nothing-requires returns content-requires returns-2)
