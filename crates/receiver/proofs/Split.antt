@@ -38,7 +38,7 @@ use Rattle.receiver_piece.specs.Piece.{roomIn, roomOf, SameLengths, Holds, Told
 use Rattle.receiver_read.specs.On.{Stands}
 use Rattle.receiver_piece.proofs.Room.{room-is, same-room, read-is}
 use Rattle.receiver_piece.proofs.Told.{told-refused, told-stands}
-use Rattle.receiver_piece.proofs.Piece.{cleared-same, took-as}
+use Rattle.receiver_piece.proofs.Piece.{cleared-same, told-with}
 use Rattle.receiver.specs.Calls.{Fed, closedNow, closedTo, Closed}
 use Rattle.receiver.specs.Chain.{Chain, none-fed, one-fed}
 
@@ -315,12 +315,13 @@ module _ (s : SettingNumbers) (m : Lent) where
           → courseOf r (length p) (roomIn m₁) ≡ Reads → Next (os ++ p) r′ m′ y
       unfolding startedWith
       read-next a b l c =
-          let t : Took (startedWith s) (os ++ p) m r′ m′ y =
-          took-as (h .settings) (h .lengths) (h .takes p f c) in
+          let t = h .takes p f c in
+          let told : Told (answer (os ++ p)) m m′ y =
+          told-with (os ++ p) (h .settings) (h .lengths) (t .told) in
           elim (ℕ-discrete (y .number) 0) [
             | yes z ↦
                 record {
-                  told = t .told;
+                  told = told;
                   clears = λ x. absurd (omega arith);
                   come = going (f .settings ∙ h .settings)
                       (record {
@@ -334,13 +335,15 @@ module _ (s : SettingNumbers) (m : Lent) where
             | no z ↦
                 let some : 0 < y .number = omega (arith, z) in
                 let x = t .stops some in
-                let (k, i, is, reply) = told-number (answer (os ++ p)) y (t .told .reply) some in
+                let (k, i, is, reply) = told-number (answer (os ++ p)) y (told .reply) some in
+                let memory = x .memory ∙ cleared-same (h .lengths) in
                 record {
-                  told = t .told;
-                  clears = λ _. x .memory;
-                  come = over k i is (x .phase)
-                      (x .octets ∙ sym (counted-few (length (os ++ p)) l)) (x .reply ∙ reply)
-                      (x .memory);
+                  told = told;
+                  clears = λ _. memory;
+                  come = over k i is (ap (λ (v : Receiver). v .phase) (x .receiver))
+                      (ap (λ (v : Receiver). v .octets) (x .receiver)
+                      ∙ sym (counted-few (length (os ++ p)) l))
+                      (ap (λ (v : Receiver). v .reply) (x .receiver) ∙ reply) memory;
                 }
           ]
 

@@ -9,7 +9,7 @@ use Rattle.spec_fields.specs.Refusal.{numberOf, ended}
 use Rattle.event_code.specs.Numbers.{isOver}
 use Rattle.reader.specs.declared.ReadReply.{ReadReply}
 use Rattle.receiver_record.specs.declared.Receiver.{Receiver}
-use Rattle.receiver_record.specs.Record.{isStarted, refusalAt, Lent, Left, left}
+use Rattle.receiver_record.specs.Record.{isStarted, refusalAt, startedWith, Lent, Left, left}
 use Rattle.receiver_course.specs.declared.Course.{Course}
 use Rattle.receiver_course.specs.declared.Course.the-variants.{Repeats, Refused, Reads}
 use Rattle.receiver_course.specs.Course.{courseOf}
@@ -27,7 +27,7 @@ pub record Fed (r : Receiver) (p : List ℕ) (m : Lent) (r′ : Receiver) (m′ 
   pub refuses : (z : ReadReply) → courseOf r (length p) (roomIn m) ≡ Refused z
       → left r′ m′ y ≡ refused r z (length p) m
   pub starts : courseOf r (length p) (roomIn m) ≡ Reads → r .phase ≡ isStarted
-      → Took r p m r′ m′ y
+      → Took (startedWith (r .settings)) p m r′ m′ y
   pub goes-on : courseOf r (length p) (roomIn m) ≡ Reads → (os : List ℕ) → Holds r m os
       → Took r (os ++ p) m r′ m′ y
   pub settings : r′ .settings ≡ r .settings

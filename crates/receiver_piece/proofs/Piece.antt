@@ -6,7 +6,7 @@ use Prim.Native.Nat.{ℕ, _+_, _*_, _≤_, _<_}
 use native.Mathlib.Omega.{arith}
 use native.Mathlib.Decide.{ℕ-discrete}
 use lib.ListN.{length, take, drop, length-append}
-use lib.Seq.{length-take-le, take-at}
+use lib.Seq.{length-take-le, take-at, drop-at}
 use lib.Dec.{eqb}
 use borrow.Author.Tests.{le-leb, eq-eqb, eqb-true}
 use Rattle.spec_fields.specs.Refusal.{numberOf, Answer}
@@ -16,6 +16,7 @@ use Rattle.spec_exi.specs.Sizes.{sizes, maxStream, maxEvents, maxOpen, maxStrin
 use Rattle.spec_exi.specs.Reader.{Reading, enoughToRead}
 use Rattle.spec_exi.specs.Packets.{receive}
 use Rattle.settings.specs.Meant.{numbersOf, settingsMeant, settingsFrom}
+use Rattle.settings.specs.declared.SettingNumbers.{SettingNumbers}
 use Rattle.settings.specs.declared.Settings as declared
 use Rattle.open_elements.specs.declared.State.{State}
 use Rattle.settings.proofs.Laws.{settings-from}
@@ -47,7 +48,7 @@ use Rattle.receiver_wait.proofs.Awaiting.{awaiting-looked, awaiting-longer, awa
 use Rattle.receiver_wait.proofs.Stops.{stops-there}
 use Rattle.receiver_piece.specs.Piece.{stayed, awaited}
 use Rattle.receiver_piece.specs.Piece.{roomIn, roomOf, SameLengths, Carries, shown, Holds}
-use Rattle.receiver_piece.specs.Piece.{Told, Took, ConcludePre, wentOn, concluded}
+use Rattle.receiver_piece.specs.Piece.{Told, Stopped, Took, ConcludePre, wentOn, concluded}
 use Rattle.receiver_piece.specs.Piece.{AdvancedPre, GoOnPre, GoOnPost}
 use Rattle.receiver_piece.specs.Piece.{BegunPost, PiecePre, PiecePost}
 use Rattle.receiver_piece.proofs.Room.{room-is, same-room, receive-refused}
@@ -268,6 +269,15 @@ module _ {r : Receiver} {p : List ℕ} {m : Lent} (pre : GoOnPre r p m) where
             ∙ take-at (os ++ p) (drop (r .octets + length p) (m .held)) (r .octets + length p)
             (sym total)
 
+        behind-is : drop (length (os ++ p)) held₁ ≡ drop (length (os ++ p)) (m .held)
+        unfolding kept
+        behind-is =
+            ap (drop (length (os ++ p))) keeps
+            ∙ ap (λ (l : List ℕ). drop (length (os ++ p))
+            (l ++ p ++ drop (r .octets + length p) (m .held))) front
+            ∙ drop-at (os ++ p) (drop (r .octets + length p) (m .held)) (length (os ++ p)) refl
+            ∙ ap (λ n. drop n (m .held)) total
+
         reached : Reached s (os ++ p) (m .events) (m .text) (m .work) r events′ text′ work′ a w
         reached = rw (settings-from (r .settings), stream-is) at post
 
@@ -326,6 +336,7 @@ module _ {r : Receiver} {p : List ℕ} {m : Lent} (pre : GoOnPre r p m) where
                     stands = h;
                     awaits = reached .awaits (underway-longer os p (c .underway)) awaited-before;
                   };
+              behind = λ _. behind-is;
               stops = λ l. absurd (omega arith);
             }
 
@@ -356,11 +367,10 @@ module _ {r : Receiver} {p : List ℕ} {m : Lent} (pre : GoOnPre r p m) where
                   (pre .meant) short answer (λ e. not-five a t (is ∙ e)))
                   is (cleared-same same);
               goes = λ z. absurd (none z);
+              behind = λ z. absurd (none z);
               stops = λ _.
                   record {
-                    phase = refl;
-                    octets = total;
-                    reply = refl;
+                    receiver = ap (λ n. withReply r isRefused n y) total;
                     memory = cleared-same same;
                   };
             })
@@ -407,7 +417,7 @@ begun-already r n =
 
 -- ---- any piece
 
-told-as : {a : Answer Reading} {m m₁ m′ : Lent} {y : ReadReply} → SameLengths m m₁
+pub told-as : {a : Answer Reading} {m m₁ m′ : Lent} {y : ReadReply} → SameLengths m m₁
     → Told a m₁ m′ y → Told a m m′ y
 told-as {a} same h =
     record {
@@ -416,22 +426,24 @@ told-as {a} same h =
       text = h .text ∙ ap (λ n. textFilled n a) (same .text);
     }
 
-pub took-as : {b r : Receiver} {os : List ℕ} {m m₁ : Lent} {r′ : Receiver} {m′ : Lent} {y : ReadReply}
-    → b .settings ≡ r .settings → SameLengths m m₁ → Took b os m₁ r′ m′ y → Took r os m r′ m′ y
-took-as {os = os} {m} {m′ = m′} {y} e same h =
+pub told-with : {o o₁ : SettingNumbers} (os : List ℕ) {m m₁ m′ : Lent} {y : ReadReply} → o₁ ≡ o
+    → SameLengths m m₁ → Told (receive (roomOf m₁) (numbersOf o₁) os) m₁ m′ y
+    → Told (receive (roomOf m) (numbersOf o) os) m m′ y
+told-with os {m} {m′ = m′} {y} e same h =
+    subst (λ a. Told a m m′ y)
+    (ap₂ (λ room o. receive room (numbersOf o) os) (same-room same) e) (told-as same h)
+
+took-as : {r : Receiver} {os : List ℕ} {m : Lent} {events text work : List ℕ} {r′ : Receiver}
+    {m′ : Lent} {y : ReadReply} → SameLengths m (lent (m .held) events text work)
+    → Took r os (lent (m .held) events text work) r′ m′ y → Took r os m r′ m′ y
+took-as {os = os} same h =
     record {
-      told = subst (λ a. Told a m m′ y)
-          (ap₂ (λ room o. receive room (numbersOf o) os) (same-room same) e)
-          (told-as same (h .told));
+      told = told-with os refl same (h .told);
       goes = h .goes;
+      behind = h .behind;
       stops = λ l.
           let x = h .stops l in
-          record {
-            phase = x .phase;
-            octets = x .octets;
-            reply = x .reply;
-            memory = x .memory ∙ cleared-same same;
-          };
+          record { receiver = x .receiver; memory = x .memory ∙ cleared-same same };
     }
 
 module _ {r : Receiver} {p : List ℕ} {m : Lent} (pre : PiecePre r p m) where
@@ -515,12 +527,20 @@ module _ {r : Receiver} {p : List ℕ} {m : Lent} (pre : PiecePre r p m) where
     ]
 
     module _ {m′ : Lent} {f : Handed} (post : GoOnPost b p lent-now m′ f) where
-      took-first : r .phase ≡ isStarted → Took r p m (f .receiver) m′ (f .reply)
+      took-first : r .phase ≡ isStarted
+          → Took (startedWith (r .settings)) p m (f .receiver) m′ (f .reply)
+      unfolding startedWith
       took-first h =
-          took-as settings-same same-lengths
-          (post .took []
-          (subst (λ x. Carries x lent-now []) (sym (begun .first h .0))
-          (carries-first h (begun .first h .1))))
+          let t : Took (first-record h) p lent-now (f .receiver) m′ (f .reply) =
+          subst (λ x. GoOnPost x p lent-now m′ f) (begun .first h .0) post .took []
+          (carries-first h (begun .first h .1)) in
+          took-as same-lengths
+          (record { told = t .told; goes = t .goes; behind = t .behind; stops = λ l. took-stops (t .stops l) })
+        where
+          took-stops : {n : ℕ} {m₁ : Lent}
+              → Stopped (first-record h) n m₁ (f .receiver) m′ (f .reply)
+              → Stopped (startedWith (r .settings)) n m₁ (f .receiver) m′ (f .reply)
+          took-stops x = record { receiver = x .receiver; memory = x .memory }
 
       carries-further : (os : List ℕ) → Holds r m os → Carries b lent-now os
       carries-further os h =
@@ -533,11 +553,18 @@ module _ {r : Receiver} {p : List ℕ} {m : Lent} (pre : PiecePre r p m) where
             awaits = h .awaits;
           })
 
+      took-further : (os : List ℕ) → Holds r m os
+          → Took r (os ++ p) lent-now (f .receiver) m′ (f .reply)
+      took-further os h =
+          subst (λ x. Took x (os ++ p) lent-now (f .receiver) m′ (f .reply))
+          (begun .other (λ n. going-not-started (h .phase) n) .0)
+          (post .took os (carries-further os h))
+
       pub piece-read : PiecePost r p m m′ f
       piece-read =
           record {
             settings = post .settings ∙ settings-same;
             first = took-first;
             further = λ os h.
-                took-as settings-same same-lengths (post .took os (carries-further os h));
+                took-as same-lengths (took-further os h);
           }

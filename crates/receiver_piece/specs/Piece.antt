@@ -3,7 +3,7 @@ use Prim.Native.Nat.{ℕ, _+_, _≤_, _<_}
 use mathlib.Core.Path.{_≡_}
 use mathlib.Core.Bool.{Bool, true, cond, _||_}
 use mathlib.Core.List.{List, _++_}
-use lib.ListN.{length, take}
+use lib.ListN.{length, take, drop}
 use lib.Dec.{leb, eqb}
 use Rattle.spec_fields.specs.Refusal.{numberOf, ended, Answer}
 use Rattle.spec_exi.specs.Settings.{meaningful, settingsOf}
@@ -84,20 +84,20 @@ pub record Told (a : Answer Reading) (m m′ : Lent) (y : ReadReply) : Type 0 wh
   pub events : m′ .events ≡ eventsFilled (length (m .events)) a
   pub text : m′ .text ≡ textFilled (length (m .text)) a
 
--- Refused after n octets: all that is lent is cleared.
-pub record Stopped (n : ℕ) (m : Lent) (r′ : Receiver) (m′ : Lent) (y : ReadReply) : Type 0 where
-  pub phase : r′ .phase ≡ isRefused
-  pub octets : r′ .octets ≡ n
-  pub reply : r′ .reply ≡ y
+-- Refused after n octets: the rest of the record stays, and all that is lent is cleared.
+pub record Stopped (r : Receiver) (n : ℕ) (m : Lent) (r′ : Receiver) (m′ : Lent) (y : ReadReply) :
+    Type 0 where
+  pub receiver : r′ ≡ withReply r isRefused n y
   pub memory : m′ ≡ cleared m
 
--- The octets so far are os: reply and memory are those of the definition, and it goes on with them
--- or is refused.
+-- The octets so far are os, read on from a record r: reply and memory are those of the definition,
+-- and it goes on with them, what is held behind them being as it was, or is refused.
 pub record Took (r : Receiver) (os : List ℕ) (m : Lent) (r′ : Receiver) (m′ : Lent) (y : ReadReply)
     : Type 0 where
   pub told : Told (receive (roomOf m) (numbersOf (r .settings)) os) m m′ y
   pub goes : y .number ≡ 0 → Holds r′ m′ os
-  pub stops : 0 < y .number → Stopped (length os) m r′ m′ y
+  pub behind : y .number ≡ 0 → drop (length os) (m′ .held) ≡ drop (length os) (m .held)
+  pub stops : 0 < y .number → Stopped r (length os) m r′ m′ y
 
 -- ---- the answer
 
@@ -180,5 +180,6 @@ pub record PiecePre (r : Receiver) (p : List ℕ) (m : Lent) : Type 0 where
 -- A record that goes on and holds nothing leaves the answer free (P8: "may give other answers").
 pub record PiecePost (r : Receiver) (p : List ℕ) (m m′ : Lent) (f : Handed) : Type 0 where
   pub settings : f .receiver .settings ≡ r .settings
-  pub first : r .phase ≡ isStarted → Took r p m (f .receiver) m′ (f .reply)
+  pub first : r .phase ≡ isStarted
+      → Took (startedWith (r .settings)) p m (f .receiver) m′ (f .reply)
   pub further : (os : List ℕ) → Holds r m os → Took r (os ++ p) m (f .receiver) m′ (f .reply)
