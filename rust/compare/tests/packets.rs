@@ -11,7 +11,7 @@ use std::collections::BTreeMap;
 use compare::check::hex;
 use compare::damage::{damaged_fields, damaged_stream, random_stream};
 use compare::encode::encode;
-use compare::event::{characters, document, element, Event};
+use compare::event::{attribute, characters, document, element, Event};
 use compare::generate::{self, Profile};
 use compare::lent::{
     ReaderPart, Settings, BOTH, CODE, ENDED, HEADER, LIMIT, LONG, REFERENCE, ROOM, SETTINGS, TAIL,
@@ -97,6 +97,32 @@ fn a_long_literal() {
             .run_some(settings, &by_octets(&stream), 97)
             .expect("as due");
         assert_eq!((reply.number, reply.events), (0, 5));
+    }
+}
+
+/// The value of an attribute whose name comes by its numbers, octet by octet: short, judged at each
+/// octet, and as long as one may be.
+#[test]
+fn a_value_of_a_known_name() {
+    let named = |uri, points| {
+        document(vec![
+            element(uri, "a"),
+            attribute(uri, "k", "1"),
+            element("", "b"),
+            attribute(uri, "k", &"\u{20AC}".repeat(points)),
+            Event::EndElement,
+            Event::EndElement,
+        ])
+    };
+    let mut both = PacketComparison::new();
+    for settings in [ALIGNED, Settings::BIT_PACKED] {
+        for (uri, points, every) in [("", 70, 1), ("u", 70, 1), ("u", MAX_STRING, 97)] {
+            let stream = encode(settings, &named(uri, points)).octets();
+            let reply = both
+                .run_some(settings, &by_octets(&stream), every)
+                .expect("as due");
+            assert_eq!((reply.number, reply.events), (0, 8));
+        }
     }
 }
 

@@ -4,7 +4,7 @@ use std::hint::black_box;
 use std::time::Instant;
 
 use compare::encode::encode;
-use compare::event::{document, element, Event};
+use compare::event::{attribute, document, element, text, Event};
 use compare::lent::{Codec, ReadReply, ReaderSizes, Settings};
 use compare::packets::Receiver;
 use compare::prng::Prng;
@@ -26,7 +26,7 @@ pub struct Row {
     pub packets: &'static [usize],
 }
 
-pub fn rows() -> [Row; 4] {
+pub fn rows() -> [Row; 6] {
     let row = |name, lists, settings, packets| Row {
         name,
         lists,
@@ -39,6 +39,8 @@ pub fn rows() -> [Row; 4] {
         row("packets, long, bit-packed", long_documents, BITS, SIZES),
         row("packets, literal, byte-aligned", one_literal, BYTES, &[1]),
         row("packets, literal, bit-packed", one_literal, BITS, &[1]),
+        row("packets, known name, byte-aligned", known_name, BYTES, &[1]),
+        row("packets, known name, bit-packed", known_name, BITS, &[1]),
     ]
 }
 
@@ -48,6 +50,22 @@ fn one_literal(count: usize) -> Vec<Vec<Event>> {
     let mut one = || {
         let literal = Event::Characters(letters(&mut rng, MAX_STRING, MAX_STRING));
         document(vec![element("", "a"), literal, END])
+    };
+    (0..count).map(|_| one()).collect()
+}
+
+/// The same as the value of an attribute whose name comes by its numbers.
+fn known_name(count: usize) -> Vec<Vec<Event>> {
+    let mut rng = Prng::new(20);
+    let mut one = || {
+        let literal = Event::Attribute {
+            uri: text(""),
+            name: text("k"),
+            value: letters(&mut rng, MAX_STRING, MAX_STRING),
+        };
+        let first = attribute("", "k", "1");
+        let tags = vec![element("", "a"), first, element("", "b"), literal, END, END];
+        document(tags)
     };
     (0..count).map(|_| one()).collect()
 }
