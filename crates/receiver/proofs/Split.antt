@@ -317,7 +317,7 @@ module _ (s : SettingNumbers) (m : Lent) where
       read-next a b l c =
           let t = h .takes p f c in
           let told : Told (answer (os ++ p)) m m′ y =
-          told-with (h .settings) (h .lengths) (t .told) in
+          told-with (os ++ p) (h .settings) (h .lengths) (t .told) in
           elim (ℕ-discrete (y .number) 0) [
             | yes z ↦
                 record {

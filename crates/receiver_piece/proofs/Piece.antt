@@ -432,19 +432,19 @@ told-as {a} same h =
       text = h .text ∙ ap (λ n. textFilled n a) (same .text);
     }
 
-pub told-with : {o o₁ : SettingNumbers} {os : List ℕ} {m m₁ m′ : Lent} {y : ReadReply} → o₁ ≡ o
+pub told-with : {o o₁ : SettingNumbers} (os : List ℕ) {m m₁ m′ : Lent} {y : ReadReply} → o₁ ≡ o
     → SameLengths m m₁ → Told (receive (roomOf m₁) (numbersOf o₁) os) m₁ m′ y
     → Told (receive (roomOf m) (numbersOf o) os) m m′ y
-told-with {os = os} {m} {m′ = m′} {y} e same h =
+told-with os {m} {m′ = m′} {y} e same h =
     subst (λ a. Told a m m′ y)
     (ap₂ (λ room o. receive room (numbersOf o) os) (same-room same) e) (told-as same h)
 
 took-as : {r : Receiver} {os : List ℕ} {m : Lent} {events text work : List ℕ} {r′ : Receiver}
     {m′ : Lent} {y : ReadReply} → SameLengths m (lent (m .held) events text work)
     → Took r os (lent (m .held) events text work) r′ m′ y → Took r os m r′ m′ y
-took-as same h =
+took-as {os = os} same h =
     record {
-      told = told-with refl same (h .told);
+      told = told-with os refl same (h .told);
       goes = h .goes;
       behind = h .behind;
       stops = λ l.
