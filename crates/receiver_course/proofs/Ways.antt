@@ -22,8 +22,8 @@ use Rattle.receiver_record.specs.declared.Receiver.{Receiver}
 use Rattle.receiver_record.specs.Record.{isStarted, goingOn, refusalAt}
 use Rattle.receiver_course.specs.declared.Course.{Course}
 use Rattle.receiver_course.specs.declared.Course.the-variants.{Repeats, Refused, Reads}
-use Rattle.receiver_course.specs.Course.{hasRoom, tablesIn, elementsIn, numbersIn, isSound}
-use Rattle.receiver_course.specs.Course.{courseOf, Within}
+use Rattle.receiver_course.specs.Course.{hasRoom, valuesIn, tablesIn, elementsIn, numbersIn}
+use Rattle.receiver_course.specs.Course.{isSound, courseOf, Within}
 
 -- ---- soundness
 
