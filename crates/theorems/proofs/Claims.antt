@@ -12,6 +12,7 @@ use Rattle.spec_exi.proofs.Packets as packets
 use Rattle.spec_exi.proofs.Demands as demands
 use Rattle.spec_exi.proofs.Sizes.{accepted-still}
 use Rattle.spec_exi.proofs.Attributes.{formed-exactly}
+use Rattle.spec_exi.proofs.Values.{value-rules}
 use Rattle.spec_exi.proofs.Examples.{worked-examples}
 use Rattle.spec_limits.proofs.AtSizes.{at-sizes}
 use Rattle.theorems.specs.Claims.{Theorems}
@@ -78,6 +79,7 @@ theorems =
       larger-sizes = λ y z h. record { accepted-still = accepted-still y z h };
       scope-sizes = record { accepted-still = accepted-still baseSizes sizes scope-smaller };
       equal-attributes = λ s l. record { well-formed = formed-exactly s l };
+      value-rules = value-rules;
       worked-examples = worked-examples;
       at-sizes = at-sizes;
     }

@@ -112,6 +112,8 @@ pub record Theorems : Type 0 where
   -- from the scope's own sizes to ours
   pub scope-sizes : LargerSizes baseSizes sizes
   pub equal-attributes : (s : Settings) (l : List (Event Text)) → EqualAttributesLost s l
+  -- a value that is added, in EXI 7.3.3's words (02, P5)
+  pub value-rules : ValueRules
   -- K1 to K12, their replies in numbers, each number pinned, examples by topic, and at the sizes.
   pub worked-examples : WorkedExamples
   pub at-sizes : Written atSizes

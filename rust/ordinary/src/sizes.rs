@@ -10,7 +10,7 @@ pub const MAX_OPEN: usize = 100;
 pub const MAX_URIS: usize = 16;
 /// Local names over all URIs, those included that every stream begins with.
 pub const MAX_NAMES: usize = 128;
-/// Distinct values that are not empty.
+/// Distinct values that are not empty, present at once.
 pub const MAX_VALUES: usize = 2_048;
 /// Element grammars.
 pub const MAX_GRAMMARS: usize = 64;

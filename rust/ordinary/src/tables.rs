@@ -80,7 +80,7 @@ struct Name {
     next_in_bucket: Link,
 }
 
-/// A value belongs to one local partition: that of the name it first came with.
+/// A value belongs to one local partition: that of the name it was added with.
 #[derive(Clone, Copy)]
 pub struct Value {
     pub text: Span,

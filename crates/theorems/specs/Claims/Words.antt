@@ -9,6 +9,7 @@ pub use Rattle.spec_exi.specs.Settings.{Settings, SettingNumbers, meaningful, s
 pub use Rattle.spec_exi.specs.Sizes.{maxStream, maxEvents, maxStore, Sizes, sizes, baseSizes}
 pub use Rattle.spec_exi.specs.Sizes.{NoLarger}
 pub use Rattle.spec_exi.specs.Tables.{eventText}
+pub use Rattle.spec_exi.specs.Values.{ValueRules}
 pub use Rattle.spec_exi.specs.Context.{start, contextAfter}
 pub use Rattle.spec_exi.specs.Strict.{strict}
 pub use Rattle.spec_exi.specs.Lists.{EqualAttributes, BaseWellFormed, WellFormed, Good}
