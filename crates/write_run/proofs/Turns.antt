@@ -29,6 +29,7 @@ use Rattle.event.proofs.Laws.{events-at, events-cut, events-end}
 use Rattle.mem_layout.specs.Layout.{nameRows}
 use Rattle.mem_rows.specs.Rows.{Rows}
 use Rattle.mem_state.specs.declared.Core.{Core}
+use Rattle.mem_state.specs.Commit.{counted, turned}
 use Rattle.mem_state.specs.Holds.{Bounded, Topped}
 use Rattle.grammar_update.proofs.Turns.{after-late}
 use Rattle.open_elements.specs.declared.State.{State}
@@ -455,7 +456,7 @@ module _ {s : Settings} {opening cells : List ℕ} {text : Text} {stream₀ work
         left-after =
             sym (drop-drop 1 n (eventsOf cells)) ∙ ap (λ (l : List Stored). drop 1 l) first-is
 
-        pub turn-more : Reached s opening cells text stream₀ work₀ st stream′ work′ later (n + 1)
+        turn-more : Reached s opening cells text stream₀ work₀ st stream′ work′ later (n + 1)
             (cell + cellsPerEvent)
         unfolding maxString
         turn-more =
@@ -479,3 +480,42 @@ module _ {s : Settings} {opening cells : List ℕ} {text : Text} {stream₀ work
               place = omega (arith, i .place);
               left = left-after;
             }
+
+        -- The bounds of values are what they were.
+        longest-stays : r .longest ≡ t .core .longest
+        unfolding turned counted
+        longest-stays = ap (λ (d : Core). d .longest) (written .core-is)
+
+        capacity-stays : r .capacity ≡ t .core .capacity
+        unfolding turned counted
+        capacity-stays = ap (λ (d : Core). d .capacity) (written .core-is)
+
+        abbrev boundedBy : ℕ → ℕ → State
+        boundedBy l k =
+            record {
+              core =
+                  record {
+                    at = r .at;
+                    stored = r .stored;
+                    uris = r .uris;
+                    names = r .names;
+                    values = r .values;
+                    learned = r .learned;
+                    grammars = r .grammars;
+                    mode = r .mode;
+                    top = top;
+                    depth = r .depth;
+                    tag = r .tag;
+                    longest = l;
+                    capacity = k;
+                  };
+              opened = rows;
+            }
+
+        pub turn-again : Reached s opening cells text stream₀ work₀ st stream′ work′
+            (boundedBy (t .core .longest) (t .core .capacity)) (n + 1) (cell + cellsPerEvent)
+        turn-again =
+            subst (λ (k : ℕ). Reached s opening cells text stream₀ work₀ st stream′ work′
+            (boundedBy (t .core .longest) k) (n + 1) (cell + cellsPerEvent)) capacity-stays
+            (subst (λ (l : ℕ). Reached s opening cells text stream₀ work₀ st stream′ work′
+            (boundedBy l (r .capacity)) (n + 1) (cell + cellsPerEvent)) longest-stays turn-more)

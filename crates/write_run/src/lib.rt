@@ -65,6 +65,8 @@ pub fn put_events(
                     return stopped(r.number, n, c.at);
                 }
                 let before = c.depth;
+                let longest = c.longest;
+                let capacity = c.capacity;
                 let after = r.depth;
                 if before < after {
                     opened[before] = r.top as u16;
@@ -82,8 +84,8 @@ pub fn put_events(
                     top,
                     depth: after,
                     tag: r.tag,
-                    longest: r.longest,
-                    capacity: r.capacity,
+                    longest,
+                    capacity,
                 };
             }
         }

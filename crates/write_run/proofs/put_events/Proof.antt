@@ -13,7 +13,7 @@ use Rattle.event.proofs.Laws.{whole-means, shape-means}
 use Rattle.write_field.proofs.Written.{put-length}
 use Rattle.write_run.proofs.Turns.{Reached, reached-start, ended-early, ended, too-many}
 use Rattle.write_run.proofs.Turns.{cut-short, no-event, turn-asks, turn-refused}
-use Rattle.write_run.proofs.Turns.{KeptAfter, turn-stored, turn-same, turn-more}
+use Rattle.write_run.proofs.Turns.{KeptAfter, turn-stored, turn-same, turn-again}
 use Rattle.write_run.proofs.put_events.Statement.{statement}
 use Rattle.write_run.proofs.put_events.Tie as tie
 
@@ -145,7 +145,7 @@ loop-less c = omega (arith, c .before .before .before .before .before .before .b
 
 loop-again : tie.Need-loop-again Inv-loop μ-loop
 unfolding maxEvents
-loop-again c = let kept : KeptAfter (c .before .before .before .before .before .before .before .before .before .before .before .before .before .before .before .before .before .before .before .loop .inv) (c .before .before .before .before .before .before .before .before .before .step .ensures) (c .before .before .if4 .opened) = ⊎-elim (λ w. subst (λ (x : List ℕ). KeptAfter (c .before .before .before .before .before .before .before .before .before .before .before .before .before .before .before .before .before .before .before .loop .inv) (c .before .before .before .before .before .before .before .before .before .step .ensures) x) (sym (w .2)) (turn-stored (c .before .before .before .before .before .before .before .before .before .before .before .before .before .before .before .before .before .before .before .loop .inv) (c .before .before .before .before .before .before .before .before .before .step .ensures) (w .0 .taken))) (λ w. subst (λ (x : List ℕ). KeptAfter (c .before .before .before .before .before .before .before .before .before .before .before .before .before .before .before .before .before .before .before .loop .inv) (c .before .before .before .before .before .before .before .before .before .step .ensures) x) (sym (w .1)) (turn-same (c .before .before .before .before .before .before .before .before .before .before .before .before .before .before .before .before .before .before .before .loop .inv) (c .before .before .before .before .before .before .before .before .before .step .ensures) (w .0 .left))) (c .before .before .if4 .came) in turn-more (c .before .before .before .before .before .before .before .before .before .before .before .before .before .before .before .before .before .before .before .loop .inv) (c .before .before .before .before .before .before .before .before .before .step .ensures) (record { more = c .before .before .before .before .before .before .before .before .before .before .before .before .before .before .before .before .before .if1 .left; whole = c .before .before .before .before .before .before .before .before .before .before .before .before .before .before .before .before .if2 .left; loaded = whole-means _ _ (ap judged (sym (c .before .before .before .before .before .before .before .before .before .before .before .before .before .e .given .1)) ∙ c .before .before .before .before .before .before .before .before .before .before .before .before .before .before .before .load .ensures) }) (c .before .before .before .if3 .left) kept (c .innermost .ensures)
+loop-again c = let kept : KeptAfter (c .before .before .before .before .before .before .before .before .before .before .before .before .before .before .before .before .before .before .before .loop .inv) (c .before .before .before .before .before .before .before .before .before .step .ensures) (c .before .before .if4 .opened) = ⊎-elim (λ w. subst (λ (x : List ℕ). KeptAfter (c .before .before .before .before .before .before .before .before .before .before .before .before .before .before .before .before .before .before .before .loop .inv) (c .before .before .before .before .before .before .before .before .before .step .ensures) x) (sym (w .2)) (turn-stored (c .before .before .before .before .before .before .before .before .before .before .before .before .before .before .before .before .before .before .before .loop .inv) (c .before .before .before .before .before .before .before .before .before .step .ensures) (w .0 .taken))) (λ w. subst (λ (x : List ℕ). KeptAfter (c .before .before .before .before .before .before .before .before .before .before .before .before .before .before .before .before .before .before .before .loop .inv) (c .before .before .before .before .before .before .before .before .before .step .ensures) x) (sym (w .1)) (turn-same (c .before .before .before .before .before .before .before .before .before .before .before .before .before .before .before .before .before .before .before .loop .inv) (c .before .before .before .before .before .before .before .before .before .step .ensures) (w .0 .left))) (c .before .before .if4 .came) in turn-again (c .before .before .before .before .before .before .before .before .before .before .before .before .before .before .before .before .before .before .before .loop .inv) (c .before .before .before .before .before .before .before .before .before .step .ensures) (record { more = c .before .before .before .before .before .before .before .before .before .before .before .before .before .before .before .before .before .if1 .left; whole = c .before .before .before .before .before .before .before .before .before .before .before .before .before .before .before .before .if2 .left; loaded = whole-means _ _ (ap judged (sym (c .before .before .before .before .before .before .before .before .before .before .before .before .before .e .given .1)) ∙ c .before .before .before .before .before .before .before .before .before .before .before .before .before .before .before .load .ensures) }) (c .before .before .before .if3 .left) kept (c .innermost .ensures)
 
 stopped-requires-5 : tie.Need-stopped-requires-5 Inv-loop μ-loop
 stopped-requires-5 c κs = search needs
