@@ -103,7 +103,7 @@ fn the_example_decodes() {
         assert_eq!(output.status.code(), Some(2));
     }
 
-    // each settings number at the first that has no meaning: of the bounds of values no digit is one
+    // each settings number at the first without a meaning, which for the bounds is no digit
     for place in (0..5).chain(7..10) {
         let mut digits = *b"1000000000";
         digits[place] = if place < 5 { b'2' } else { b'1' };
