@@ -328,7 +328,7 @@ plumethrift_write_reply plumethrift_write_readings(plumethrift_settings settings
  *   plumethrift_read does for the whole of it; `held` is zero then, too.
  */
 #define PLUMETHRIFT_HELD_OCTETS 16384 /* receiver: octets of the stream so far */
-#define PLUMETHRIFT_RECEIVER_WORDS 45 /* 64-bit words of a receiver's record */
+#define PLUMETHRIFT_RECEIVER_WORDS 44 /* 64-bit words of a receiver's record */
 
 /* A receiver between its calls. What the words are is the library's affair. */
 typedef struct plumethrift_receiver {

@@ -24,8 +24,8 @@ use event_code::SE;
 // The position in the stream; the code points in the store; the rows of each table; the grammar's
 // state, by its number; the row of the innermost open element's name, or 0; how many are open; and
 // the mark of the start tag's attributes: one more than how many events had come up to the newest
-// that is no attribute, that one counted. The last two are the settings for values, as their
-// numbers have them: the longest that joins, and the capacity; they never change.
+// that is no attribute, that one counted. The settings for values, the longest that joins and the
+// capacity, as their numbers have them, never change; they stand where they take no more room.
 #[repr(C)]
 pub struct Core {
     pub at: usize,
@@ -37,9 +37,9 @@ pub struct Core {
     pub grammars: u32,
     pub mode: u32,
     pub top: u32,
+    pub longest: u32,
     pub depth: usize,
     pub tag: u32,
-    pub longest: u32,
     pub capacity: u32,
 }
 

@@ -55,7 +55,7 @@ pub const WRITER_WORK_CELLS: usize = 18_432;
 pub const HELD_OCTETS: usize = 16_384;
 
 /// Words of 64 bits in a [`ReceiverRecord`].
-pub const RECEIVER_WORDS: usize = 45;
+pub const RECEIVER_WORDS: usize = 44;
 
 /// Stamps, and as many movements, to lend where readings are taken out, at least; also the most
 /// readings that there are in one list.
