@@ -7,8 +7,9 @@
  *
  * The first argument is at most ten digits, the settings' numbers in the order of the header:
  * alignment (0 bit-packed, 1 byte-aligned), cookie, comments, instructions, fragment (0 no, 1 yes),
- * and those that this version refuses; what is left out is 0. The second is a file's name, or - for
- * standard input. Exit status: 0 read, 1 refused, 2 bad usage or no input.
+ * value length and value capacity (0 unbounded, else the bound and 1), and three that this version
+ * refuses; what is left out is 0. The second is a file's name, or - for standard input.
+ * Exit status: 0 read, 1 refused, 2 bad usage or no input.
  */
 #include <inttypes.h>
 #include <stdio.h>

@@ -6,9 +6,9 @@
  *   cc -std=c99 -Wall -Wextra -Werror -Iinclude examples/packets.c target/staticlib/libplumethrift.a -o target/packets
  *   printf '\200\001\002\141\003\003\142\000' | target/packets 3 --byte-aligned
  *
- * The first argument is how many octets a packet has, 1 to 240. The flags behind it say how the
- * stream was written: --byte-aligned, --cookie, --comments, --instructions, --fragment. Exit status:
- * 0 read, 1 refused, 2 bad usage or no input.
+ * The first argument is how many octets a packet has, 1 to 240. The flags after it say how the
+ * stream was written: --byte-aligned, --cookie, --comments, --instructions, --fragment,
+ * --max-length N, --capacity N. Exit status: 0 read, 1 refused, 2 bad usage or no input.
  */
 #include <inttypes.h>
 #include <stdio.h>
@@ -54,8 +54,23 @@ static size_t packet_size(const char *digits) {
   return size <= MAX_PACKET ? (size_t)size : 0;
 }
 
-/* Takes a flag into the settings; answers 0 where it is none. */
-static int take_flag(plumethrift_settings *settings, const char *flag) {
+/* Takes the word after a flag as a bound; answers 0 where it is no number. */
+static int take_bound(uint32_t *bound, const char *word) {
+  if (word == NULL || word[0] == '\0' || word[strspn(word, "0123456789")] != '\0')
+    return 0;
+  const unsigned long long number = strtoull(word, NULL, 10);
+  *bound = PLUMETHRIFT_BOUND(number < UINT32_MAX ? (uint32_t)number : UINT32_MAX);
+  return 1;
+}
+
+/* Takes a flag, and the word after it where it is a bound, into the settings; answers how many
+ * words it took, 0 where it is no flag. */
+static int take_flag(plumethrift_settings *settings, char **words) {
+  const char *flag = words[0];
+  if (strcmp(flag, "--max-length") == 0)
+    return take_bound(&settings->value_length, words[1]) ? 2 : 0;
+  if (strcmp(flag, "--capacity") == 0)
+    return take_bound(&settings->value_capacity, words[1]) ? 2 : 0;
   if (strcmp(flag, "--byte-aligned") == 0)
     settings->alignment = PLUMETHRIFT_BYTE_ALIGNED;
   else if (strcmp(flag, "--cookie") == 0)
@@ -73,8 +88,9 @@ static int take_flag(plumethrift_settings *settings, const char *flag) {
 
 /* Takes the flags from the third word on; answers 0 where one of them is none. */
 static int take_flags(plumethrift_settings *settings, int argc, char **argv) {
-  for (int i = 2; i < argc; i++) {
-    if (!take_flag(settings, argv[i]))
+  for (int i = 2, took; i < argc; i += took) {
+    took = take_flag(settings, argv + i);
+    if (took == 0)
       return 0;
   }
   return 1;
@@ -85,7 +101,7 @@ int main(int argc, char **argv) {
   plumethrift_settings settings = {0};
   if (size == 0 || !take_flags(&settings, argc, argv)) {
     fputs("usage: packets OCTETS [--byte-aligned] [--cookie] [--comments] [--instructions] "
-          "[--fragment] (OCTETS from 1 to 240)\n", stderr);
+          "[--fragment] [--max-length N] [--capacity N] (OCTETS from 1 to 240)\n", stderr);
     return 2;
   }
 

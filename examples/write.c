@@ -7,12 +7,13 @@
  *   printf 'eins\nzwei\n' | target/write --byte-aligned >target/lines.exi
  *
  * Lines are UTF-8 of up to 4,095 octets. The flags are --byte-aligned, --cookie, --comments,
- * --instructions and --fragment, as the reader has to be given them, too; in a fragment the lines
- * have no element around them. Exit status: 0 written, 1 refused, 2 bad usage, or no input or
- * output.
+ * --instructions, --fragment, --max-length N and --capacity N, as the reader has to be given them,
+ * too; in a fragment the lines have no element around them.
+ * Exit status: 0 written, 1 refused, 2 bad usage, or no input or output.
  */
 #include <inttypes.h>
 #include <stdio.h>
+#include <stdlib.h>
 #include <string.h>
 
 #include "plumethrift_list.h"
@@ -63,8 +64,23 @@ static int add_lines(plumethrift_list *list, int fragment) {
   return plumethrift_add_end_document(list) == PLUMETHRIFT_LIST_FINE;
 }
 
-/* Takes a flag into the settings; answers 0 where it is none. */
-static int take_flag(plumethrift_settings *settings, const char *flag) {
+/* Takes the word after a flag as a bound; answers 0 where it is no number. */
+static int take_bound(uint32_t *bound, const char *word) {
+  if (word == NULL || word[0] == '\0' || word[strspn(word, "0123456789")] != '\0')
+    return 0;
+  const unsigned long long number = strtoull(word, NULL, 10);
+  *bound = PLUMETHRIFT_BOUND(number < UINT32_MAX ? (uint32_t)number : UINT32_MAX);
+  return 1;
+}
+
+/* Takes a flag, and the word after it where it is a bound, into the settings; answers how many
+ * words it took, 0 where it is no flag. */
+static int take_flag(plumethrift_settings *settings, char **words) {
+  const char *flag = words[0];
+  if (strcmp(flag, "--max-length") == 0)
+    return take_bound(&settings->value_length, words[1]) ? 2 : 0;
+  if (strcmp(flag, "--capacity") == 0)
+    return take_bound(&settings->value_capacity, words[1]) ? 2 : 0;
   if (strcmp(flag, "--byte-aligned") == 0)
     settings->alignment = PLUMETHRIFT_BYTE_ALIGNED;
   else if (strcmp(flag, "--cookie") == 0)
@@ -82,10 +98,11 @@ static int take_flag(plumethrift_settings *settings, const char *flag) {
 
 int main(int argc, char **argv) {
   plumethrift_settings settings = {0};
-  for (int i = 1; i < argc; i++) {
-    if (!take_flag(&settings, argv[i])) {
-      fputs("usage: write [--byte-aligned] [--cookie] [--comments] [--instructions] [--fragment]\n",
-            stderr);
+  for (int i = 1, took; i < argc; i += took) {
+    took = take_flag(&settings, argv + i);
+    if (took == 0) {
+      fputs("usage: write [--byte-aligned] [--cookie] [--comments] [--instructions] [--fragment] "
+            "[--max-length N] [--capacity N]\n", stderr);
       return 2;
     }
   }

@@ -140,8 +140,8 @@ enum plumethrift_string_of_an_event {
  *
  * LIMIT speaks of these sizes: 4,096 events; 100 elements open at once; 16 URIs and 128 local names
  * over all URIs, with those that every stream begins with (3 and 6); 2,048 distinct values that are
- * not empty; 64 element grammars; 512 learned productions; 4,096 code points in a string; 16,384 in
- * the reader's text store.
+ * not empty, where they have no capacity; 64 element grammars; 512 learned productions; 4,096 code
+ * points in a string; 16,384 in the reader's text store.
  */
 enum plumethrift_refusal {
   PLUMETHRIFT_OK = 0,        /* not refused */
@@ -239,8 +239,10 @@ plumethrift_write_reply plumethrift_write(plumethrift_settings settings,
  *
  *   With the setting `fragment` the same list is written and read, as the only element of a
  *   fragment; a fragment of several elements, or of none, is STRUCTURE. What is said below of
- *   refusals by the writer, and of how the list lies, is proved for documents, and tested for
- *   fragments.
+ *   refusals by the writer, and of how the list lies, is proved for documents without bounds of
+ *   values, and tested for fragments. Under bounds a movement may have to be laid again: then the
+ *   reader's text store is not that of the list, and the writer may answer LIMIT, with the index of
+ *   an event.
  *
  *   Readings lie in two parts, stamps and movements, reading i in cell i of both. Of the sizes that
  *   LIMIT speaks of, their list can pass the text store's alone: 111 code points, 24 a stamp, and
@@ -304,7 +306,7 @@ plumethrift_readings_reply plumethrift_read_readings(plumethrift_settings settin
  * Makes the list of readings, which is left in `events` and `text`, and writes it. Lent for writing
  * are `events` and `text` as to plumethrift_list_of_readings, and `stream` and `work` as to
  * plumethrift_write. ROOM of any part comes first, then refusals 12 and 17 to 19, with the index of
- * a reading, then 2 and 3, with index 0.
+ * a reading, then 2 and 3, with index 0, and under bounds of values 12 with the index of an event.
  */
 plumethrift_write_reply plumethrift_write_readings(plumethrift_settings settings,
                                                    uint8_t *stream, size_t stream_octets,

@@ -865,8 +865,15 @@ fn tables_in_files() {
     let table = "\u{feff}t,um\n2026-03-01T00:00:00.000Z,1\n";
     fs::write(folder.join("a.csv"), table).unwrap();
     fs::hard_link(folder.join("a.csv"), folder.join("b.csv")).unwrap();
-    for out in ["a.csv", "./a.csv", "b.csv"] {
-        let (status, stdout, stderr) = exi_in(&folder, &["write-readings", "a.csv", out], b"");
+    let words = ["a.csv", "./a.csv", "b.csv"].map(|out| vec!["a.csv", out]);
+    let bounded = [
+        vec!["--capacity", "64", "a.csv", "./a.csv"],
+        vec!["a.csv", "--max-length", "9", "b.csv"],
+        vec!["a.csv", "./a.csv", "--capacity", "64"],
+    ];
+    for words in words.into_iter().chain(bounded) {
+        let words = [&["write-readings"], &words[..]].concat();
+        let (status, stdout, stderr) = exi_in(&folder, &words, b"");
         assert!(
             stderr.starts_with("exi: CSV and OUT are one file"),
             "{stderr}"
@@ -972,6 +979,10 @@ fn plots() {
     let document = |name: &str| fs::read(root().join("docs").join(name)).expect(name);
     for (words, kept) in [
         ("plot day-bit-packed.exi -", "day.svg"),
+        (
+            "plot --capacity 2048 day-bit-packed.exi --max-length 99 -",
+            "day.svg",
+        ),
         ("plot day-with-gap.exi --bit-packed -", "day-with-gap.svg"),
     ] {
         let (status, stdout, stderr) = exi(words, b"");

@@ -245,7 +245,8 @@ pub fn readings_of_list(
 /// Makes the list of readings, as many as both `stamps` and `movements` have.
 ///
 /// The list is the first `9 * reply.events` of `events`, its text store the first
-/// `reply.code_points` of `text`, as the reader leaves it for the stream that is written of it.
+/// `reply.code_points` of `text`, as the reader leaves it for the stream that is written of it
+/// where values have no bounds.
 pub fn list_of_readings(
     stamps: &[u64],
     movements: &[i32],

@@ -36,8 +36,8 @@ pub enum Refusal {
     Name = 11,
     /// A size would be passed: 4,096 events; 100 elements open at once; 16 URIs and 128 local
     /// names, those included that every stream begins with; 2,048 distinct values that are not
-    /// empty; 64 element grammars; 512 learned productions; 4,096 code points in a string; 16,384
-    /// in the reader's text store.
+    /// empty, where they have no capacity; 64 element grammars; 512 learned productions; 4,096 code
+    /// points in a string; 16,384 in the reader's text store.
     Limit = 12,
     /// A pad bit is 1, or octets follow the end.
     Tail = 13,

@@ -129,7 +129,8 @@ impl From<Settings> for SettingNumbers {
 }
 
 /// The words of the settings that differ from the default, with spaces between them, in any order:
-/// an alignment, `cookie`, `comments`, `instructions`, `fragment`. No word is the default.
+/// an alignment, `cookie`, `comments`, `instructions`, `fragment`, `max-length=N`, `capacity=N`. No
+/// word is the default.
 ///
 /// ```
 /// use plumethrift::{Alignment, Settings};
@@ -137,6 +138,7 @@ impl From<Settings> for SettingNumbers {
 /// let settings: Settings = "byte-aligned fragment".parse()?;
 /// assert_eq!(settings.alignment, Alignment::ByteAligned);
 /// assert!(settings.fragment && !settings.cookie);
+/// assert_eq!("capacity=0".parse::<Settings>()?.value_capacity, Some(0));
 /// assert_eq!("".parse(), Ok(Settings::default()));
 /// assert!("fragments".parse::<Settings>().is_err());
 /// # Ok::<(), plumethrift::Unknown>(())
@@ -152,9 +154,18 @@ impl FromStr for Settings {
                 "comments" => settings.comments = true,
                 "instructions" => settings.instructions = true,
                 "fragment" => settings.fragment = true,
-                alignment => settings.alignment = alignment.parse()?,
+                _ => match word.split_once('=') {
+                    Some(("max-length", n)) => settings.value_length = Some(in_digits(n)?),
+                    Some(("capacity", n)) => settings.value_capacity = Some(in_digits(n)?),
+                    _ => settings.alignment = word.parse()?,
+                },
             }
         }
         Ok(settings)
     }
+}
+
+/// A bound, in digits.
+fn in_digits(digits: &str) -> Result<u32, Unknown> {
+    digits.parse().map_err(|_| Unknown)
 }

@@ -72,7 +72,8 @@ impl Writer {
     ///
     /// # Errors
     ///
-    /// Refusals 12 and 17 to 19, with the index of a reading; then 2 and 3.
+    /// Refusals 12 and 17 to 19, with the index of a reading; then 2 and 3, and under bounds of
+    /// values 12 with the index of an event.
     pub fn write_readings(
         &mut self,
         settings: &Settings,

@@ -384,9 +384,15 @@ fn the_example_writes() {
         "cookie comments",
         "fragment",
         "instructions byte-aligned fragment",
+        "capacity=1 byte-aligned",
+        "max-length=0 capacity=2048",
     ] {
         let settings: Settings = words.parse().unwrap();
-        let flags = words.split_whitespace().map(|word| format!("--{word}"));
+        let flags = words.split_whitespace().flat_map(|word| word.split('='));
+        let flags = flags.map(|word| match word.parse::<u32>() {
+            Ok(number) => number.to_string(),
+            Err(_) => format!("--{word}"),
+        });
         let output = run(Command::new(&write).args(flags), input);
         assert_eq!(output.status.code(), Some(0));
         let mut list = EventList::new();
