@@ -317,13 +317,13 @@ unfolding grouped unpack each
 grouped-reads zero = reads_as (reads-fail number) (λ x w h. absurd h) (λ x w h. no-groups h.groups)
 grouped-reads (suc k) =
     reads_as (reads_then octet-reads (λ o u h. tail-reads k o (grouped-reads k)))
-    (λ x w h. to x w h.first h.front h.back h.one h.two h.joined)
+    (λ x w h. to h.first h.front h.back x w h.one h.two h.joined)
     (λ x w h. from x.0 x.1 w h.octets h.groups h.bits)
   where
-    to : (x : ℕ × Bool) (w : Bits) (o : ℕ) (u b : Bits) → IsOctet o × (u ≡ bits_of 8 o) → Tail k o x b
+    to : (o : ℕ) (u b : Bits) (x : ℕ × Bool) (w : Bits) → IsOctet o × (u ≡ bits_of 8 o) → Tail k o x b
         → w ≡ u ++ b → Grouped (suc k) x w
-    to x w o u b h (lone l) j = record { octets = o ∷ []; groups = last l; bits = cc }
-    to x w o u b h (higher l r) j =
+    to o u b x w h (lone l) j = record { octets = o ∷ []; groups = last l; bits = cc }
+    to o u b x w h (higher l r) j =
         let e : (o - 128) + 128 ≡ o = omega arith in
         record {
           octets = ((o - 128) + 128) ∷ r.octets;

@@ -16,7 +16,7 @@ numbered = record { numbers = refl }
 pub refusal-number : (k : Refusal) → 0 < number_of k
 unfolding number_of
 refusal-number k =
-    elim k [
+    elim k as (λ k. 0 < number_of k) [
       | room ↦ omega arith
       | settings ↦ omega arith
       | long ↦ omega arith
