@@ -1,4 +1,6 @@
 // The refusals' numbers and names. The definitions that the contract cites are in specs/Names.antt.
+#![tactic(auto)]
+
 ghost use Rattle.std.specs.Prelude.{◌≡◌};
 ghost use Rattle.refusal.specs.Names.{name_at};
 
