@@ -1,6 +1,8 @@
 // Marks of names in work memory (equal attributes): a cell for each row of a name. An attribute's
 // name gets the number of its start tag; numbers grow, so those of earlier start tags are less.
 // Both functions are safe on any memory. What the contracts cite is in specs/Marks.antt.
+#![tactic(auto)]
+
 ghost use Rattle.std.specs.Prelude.{◌≡◌};
 ghost use Rattle.mem_marks.specs.Marks.{MarkPre, marked_in, with_mark};
 
