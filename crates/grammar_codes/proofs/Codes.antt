@@ -21,7 +21,7 @@ use Rattle.spec_exi.specs.Grammar.{Learned, site_of, learned_at, kept, levels_wi
 use Rattle.spec_exi.specs.Grammar.{below, raised, first_fit, code_or, code_of, same_code}
 use Rattle.event_code.specs.Numbers.{mode_of}
 use Rattle.grammar_codes.specs.Table.{kept_kinds, tables, table_of, leveled, with_learned}
-use Rattle.grammar_codes.specs.Table.{Reaches, at_level, in-next, raised_by, after_learned}
+use Rattle.grammar_codes.specs.Table.{Reaches, on_level, in-next, raised_by, after_learned}
 use Rattle.grammar_codes.proofs.Table.{has_in, in_table, once, all_once}
 
 -- ---- the definitions' levels
@@ -173,14 +173,14 @@ module _ (e : Event Text) where
   reached : {t : List (List Kind)} {x : Code} → Reaches t x → {n : ℕ}
       → kind_number x.production.kind ≡ n → in_table n t ≡ true
   unfolding in_table at_level below unnamed
-  reached (at_level {l} {ls} v h) {n} k = rw (has-at l v h k)
+  reached (on_level {l} {ls} v h) {n} k = rw (has-at l v h k)
   reached (in-next {l} {ls} {x} r) {n} k =
       split (has_in n l) (λ t. rw t) (λ t. rw (t, reached r k))
 
   reach-code : {t : List (List Kind)} {x : Code} → Reaches t x → T (all_once t)
       → kind_number x.production.kind ≡ number → code_of (leveled t) e ≡ some x
   unfolding all_once leveled code_of code_or at_level below unnamed
-  reach-code (at_level {l} {ls} v h) o k =
+  reach-code (on_level {l} {ls} v h) o k =
       rw (kind-at l ls v h (left (once l ls) (all_once ls) o) k)
   reach-code (in-next {l} {ls} {x} r) o k =
       rw (
@@ -195,7 +195,7 @@ module _ (e : Event Text) where
         → kind_number x.production.kind ≡ kind_number (kind_of e) → first_fit ps e ≡ none
         → code_of (with_learned ps t) e ≡ some (after_learned (length ps) x)
     unfolding all_once with_learned after_learned raised_by code_of code_or at_level below unnamed
-    fixed-code (at_level {l} {ls} v h) o k miss =
+    fixed-code (on_level {l} {ls} v h) o k miss =
         rw (fit-right ps (map unnamed l) miss, kind-at l ls v h (left (once l ls) (all_once ls) o) k)
     fixed-code (in-next {l} {ls} {x} r) o k miss =
         rw (
@@ -227,5 +227,5 @@ module _ (e : Event Text) where
         → first_fit ps e ≡ some y
         → same_code (after_learned (length ps) x).parts (code_of (with_learned ps t) e) ≡ false
     unfolding after_learned raised_by at_level below
-    fixed-loose (at_level {l} {ls} v h) f = loose l ls f v []
+    fixed-loose (on_level {l} {ls} v h) f = loose l ls f v []
     fixed-loose (in-next {l} {ls} {x} r) f = loose l ls f (length l) x.parts

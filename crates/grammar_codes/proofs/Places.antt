@@ -20,7 +20,7 @@ use Rattle.event_code.specs.Numbers.{number_of_cm, number_of_pi}
 use Rattle.grammar_codes.specs.declared.Place.{Place}
 use Rattle.grammar_codes.specs.Table.{kept_kinds, tables, table_of, level_at, number_in, in_level, max_levels}
 use Rattle.grammar_codes.specs.Table.{place_in, place_as, kept_place, leveled, with_learned}
-use Rattle.grammar_codes.specs.Table.{at_level, in-next, FixedCode, code_at, PlaceAt}
+use Rattle.grammar_codes.specs.Table.{on_level, in-next, FixedCode, code_at, PlaceAt}
 use Rattle.grammar_codes.proofs.Table.{few-levels, beyond}
 use Rattle.grammar_codes.proofs.Codes.{fit-right}
 
@@ -88,7 +88,7 @@ place-has (l ∷ ls) k {x} e =
         (record {
           level = omega arith;
           value = a;
-          code = record { reaches = at_level v a; is = b };
+          code = record { reaches = on_level v a; is = b };
         })
     go none f none g z = absurd (none-ne-some _ z)
     go none f (some u) g z =

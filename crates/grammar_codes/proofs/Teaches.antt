@@ -13,7 +13,7 @@ use Rattle.spec_exi.specs.Grammar.{Production, Code, unnamed, kind_number, is_wi
 use Rattle.spec_exi.specs.Grammar.{has_kind, teaches}
 use Rattle.event_code.specs.Numbers.{teaches_in, in_fragment, in_tag, in_element, number_of_at, number_of_ee}
 use Rattle.event_code.specs.Numbers.{number_of_ch}
-use Rattle.grammar_codes.specs.Table.{kept_kinds, tables, table_of, Reaches, at_level, in-next}
+use Rattle.grammar_codes.specs.Table.{kept_kinds, tables, table_of, Reaches, on_level, in-next}
 use Rattle.grammar_codes.specs.Table.{FixedCode, raised_by, after_learned}
 use Rattle.grammar_codes.proofs.Table.{every, every-at}
 
@@ -57,7 +57,7 @@ fragment-tested false false = refl
 reached-test : (p : ℕ → Kind → Bool) {t : List (List Kind)} {x : Code} → Reaches t x
     → T (levels_test p t) → T (p (length x.parts) x.production.kind)
 unfolding levels_test at_level below unnamed
-reached-test p (at_level {l} {ls} v h) o =
+reached-test p (on_level {l} {ls} v h) o =
     every-at (p 1) l v (left (every (p 1) l) (levels_test (λ n. p (suc n)) ls) o) h
 reached-test p (in-next {l} {ls} r) o =
     reached-test (λ n. p (suc n)) r (right (every (p 1) l) (levels_test (λ n. p (suc n)) ls) o)
@@ -67,7 +67,7 @@ reached-test p (in-next {l} {ls} r) o =
 pub reached-unnamed : {t : List (List Kind)} {x : Code} → Reaches t x
     → x.production ≡ unnamed x.production.kind
 unfolding at_level below unnamed
-reached-unnamed (at_level v h) = refl
+reached-unnamed (on_level v h) = refl
 reached-unnamed (in-next r) = reached-unnamed r
 
 raised-length : (n : ℕ) (vs : List ℕ) → length (raised_by n vs) ≡ length vs

@@ -112,7 +112,7 @@ with_learned ps (l ∷ ls) = (ps ++ map unnamed l) ∷ leveled ls
 
 -- The table has this code: of a production of its first level, or of one below it.
 pub data Reaches : List (List Kind) → Code → Type 0 where
-  at_level : {l : List Kind} {ls : List (List Kind)} (v : ℕ) → v < length l
+  on_level : {l : List Kind} {ls : List (List Kind)} (v : ℕ) → v < length l
       → Reaches (l ∷ ls) (at_level v (unnamed (get_or l v SD)))
   in-next : {l : List Kind} {ls : List (List Kind)} {x : Code} → Reaches ls x
       → Reaches (l ∷ ls) (below (length l) x)

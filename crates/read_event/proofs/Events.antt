@@ -188,9 +188,9 @@ module _ {work text : List ℕ} {c : Core} {w : Rows} {opened : List ℕ}
           → first_fit (learned_here w c.mode opened) e ≡ none
       misses f z = (finds f).miss (no_row f z)
 
-      pub same_code : l ≡ false
+      pub same_code_lem : l ≡ false
           → same_code x.parts (code_of (levels_in s (context_at text c w opened)) e) ≡ true
-      same_code z =
+      same_code_lem z =
           split p.learned
           (λ t. same_parts rep.valid here s (take c.stored text) e
           (code.strict t e (learned-fits t)).is)

@@ -44,7 +44,7 @@ use Rattle.read_event.specs.declared.EventRead.{EventRead}
 use Rattle.read_event.specs.Judge.{judge_number, allowed_here, JudgePost, EventPre, refused_as}
 use Rattle.read_event.specs.Judge.{EventBounds, EventPost}
 use Rattle.read_event.proofs.Rows.{prepared, content-name}
-use Rattle.read_event.proofs.Events.{content-rows, allows-is, same_code, other-code}
+use Rattle.read_event.proofs.Events.{content-rows, allows-is, same_code_lem, other-code}
 use Rattle.read_event.proofs.Events.{fits-is, grows}
 use Rattle.read_event.proofs.Events.{left-valid, start-named, left-context, carried_some}
 
@@ -313,7 +313,7 @@ module _ {s : Settings} {stream text work : List ℕ} {c : Core}
                 (allows z)
                 (later-declined s (C rep top) (code_got rep top).value content-got.value
                 t.l (fits_in c g) (omega (arith, t.number_is, h))
-                (other-code rep e top s b x means own l) (same_code rep e top s b x means own l)
+                (other-code rep e top s b x means own l) (same_code_lem rep e top s b x means own l)
                 (λ i.
                 ap (within_grammars sizes) (left-context rep e top s b x means own l i d)
                 ∙ fits-is rep e top s b x means own l i d (take y.stored text₁)))))
@@ -403,7 +403,7 @@ module _ {s : Settings} {stream text work : List ℕ} {c : Core}
                     after-content rep top
                     (tests-passed s (C rep top) (code_got rep top).value
                     (content-got rep top).value post₂.inside (allows rep top a)
-                    (same_code rep e top s b x m o i l)
+                    (same_code_lem rep e top s b x m o i l)
                     (ap (within_grammars sizes) ctx
                     ∙ fits-is rep e top s b x m o i l d (take y.stored text₁) ∙ f)
                     (record {

@@ -19,7 +19,7 @@ use Rattle.spec_exi.specs.Event.{Kind, SD}
 use Rattle.spec_exi.specs.Grammar.{Production, Code, unnamed, kind_number, all_empty, choices}
 use Rattle.spec_exi.specs.Grammar.{at_level, below}
 use Rattle.spec_exi.specs.Reader.{read_code}
-use Rattle.grammar_codes.specs.Table.{no_kinds, values_of, leveled, with_learned, at_level, in-next}
+use Rattle.grammar_codes.specs.Table.{no_kinds, values_of, leveled, with_learned, on_level, in-next}
 use Rattle.grammar_codes.specs.Table.{FixedCode, raised_by, after_learned}
 use Rattle.grammar_codes.proofs.Bits.{none_left, level-count, choices-count}
 use Rattle.read_contract.specs.Outcome.{Outcome}
@@ -127,7 +127,7 @@ module _ {a : Alignment} (ps : List Production) (l : List Kind) (ls : List (List
         (ap (get_elem? (choices (ps ++ map unnamed l) (leveled ls))) (sym e)
         ∙ choices-kind ps l ls v b)
         (subst (λ n. good (at_level n (unnamed (get_or l v SD)))) e
-        (h (at_level v (unnamed (get_or l v SD))) (record { reaches = at_level v b; is = sym k })))
+        (h (at_level v (unnamed (get_or l v SD))) (record { reaches = on_level v b; is = sym k })))
 
     more : length ps + length l ≤ value
         → (no_kinds ls ≡ false) × (value ≡ length ps + length l)

@@ -107,14 +107,19 @@ pub after-items-alike : {t u : Tables} → AlikeTables t u → (is : List Item)
     → AlikeTables (after_items t is) (after_items u is)
 unfolding after_items
 after-items-alike a [] = a
-after-items-alike a (i ∷ is) = after-items-alike (after-item-alike a i) is
+after-items-alike {t = t} {u = u} a (i ∷ is) =
+    after-items-alike {t = after_item t i} {u = after_item u i} (after-item-alike a i) is
 
 -- Their bits.
 pub items-bits-alike : {t u : Tables} → AlikeTables t u → (al : Alignment) (is : List Item)
     → items_bits al t is ≡ items_bits al u is
 unfolding items_bits
 items-bits-alike a al [] = refl
-items-bits-alike a al (i ∷ is) = cc (item-bits-alike a al i, items-bits-alike (after-item-alike a i) al is)
+items-bits-alike {t = t} {u = u} a al (i ∷ is) =
+    cc (
+      item-bits-alike a al i,
+      items-bits-alike {t = after_item t i} {u = after_item u i} (after-item-alike a i) al is,
+    )
 
 -- The writer's tests of an event's strings are the same.
 module _ (z : Sizes) where
@@ -129,7 +134,11 @@ module _ (z : Sizes) where
       → content_tests z t is ≡ content_tests z u is
   unfolding content_tests
   content-tests-alike a [] = refl
-  content-tests-alike a (i ∷ is) = cc (string-tests-alike a i, content-tests-alike (after-item-alike a i) is)
+  content-tests-alike {t = t} {u = u} a (i ∷ is) =
+      cc (
+        string-tests-alike a i,
+        content-tests-alike {t = after_item t i} {u = after_item u i} (after-item-alike a i) is,
+      )
 
 -- ---- alike codes
 

@@ -170,18 +170,18 @@ more s c e rest l zero m fit f = absurd (omega arith)
 more s c e rest l (suc k) m fit f = then_found k s c e rest l fit (f k (omega arith))
 
 -- A list that may come next is read from the bits of its strict form (the other half).
-pub read_found : (n : ℕ) (s : Settings) (c : Context) (l : List (Event Text)) (padding : Bits)
+pub read_found : (s : Settings) (n : ℕ) (c : Context) (l : List (Event Text)) (padding : Bits)
     → ListFit s c l → length l ≤ n → T (is_padding padding)
     → ListFound (Afterwards n sizes s c (list_bits s c l ++ padding)) l
 unfolding list_bits ending
-read_found n s c l padding (done f) m p =
+read_found s n c l padding (done f) m p =
     record {
       reading = record { events = []; store = c.tables.store };
       answer = rw (T-is (is_finished c.state) (finished-is c.state f), T-is (is_padding padding) p);
       is = refl;
     }
-read_found n s c l padding (also {l = k} e fit h) m p =
+read_found s n c l padding (also {l = k} e fit h) m p =
     split (is_finished c.state)
     (λ t. absurd (finished-no-fit s c e (is-finished c.state (is_t (is_finished c.state) t)) fit))
     (λ t. rw (t, append_assoc (event_bits s c e) (list_bits s (next s c e) k) padding)
-    (more s c e (list_bits s (next s c e) k ++ padding) k n m fit (λ j q. read_found j s (next s c e) k padding h q p)))
+    (more s c e (list_bits s (next s c e) k ++ padding) k n m fit (λ j q. read_found s j (next s c e) k padding h q p)))

@@ -203,10 +203,10 @@ pub code-of-fits : (ls : List (List Production)) (e : Event Text) (x : Code) →
 code-of-fits ls e x h = (coded-as ls e x h).fit
 
 -- Parts that the test finds the strict form's are those of a code.
-pub same_code : (vs : List ℕ) (o : Option Code) → T (same_code vs o) → (x : Code) × (o ≡ some x) × (x.parts ≡ vs)
+pub same_code_lem : (vs : List ℕ) (o : Option Code) → T (same_code vs o) → (x : Code) × (o ≡ some x) × (x.parts ≡ vs)
 unfolding same_code
-same_code vs none t = absurd t
-same_code vs (some x) t = (x, refl, sym (eq_text-eq vs x.parts t))
+same_code_lem vs none t = absurd t
+same_code_lem vs (some x) t = (x, refl, sym (eq_text-eq vs x.parts t))
 
 -- The parts of the strict form's code pass the test.
 pub code_same : (vs : List ℕ) (o : Option Code) (x : Code) → o ≡ some x → x.parts ≡ vs → T (same_code vs o)
@@ -218,7 +218,7 @@ code_same vs o x h e = rw (h, e) (eq_text-refl vs)
 module _ (a : Alignment) (ls : List (List Production)) where
   no-parts : code_bits a ls [] ≡ []
   unfolding code_bits
-  no-parts = elim ls [ [] ↦ refl | l ∷ ls ↦ refl ]
+  no-parts = elim ls as (λ ls. code_bits a ls [] ≡ []) [ [] ↦ refl | l ∷ ls ↦ refl ]
 
   -- A code whose first part is v, for the choice o, and whose others have the bits w.
   record From (v : ℕ) (o : Option Production) (x : Code) (w : Bits) : Type 0 where

@@ -107,7 +107,7 @@ strings-are f st p =
 value-lawful : (st : State) (v : Text) → name_allowed (character_role st) v ≡ true
 unfolding name_allowed character_role
 value-lawful st v =
-    elim st [
+    elim st as (λ st. name_allowed (character_role st) v ≡ true) [
       | document ↦ refl
       | doc_content ↦ refl
       | doc_end ↦ refl

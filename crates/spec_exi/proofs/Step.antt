@@ -35,7 +35,7 @@ use Rattle.spec_exi.specs.Sizes.{max_store}
 use Rattle.spec_exi.specs.Reader.{step}
 use Rattle.spec_exi.proofs.Fit.{ItemsFit, EventFit}
 use Rattle.spec_exi.proofs.Codes.{If-some, Valid, valid_same, valid-every, code_reads}
-use Rattle.spec_exi.proofs.Codes.{code-of-valid, code-of-fits, same_code, code_same}
+use Rattle.spec_exi.proofs.Codes.{code-of-valid, code-of-fits, same_code_lem, code_same}
 use Rattle.spec_exi.proofs.Entries.{GoodString, GoodTables, every_append, items-good}
 use Rattle.spec_exi.proofs.Content.{NameOk, ProductionOk, ContentRead, content-reads}
 use Rattle.spec_exi.proofs.Content.{ContentFit, content-fit, content-found, entries-texts}
@@ -214,7 +214,7 @@ pub step-content : (s : Settings) (c : Context) (y : Event Placed × Context) (w
 unfolding levels_in
 step-content s c y w g h =
     let e = event_text y.0 in
-    let (d, coded, parts) = same_code h.code.parts (code_of (levels_in s c) e) h.strictly in
+    let (d, coded, parts) = same_code_lem h.code.parts (code_of (levels_in s c) e) h.strictly in
     let same : d ≡ h.code = valid_same (levels_in s c) d h.code (code-of-valid (levels_in s c) e d coded)
     h.valid parts in
     let sound = valid-every Sound (levels_in s c) h.code

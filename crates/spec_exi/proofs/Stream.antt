@@ -92,7 +92,7 @@ unfolding read_stream read_body strict start is_finished
 stream-found s l h m =
     let hs = header_of s in
     let (z, e, p) = unpack-pack (unpack hs ++ list_bits s (start s) l) in
-    let f = read_found max_events s (start s) l z h m p in
+    let f = read_found s max_events (start s) l z h m p in
     record {
       reading = f.reading;
       answer = ap (λ b. read_body sizes s (read_header hs b)) (e ∙ append_assoc (unpack hs) (list_bits s (start s) l) z)

@@ -278,7 +278,7 @@ module _ (z : Sizes) (s : Settings) (t : Tables) where
   form-reads (compact es) =
       reads_as (reads_then (choice-reads s.alignment reference (none ∷ map some es))
       (λ c u h. entry-reads es c.0 c.1))
-      (λ y w h. rw h.joined (to y h.first.0 h.first.1 h.front h.back h.one h.two))
+      (λ y w h. rw h.joined (to h.first.0 h.first.1 y h.front h.back h.one h.two))
       (λ y w h. from h.spelled h.fits)
     where
       values : List (Option Slot)
@@ -287,10 +287,10 @@ module _ (z : Sizes) (s : Settings) (t : Tables) where
       same : length values ≡ suc (length es)
       same = ap suc (length-map es some)
 
-      to : (y : Form × Placed) (v : ℕ) (o : Option Slot) (u b : Bits)
+      to : (v : ℕ) (o : Option Slot) (y : Form × Placed) (u b : Bits)
           → Chosen s.alignment values (v, o) u → Onward es v o y b
           → Form-of (compact es) y (u ++ b)
-      to y v o u b c (miss h) = missed (miss-first es v c.names) h.spelled h.fits
+      to v o y u b c (miss h) = missed (miss-first es v c.names) h.spelled h.fits
         where
           missed : v ≡ 0 → {f : Form} {x : Placed} {b : Bits} → Spelled s t (literals []) f x b
               → Fits f x → Form-of (compact es) (f, x) (u ++ b)
@@ -298,8 +298,8 @@ module _ (z : Sizes) (s : Settings) (t : Tables) where
           missed e (literal_miss h) q =
               let i : u ≡ choice_bits s.alignment (suc (length es)) 0 = c.bits ∙ cc (same, e) in
               rw i (record { spelled = compact_miss h; fits = q })
-      to y zero o u b c (entry e) = let n : ◌≡◌ {A = ℕ} 0 1 = cc c.names in absurd (omega arith)
-      to y (suc v) o u b c (entry {slot = slot} {x = x} e) =
+      to zero o y u b c (entry e) = let n : ◌≡◌ {A = ℕ} 0 1 = cc c.names in absurd (omega arith)
+      to (suc v) o y u b c (entry {slot = slot} {x = x} e) =
           let p : suc v - 1 ≡ v = omega arith in
           let k : get_elem? es v ≡ some (some x) = member-map es v slot c.names ∙ ap some e in
           let i : u ++ [] ≡ choice_bits s.alignment (suc (length es)) (suc v) = append-nil u ∙ c.bits ∙ cc same in
