@@ -3,6 +3,8 @@
 // lead to a row that was written over: a walk ends before it, at the lowest row that still counts.
 // What the contracts cite is in
 // specs/Chain.antt.
+#![tactic(auto)]
+
 ghost use Rattle.std.specs.Prelude.{◌≡◌, ◌<◌, length, get_or};
 ghost use Rattle.mem_chain.specs.Chain.{below, NewestPre, Newest, LinkPre, linked};
 

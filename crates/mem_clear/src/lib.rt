@@ -1,5 +1,6 @@
 // Clearing: every cell from `at` on, or every cell, is 0.
 #![tactic(auto)]
+
 ghost use Rattle.std.specs.Prelude.{◌≡◌, ◌++◌, ◌-◌, length, take, replicate};
 
 pub fn cells_from(x: &mut [u32], at: usize)

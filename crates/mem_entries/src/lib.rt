@@ -1,5 +1,6 @@
 // Texts that rows of work memory name by place and size, and the hash of a text. What the contracts
 // cite is in specs/.
+#![tactic(auto)]
 ghost use Rattle.std.specs.Prelude.{◌≡◌, ◌<◌};
 ghost use Rattle.text.specs.Text.{all_chars};
 ghost use Rattle.mem_entries.specs.Texts.{mixed, hash_of, TextCellsPre, row_has, with_text};

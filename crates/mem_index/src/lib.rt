@@ -2,6 +2,7 @@
 // number, which is how many rows of the key are before it, and the key's count stands beside. A row
 // that a function answers is its insertion number and 1, or 0 for none. Every function is safe and
 // ends on any memory. What the contracts cite is in specs/Index.antt.
+#![tactic(auto)]
 ghost use Rattle.std.specs.Prelude.{◌≡◌, ◌<◌};
 ghost use Rattle.mem_index.specs.Index.{spot_of, entered, joined};
 ghost use Rattle.mem_index.specs.Index.{SpotRowPre, Spot, SeekPre, Found, EnterRowPre};

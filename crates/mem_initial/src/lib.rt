@@ -1,6 +1,7 @@
 // Lays the initial entries (EXI, appendix D.1 and D.3) into lent memory: the beginning of the text
 // store, and the rows of the three URIs and the six local names. What the contracts cite is in
 // specs/.
+#![tactic(auto)]
 ghost use Rattle.std.specs.Prelude.{◌≡◌, ◌+◌, ◌≤◌, length};
 ghost use Rattle.mem_layout.specs.Layout.{work_cells};
 ghost use Rattle.mem_initial.specs.Initial.{zeroed, initial_text};

@@ -3,6 +3,7 @@
 // first row of its text, and a name's URI is one. A row that a search answers is its number and 1,
 // or 0 for none. Every function is safe and ends on any memory. What the contracts cite is in
 // specs/.
+#![tactic(auto)]
 ghost use Rattle.std.specs.Prelude.{◌≡◌, ◌<◌};
 ghost use Rattle.mem_layout.specs.Layout.{uri_rows};
 ghost use Rattle.mem_names.specs.Uris.{uri_has_text, UriRowPre, FindUriPre, FoundUri, UriAt};

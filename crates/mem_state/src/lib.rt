@@ -1,6 +1,7 @@
 // What goes from event to event beside lent memory, and the one place where an accepted event's
 // rows are added to it. What memory holds is in specs/Holds.antt, what is added in
 // specs/Commit.antt.
+#![tactic(auto)]
 ghost use Rattle.std.specs.Prelude.{◌≡◌, ◌<◌};
 ghost use Rattle.mem_rows.specs.Rows.{content_after, mode_after};
 ghost use Rattle.mem_state.specs.Joining.{joining, no_strings, valued_strings};
