@@ -3,6 +3,7 @@
 // that a function answers is its insertion number and 1, or 0 for none. Every function is safe and
 // ends on any memory. What the contracts cite is in specs/Index.antt.
 #![tactic(auto)]
+
 ghost use Rattle.std.specs.Prelude.{◌≡◌, ◌<◌};
 ghost use Rattle.mem_index.specs.Index.{spot_of, entered, joined};
 ghost use Rattle.mem_index.specs.Index.{SpotRowPre, Spot, SeekPre, Found, EnterRowPre};
@@ -17,7 +18,7 @@ pub const STRIDE: u32 = 37;
 
 // Where an index lies: heads, a cell for each of so many buckets; codes and links, a cell for each
 // row of the ring.
-#[derive(Drop)]
+#[derive(Clone, Copy)]
 pub struct Index {
     pub heads: usize,
     pub size: u32,
