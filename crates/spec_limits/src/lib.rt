@@ -1,1 +1,2 @@
 // Worked examples at the scope's own sizes; no function.
+#![tactic(auto)]
