@@ -1,6 +1,7 @@
 // Texts that rows of work memory name by place and size, and the hash of a text. What the contracts
 // cite is in specs/.
 #![tactic(auto)]
+
 ghost use Rattle.std.specs.Prelude.{◌≡◌, ◌<◌};
 ghost use Rattle.text.specs.Text.{all_chars};
 ghost use Rattle.mem_entries.specs.Texts.{mixed, hash_of, TextCellsPre, row_has, with_text};
@@ -27,7 +28,7 @@ pub fn hash(x: &[u32]) -> u32
 }
 
 // The hash of a text, and whether it has only Chars.
-#[derive(Drop)]
+#[derive(Clone, Copy)]
 pub struct Weighed {
     pub hash: u32,
     pub chars: bool,
