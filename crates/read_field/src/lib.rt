@@ -1,4 +1,6 @@
 // The fields of a stream, read at a bit position.
+#![tactic(auto)]
+
 ghost use Rattle.std.specs.Prelude.{◌≡◌, ◌+◌, ◌*◌, ◌/◌, ◌%◌, ◌^◌, ◌≤◌, ◌<◌, length, drop};
 ghost use Rattle.spec_fields.specs.Bits.{unpack};
 ghost use Rattle.spec_fields.specs.Field.{bit_packed, octet, number_field, width};
