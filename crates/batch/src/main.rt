@@ -18,6 +18,8 @@
 // points; `?` to any other line. Before each call all memory that is lent for writing is filled
 // with the octet A5, and is 3 cells longer than it has to be. An answer ends with DIRTY where a
 // cell that has to be zero is not, or where the cells are not what a count says.
+#![tactic(auto)]
+
 mod parse;
 mod print;
 

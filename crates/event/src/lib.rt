@@ -1,4 +1,6 @@
 // An event, and how it lies in cells that are lent (docs/MEMORY.md).
+#![tactic(auto)]
+
 ghost use Rattle.std.specs.Prelude.{◌≡◌, ◌++◌, ◌+◌, ◌≤◌, length, take, drop};
 ghost use Rattle.spec_exi.specs.Sizes.{cells_per_event};
 ghost use Rattle.event.specs.Cells.{as_span, meaning, judged, judged_as, cells_of, row_cells};

@@ -1,5 +1,7 @@
 // The kinds of event and the grammar's states as numbers, and which event teaches a production
 // (EXI 8.4.2, 8.4.3). What the contract cites is in specs/Numbers.antt.
+#![tactic(auto)]
+
 ghost use Rattle.std.specs.Prelude.{◌≡◌};
 ghost use Rattle.event_code.specs.Numbers.{teaches_in};
 

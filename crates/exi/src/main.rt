@@ -5,6 +5,8 @@
 // begins with `exi: refused:` is a stream or a table that is refused, one with two spaces tells
 // more of the line before, and any other one is of something that was not read or written. The
 // script `exi` turns that into a status.
+#![tactic(auto)]
+
 mod pieces;
 mod run;
 mod stream;

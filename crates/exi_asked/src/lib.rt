@@ -1,4 +1,6 @@
 // What the words after the command ask for.
+#![tactic(auto)]
+
 ghost use Rattle.std.specs.Prelude.{◌≡◌};
 ghost use Rattle.exi_asked.specs.Asked.{bound_of, numbers_of};
 

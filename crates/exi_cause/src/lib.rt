@@ -1,4 +1,6 @@
 // Says which name is refused, and why: a line on standard error that begins with two spaces.
+#![tactic(auto)]
+
 use exi_say::tell;
 use libc::STDERR_FILENO;
 use sizes::MAX_STRING;

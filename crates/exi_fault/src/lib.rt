@@ -1,5 +1,7 @@
 // A stream that is refused: how far it is good, told by a receiver (02, P8), which keeps the events
 // that are complete.
+#![tactic(auto)]
+
 use exi_verdict::Good;
 use receiver_record::{Handed, Receiver};
 use settings::SettingNumbers;

@@ -1,4 +1,6 @@
 // Words that are wrong, or do not fit each other: what is said of them.
+#![tactic(auto)]
+
 use exi_asked::Asked;
 use exi_words::{
     BIT_PACKED, BYTE_ALIGNED, CAPACITY, CHECK, MAX_LENGTH, MS, PACKETS, READINGS, SHOW, UTF8,

@@ -1,6 +1,8 @@
 // The literal that is refused as a name: a length and code points, in groups of eight bits (EXI,
 // 7.1.6, 7.1.10), that end in the octet at which the fault shows. The first one is taken that no
 // name may be.
+#![tactic(auto)]
+
 ghost use Rattle.std.specs.Prelude.{◌≤◌};
 
 // The bits of the longest stream, and 24 more.

@@ -1,4 +1,6 @@
 // Output that waits in a buffer, and goes out where the buffer is full.
+#![tactic(auto)]
+
 ghost use Rattle.std.specs.Prelude.{◌≡◌, length};
 ghost use Rattle.exi_out.specs.Waiting.{none_waits, place_in, waiting_after, buffer_after};
 

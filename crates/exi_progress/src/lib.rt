@@ -1,5 +1,7 @@
 // What is told of a stream that is read in packets: at each quarter of it, how many events were
 // complete after how many packets, and which packet was refused.
+#![tactic(auto)]
+
 ghost use Rattle.std.specs.Prelude.{◌≡◌, ◌<◌, ◌≤◌};
 ghost use Rattle.exi_progress.specs.Told.{none_told, end_of, quarters_of, told_after};
 

@@ -1,4 +1,6 @@
 // Refusals in words, on standard error: a line for each, which begins with `exi: refused:`.
+#![tactic(auto)]
+
 use libc::STDERR_FILENO;
 use refusal::STRUCTURE;
 

@@ -1,4 +1,6 @@
 // Events, one a line, indented by depth.
+#![tactic(auto)]
+
 ghost use Rattle.std.specs.Prelude.{◌≡◌, ◌+◌, ◌-◌, ◌≤◌, ◌<◌};
 ghost use Rattle.exi_show.specs.Levels.{begins_of, ends_of};
 

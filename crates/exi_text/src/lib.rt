@@ -1,4 +1,6 @@
 // Code points, strings and names, as the program shows them.
+#![tactic(auto)]
+
 ghost use Rattle.std.specs.Prelude.{◌≡◌};
 ghost use Rattle.exi_text.specs.Shown.{shown_as};
 

@@ -1,5 +1,7 @@
 // What the program says of its words, and of files that it cannot read or write: lines on standard
 // error that begin with `exi:` and not with `exi: refused:`.
+#![tactic(auto)]
+
 use exi_asked::{NO_NUMBER, TOO_MANY};
 use libc::{STDERR_FILENO, STDOUT_FILENO};
 

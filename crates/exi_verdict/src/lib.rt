@@ -1,4 +1,6 @@
 // The verdict on a stream: what it has, or why it is refused, with all that can be told of it.
+#![tactic(auto)]
+
 use exi_out::Out;
 use exi_show::Manner;
 use mem_state::Core;

@@ -1,4 +1,6 @@
 // More on a refusal, where it can be told: lines on standard error that begin with two spaces.
+#![tactic(auto)]
+
 use exi_say::{tell, tell_decimal};
 use mem_state::Core;
 use sizes::{

@@ -1,5 +1,7 @@
 // The words of the command line: the table of those that have a meaning, and numbers. The
 // definitions that the contracts cite are in specs/Words.antt.
+#![tactic(auto)]
+
 ghost use Rattle.std.specs.Prelude.{◌≡◌, length};
 ghost use Rattle.exi_words.specs.Words.{word_place, is_option, limited_to, number_of};
 

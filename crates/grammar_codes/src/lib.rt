@@ -1,6 +1,8 @@
 // The productions of each state that are not learned (EXI 8.4), level by level of their
 // event codes, in one table. States and kinds are numbers; comments and
 // instructions stand where they are kept. The table is in specs/Table.antt.
+#![tactic(auto)]
+
 ghost use Rattle.std.specs.Prelude.{◌≡◌, [], ◌∷◌, ◌<◌, length, get_or, drop};
 ghost use Rattle.std.proofs.Math.Option.{none};
 ghost use Rattle.spec_exi.specs.Event.{Kind, SD};

@@ -1,6 +1,8 @@
 // The learned productions of the grammar's state (EXI 8.4.2, 8.4.3): how many, and which one fits
 // an event. Memory is not written, and every function is safe and ends on any memory. What the
 // functions ask and leave is in specs/.
+#![tactic(auto)]
+
 ghost use Rattle.std.specs.Prelude.{◌≡◌, ◌<◌};
 ghost use Rattle.mem_layout.specs.Layout.{name_rows};
 ghost use Rattle.grammar_match.specs.Here.{site_in, SitePre, CountedHere};

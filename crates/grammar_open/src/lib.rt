@@ -1,6 +1,8 @@
 // The state that goes from event to event: the numbers, and the open elements beside them. The
 // array is read and written in place by who loops over events. What the functions ask and leave is
 // in specs/Opened.antt.
+#![tactic(auto)]
+
 ghost use Rattle.std.specs.Prelude.{◌≡◌, ◌%◌, ◌≤◌};
 ghost use Rattle.spec_exi.specs.Sizes.{max_open};
 ghost use Rattle.mem_layout.specs.Layout.{name_rows};

@@ -1,5 +1,7 @@
 // The answer of a step, the reader's or the writer's: the numbers after an event, one by one.
 // What the functions leave is in specs/Stepped.antt.
+#![tactic(auto)]
+
 ghost use Rattle.std.specs.Prelude.{◌+◌, ◌<◌, ◌≡◌};
 ghost use Rattle.spec_exi.specs.Sizes.{max_events};
 ghost use Rattle.mem_state.specs.Holds.{Bounded};

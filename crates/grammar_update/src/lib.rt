@@ -1,6 +1,8 @@
 // What an event leaves in the grammars and in the numbers that go from event to event (EXI 8.4.2,
 // 8.4.3), and whether the start tag and the sizes have room for it. Memory is not written. What the
 // functions ask and leave is in specs/.
+#![tactic(auto)]
+
 ghost use Rattle.std.specs.Prelude.{◌≡◌};
 ghost use Rattle.mem_marks.specs.Marks.{MarkPre};
 ghost use Rattle.grammar_update.specs.Growth.{growth_of, allowed_in, fits_in, GrowthPre};

@@ -2,6 +2,7 @@
 // zero at the start, then tables in columns, a cell for each row.
 // specs/Layout.antt has the places by the same names.
 // ---- heads of chains, a cell for each bucket
+#![tactic(auto)]
 
 // values by text
 pub const VALUE_TEXT_HEADS: usize = 0;

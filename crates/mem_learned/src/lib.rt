@@ -3,6 +3,8 @@
 // element's name + 1 in its start tag, 2 * the name in its content; names are first rows. A row
 // that a search answers is its number and 1, or 0 for none. Every function is safe and ends on any
 // memory. What the contracts cite is in specs/Learned.antt.
+#![tactic(auto)]
+
 ghost use Rattle.std.specs.Prelude.{◌≡◌};
 ghost use Rattle.mem_learned.specs.Learned.{site_index, name_index, SitedPre, CountedAt};
 ghost use Rattle.mem_learned.specs.Learned.{NthLearned};

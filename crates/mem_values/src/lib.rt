@@ -2,6 +2,8 @@
 // modulo the ring; chains by text, and by owner and local number. A number that a function answers
 // is an insertion number and 1, or 0 for none. Every function is safe and ends on any memory. What
 // the contracts cite is in specs/.
+#![tactic(auto)]
+
 ghost use Rattle.std.specs.Prelude.{◌≡◌};
 ghost use Rattle.mem_values.specs.Values.{value_index, row_has_text, with_value};
 ghost use Rattle.mem_values.specs.Hold.{ValueAtPre, FindRowPre, FoundText};

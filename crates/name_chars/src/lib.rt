@@ -1,5 +1,7 @@
 // Names of XML 1.0, Fifth Edition, without the colon: NCName of Namespaces in XML 1.0 (02, P6). The
 // contracts cite crates/text/specs/Names.antt.
+#![tactic(auto)]
+
 ghost use Rattle.std.specs.Prelude.{◌≡◌, ◌||◌, ◌≤◌, eqb};
 ghost use Rattle.text.specs.Names.{is_name_start, is_name_char, is_ncname, is_xml};
 ghost use Rattle.name_chars.specs.Class.{table};

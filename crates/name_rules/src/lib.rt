@@ -1,5 +1,7 @@
 // Which names are refused: what is no NCName; a target `xml`; attribute nil or type in the
 // XMLSchema-instance URI. Which comments and instructions' texts are refused (02, P6).
+#![tactic(auto)]
+
 ghost use Rattle.std.specs.Prelude.{◌≡◌, ◌&&◌, eqb};
 ghost use Rattle.text.specs.Names.{has_pair, ends_in};
 ghost use Rattle.spec_exi.specs.Tables.{name_allowed, text_allowed, local, target};

@@ -1,5 +1,7 @@
 // The events of a stream and the pad bits behind them, read. What the functions ask and leave is in
 // specs/Body.antt, the reply in specs/Reply.antt.
+#![tactic(auto)]
+
 ghost use Rattle.std.specs.Prelude.{◌≡◌, ◌≤◌, drop};
 ghost use Rattle.spec_fields.specs.Bits.{unpack, is_padding};
 ghost use Rattle.settings.specs.Meant.{settings_from};

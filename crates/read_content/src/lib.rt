@@ -1,6 +1,8 @@
 // The content of an event (EXI 4), read by the production that its code names, which is not
 // learned. Work memory is not written; text that is read before a string that is refused stays, and
 // is the caller's to clear. What the functions ask and leave is in specs/Contents.antt.
+#![tactic(auto)]
+
 ghost use Rattle.std.specs.Prelude.{◌≡◌, false};
 ghost use Rattle.spec_exi.specs.Event.{SE, AT, CH, CM, PI};
 ghost use Rattle.spec_exi.specs.Grammar.{kind_number};

@@ -1,5 +1,7 @@
 // One event of a stream after its code, read: its content, and what is tested after this. What the
 // functions ask and leave is in specs/, and what any step leaves.
+#![tactic(auto)]
+
 ghost use Rattle.std.specs.Prelude.{◌≡◌, false};
 ghost use Rattle.settings.specs.Meant.{settings_from};
 ghost use Rattle.grammar_update.specs.Growth.{GrowthPre};

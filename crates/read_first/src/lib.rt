@@ -1,6 +1,8 @@
 // Quick steps: an event by a production that is not learned, which it teaches (EXI 8.4.3). Here are
 // its parts, and the events without a name: characters and the end tag in a start tag. What the
 // functions ask and leave is in specs/First.antt.
+#![tactic(auto)]
+
 ghost use Rattle.std.specs.Prelude.{◌-◌, ◌≤◌, ◌≡◌, Bool, false, length};
 ghost use Rattle.settings.specs.Meant.{settings_from};
 ghost use Rattle.spec_exi.specs.Event.{CH, EE};

@@ -1,4 +1,6 @@
 // The header of a stream (EXI 5), read. What the functions ask and leave is in specs/Header.antt.
+#![tactic(auto)]
+
 ghost use Rattle.std.specs.Prelude.{◌≤◌, length, drop};
 ghost use Rattle.spec_exi.specs.Settings.{header_of};
 ghost use Rattle.spec_exi.specs.Sizes.{max_stream};

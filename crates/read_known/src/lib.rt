@@ -1,6 +1,8 @@
 // Quick steps: an event with a value, by a learned production, which carries its name (EXI 8.4.3).
 // Its strings but the value are known, and nothing is learned. What the functions ask and leave is
 // in specs/Known.antt.
+#![tactic(auto)]
+
 ghost use Rattle.std.specs.Prelude.{◌≡◌};
 ghost use Rattle.spec_exi.specs.Event.{AT, CH};
 ghost use Rattle.event.specs.declared.Event.TheVariants.{Attribute};

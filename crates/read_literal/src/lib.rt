@@ -1,6 +1,8 @@
 // A literal, read into the text store: the length limit, the store limit, then each code point. A
 // refusal clears the cells that it wrote, and says where it stopped: the code point's position, and
 // how many are still to be read. What the functions ask and leave is in specs/Literal.antt.
+#![tactic(auto)]
+
 ghost use Rattle.std.specs.Prelude.{◌≡◌, ◌+◌, ◌*◌, ◌≤◌, ◌<◌, length, replicate};
 ghost use Rattle.read_field.specs.Parts.{Octet};
 ghost use Rattle.read_literal.specs.Literal.{laid_at, Place, Plain, PointRead, CharactersPre};

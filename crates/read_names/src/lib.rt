@@ -1,6 +1,8 @@
 // The URI and the local name of a qualified name, read by their tables (EXI 7.3.2, 7.3.3). Work
 // memory is not written: a literal is judged here, and joins its table once the whole event is
 // accepted. What the functions ask and leave is in specs/.
+#![tactic(auto)]
+
 ghost use Rattle.std.specs.Prelude.{◌≡◌, ◌&&◌, List, ℕ, ◌≤◌};
 ghost use Rattle.spec_fields.specs.Field.{Alignment};
 ghost use Rattle.text.specs.Text.{part};

@@ -1,6 +1,8 @@
 // Quick steps: a start element or an attribute by the wildcard, that is by a production that is not
 // learned (EXI 8.4.3). Its name is read, and joins the tables where it is new. What the functions
 // ask and leave is in specs/New.antt.
+#![tactic(auto)]
+
 ghost use Rattle.std.specs.Prelude.{ℕ, ◌<◌, ◌≡◌, Bool};
 ghost use Rattle.settings.specs.Meant.{settings_from};
 ghost use Rattle.spec_exi.specs.Sizes.{max_events};

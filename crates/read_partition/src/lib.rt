@@ -1,5 +1,7 @@
 // What a function that reads a string answers: what it read, and what is to join its table once the
 // whole event is accepted. The records that its contract is made of are in specs/Strings.antt.
+#![tactic(auto)]
+
 ghost use Rattle.std.specs.Prelude.{◌≡◌, ◌+◌, ◌≤◌, length};
 ghost use Rattle.spec_exi.specs.Sizes.{max_store};
 ghost use Rattle.read_partition.specs.Strings.{refused_as, found_as, literal_as, Dropped};

@@ -1,5 +1,7 @@
 // An event code (EXI 6.2, 8.4), read to the production that it names. Memory is not written, and
 // every function is safe and ends on any memory. What the functions ask and leave is in specs/.
+#![tactic(auto)]
+
 ghost use Rattle.std.specs.Prelude.{ℕ, ◌<◌, ◌≡◌};
 ghost use Rattle.read_field.specs.View.{alignment_of, NumberPre};
 ghost use Rattle.settings.specs.Meant.{settings_from};

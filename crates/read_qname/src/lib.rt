@@ -1,6 +1,8 @@
 // A qualified name (EXI 7.1.7), read: a URI and a local name. What the functions ask and leave, and
 // what a name is that a learned production carries, is in specs/Qnames.antt, the text store in
 // specs/Texts.antt.
+#![tactic(auto)]
+
 ghost use Rattle.std.specs.Prelude.{◌≡◌};
 ghost use Rattle.std.proofs.Math.Option.{none};
 ghost use Rattle.read_field.specs.View.{alignment_of};

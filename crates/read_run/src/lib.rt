@@ -1,5 +1,7 @@
 // The events of a stream, read one behind the other, with the open elements in place. What the
 // function asks and leaves is in specs/Run.antt.
+#![tactic(auto)]
+
 ghost use Rattle.std.specs.Prelude.{◌≡◌};
 ghost use Rattle.settings.specs.Meant.{settings_from};
 ghost use Rattle.read_run.specs.Run.{AdvancePre, AdvancePost};

@@ -1,5 +1,7 @@
 // One event of a stream, read: its code, then the rest by its production, and the one place where
 // its rows join memory. What the functions ask and leave is in specs of `read_event`.
+#![tactic(auto)]
+
 ghost use Rattle.std.specs.Prelude.{true, false};
 ghost use Rattle.settings.specs.Meant.{settings_from};
 ghost use Rattle.read_event.specs.Step.{StepPre, StepPost};

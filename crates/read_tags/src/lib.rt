@@ -1,6 +1,8 @@
 // Quick steps: an event without a value that teaches nothing, as are elements by learned
 // productions, end tags in an element's content, and start and end of the document. What the
 // functions ask and leave is in specs/Tags.antt.
+#![tactic(auto)]
+
 ghost use Rattle.std.specs.Prelude.{◌+◌, ◌≤◌, ◌<◌, ◌≡◌, Bool, true, false, length};
 ghost use Rattle.spec_exi.specs.Sizes.{cells_per_event, max_events};
 ghost use Rattle.spec_exi.specs.Event.{SD, ED, SE, EE};

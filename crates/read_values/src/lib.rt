@@ -1,6 +1,8 @@
 // Values, read by the values of their name and by all values (EXI 7.3.3), and strings by no table.
 // Work memory is not written: a value that is a literal is judged here, and joins its table once
 // the whole event is accepted. What the functions ask and leave is in specs/.
+#![tactic(auto)]
+
 ghost use Rattle.std.specs.Prelude.{◌≡◌, false, List, ℕ, ◌≤◌};
 ghost use Rattle.spec_fields.specs.Field.{Alignment};
 ghost use Rattle.text.specs.Text.{part};

@@ -1,6 +1,8 @@
 // The reader: octets to the event list whose strict form they are, or a refusal with its number
 // and index. The definitions that the contracts cite are in specs/Read.antt and
 // crates/read_body/specs/Reply.antt and, for the answer, in crates/spec_exi/specs/Reader.antt.
+#![tactic(auto)]
+
 ghost use Rattle.std.specs.Prelude.{◌+◌, ◌≤◌};
 ghost use Rattle.spec_exi.specs.Sizes.{sizes, max_values};
 ghost use Rattle.spec_exi.specs.Reader.{read_stream};

@@ -1,6 +1,8 @@
 // A stream that comes in pieces (02, P8), by value: the record goes in and comes back beside the
 // reply. Any record and any memory are safe. The definitions that the contracts cite are in
 // specs/Calls.antt and, for the answer, in crates/spec_exi/specs/Packets.antt.
+#![tactic(auto)]
+
 ghost use Rattle.std.specs.Prelude.{◌≡◌};
 ghost use Rattle.receiver_record.specs.Record.{lent, handed};
 ghost use Rattle.receiver.specs.Calls.{closed_now, Fed, Closed};

@@ -1,5 +1,7 @@
 // Which way a call of a receiver goes (02, P8), judged by numbers alone: the record, the piece's
 // length, and the lengths of what is lent. What the contracts cite is in specs/Course.antt.
+#![tactic(auto)]
+
 ghost use Rattle.std.specs.Prelude.{◌≡◌};
 ghost use Rattle.receiver_record.specs.Record.{refusal_at};
 ghost use Rattle.receiver_course.specs.Course.{has_room, values_in, tables_in, elements_in};

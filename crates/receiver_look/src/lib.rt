@@ -1,6 +1,8 @@
 // Where octets end inside an event (02, P8): among the code points of which string, if any. The
 // event is looked at from its first bit on, and nothing is laid. What the functions ask and leave
 // is in specs/Look.antt.
+#![tactic(auto)]
+
 ghost use Rattle.std.specs.Prelude.{◌≤◌, ◌<◌, ◌≡◌, false};
 ghost use Rattle.read_field.specs.View.{alignment_of};
 ghost use Rattle.settings.specs.Meant.{settings_from};

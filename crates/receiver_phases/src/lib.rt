@@ -1,5 +1,7 @@
 // What a receiver's call leaves where it reads no octets: closed, refused, or closing (02, P8). The
 // contracts are equations for every record and all memory; specs/Phases.antt has them.
+#![tactic(auto)]
+
 ghost use Rattle.std.specs.Prelude.{◌≡◌, ◌+◌, ◌≤◌, length};
 ghost use Rattle.receiver_record.specs.Record.{Lent, lent, cleared, handed};
 ghost use Rattle.receiver_phases.specs.Phases.{kept, repeated, refused, closed_by};

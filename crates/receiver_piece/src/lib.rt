@@ -1,5 +1,7 @@
 // A piece of a stream, read after the octets so far (02, P8). What the functions ask and leave is
 // in specs/Piece.antt.
+#![tactic(auto)]
+
 ghost use Rattle.std.specs.Prelude.{◌≡◌, take};
 ghost use Rattle.settings.specs.Meant.{settings_meant, settings_from};
 ghost use Rattle.receiver_record.specs.Record.{lent, handed};

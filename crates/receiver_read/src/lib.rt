@@ -1,5 +1,7 @@
 // The octets of a stream so far, read on from where they had ended (02, P8). What the functions ask
 // and leave is in specs/On.antt.
+#![tactic(auto)]
+
 ghost use Rattle.std.specs.Prelude.{◌≡◌, ◌≤◌, length, take};
 ghost use Rattle.spec_exi.specs.Sizes.{max_stream};
 ghost use Rattle.settings.specs.Meant.{settings_from};

@@ -1,5 +1,7 @@
 // A receiver's record (02, P8): what goes from one piece of a stream to the next beside lent
 // memory. What a call finds and leaves is in specs/Record.antt.
+#![tactic(auto)]
+
 ghost use Rattle.std.specs.Prelude.{◌≡◌};
 ghost use Rattle.receiver_record.specs.Record.{started_with};
 

@@ -1,5 +1,7 @@
 // Strings of an event that is cut, passed over (02, P8): no text is laid, and no table is read.
 // What the functions ask and leave is in specs/.
+#![tactic(auto)]
+
 ghost use Rattle.receiver_strings.specs.Strings.{SpotPre, PointRead, SkipPost, StringSeen};
 ghost use Rattle.receiver_strings.specs.Strings.{NumberSeen};
 

@@ -1,5 +1,7 @@
 // A literal that is cut is continued at the code point where it was cut (02, P8). What the
 // functions ask and leave is in specs/Wait.antt.
+#![tactic(auto)]
+
 ghost use Rattle.std.specs.Prelude.{◌≡◌, take};
 ghost use Rattle.settings.specs.Meant.{settings_from};
 ghost use Rattle.receiver_strings.specs.Strings.{SkipPost};

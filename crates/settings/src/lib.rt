@@ -1,5 +1,7 @@
 // What the two sides agree on outside the stream: the numbers that a caller hands over, and what
 // they mean.
+#![tactic(auto)]
+
 ghost use Rattle.std.specs.Prelude.{◌≡◌};
 ghost use Rattle.spec_exi.specs.Settings.{meaningful};
 ghost use Rattle.settings.specs.Meant.{numbers_of, settings_meant};

@@ -1,5 +1,6 @@
 // The sizes, one constant each: crates/spec_exi/specs/Sizes.antt has them by the same names, and
 // the contracts of the functions that use them hold each to its definition.
+#![tactic(auto)]
 
 // Octets of a stream.
 pub const MAX_STREAM: usize = 16384;

@@ -1,1 +1,2 @@
 // Every claim, with the line of its proof; no function.
+#![tactic(auto)]

@@ -1,6 +1,8 @@
 // The content of an event (EXI 4), judged string by string, and written as it was judged. Work
 // memory is not written. What the functions ask and leave is in specs/Contents.antt and
 // specs/Writing.antt.
+#![tactic(auto)]
+
 ghost use Rattle.std.specs.Prelude.{◌≡◌};
 ghost use Rattle.read_field.specs.View.{alignment_of};
 ghost use Rattle.event.specs.declared.Event.TheVariants.{StartElement, Attribute, Characters};

@@ -2,6 +2,8 @@
 // (P3) and what it leaves in the grammars; then its bits; and then the one place where its rows
 // join memory. A refused event has written no octet and no cell. What the functions ask and leave
 // is in specs/.
+#![tactic(auto)]
+
 ghost use Rattle.std.specs.Prelude.{◌≡◌};
 ghost use Rattle.text.specs.Text.{inside};
 ghost use Rattle.spec_exi.specs.Event.{kind_of, strings_of};

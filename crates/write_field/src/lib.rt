@@ -1,5 +1,7 @@
 // The fields of a stream, written at a bit position. Each function gives the position after the
 // field.
+#![tactic(auto)]
+
 ghost use Rattle.std.specs.Prelude.{◌≡◌, ◌+◌, ◌-◌, ◌%◌, ◌^◌, ◌≤◌, ◌<◌, T};
 ghost use Rattle.spec_fields.specs.Bits.{bits_of};
 ghost use Rattle.spec_fields.specs.Field.{byte_aligned, number_bits, choice_bits, unsigned_bits};

@@ -1,6 +1,8 @@
 // Quick steps: an event by a production that is not learned, which it may teach (EXI 8.4.3). Here
 // are those without a name: characters, and an end tag. What the functions ask and leave is in
 // specs/First.antt.
+#![tactic(auto)]
+
 ghost use Rattle.std.specs.Prelude.{ℕ, List};
 ghost use Rattle.settings.specs.Meant.{settings_from};
 ghost use Rattle.event.specs.Cells.{meaning};

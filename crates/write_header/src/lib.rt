@@ -1,5 +1,7 @@
 // The header of a stream (EXI 5), written. What the functions ask and leave is in
 // specs/Header.antt.
+#![tactic(auto)]
+
 ghost use Rattle.settings.specs.Meant.{settings_from};
 ghost use Rattle.write_header.specs.Header.{PutHeaderPre, CookiePut, HeaderPut};
 

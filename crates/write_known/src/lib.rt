@@ -1,6 +1,8 @@
 // Quick steps: an event with a value, whose production is learned (EXI 8.4.3). Its strings but the
 // value are known, and nothing is learned. And the learned production of a name that its tables
 // have. What the functions ask and leave is in specs/.
+#![tactic(auto)]
+
 ghost use Rattle.std.specs.Prelude.{◌<◌, ◌≡◌, false, ◌&&◌, eqb};
 ghost use Rattle.spec_exi.specs.Event.{AT, CH};
 ghost use Rattle.event.specs.declared.Event.TheVariants.{Characters};

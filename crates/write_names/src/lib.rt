@@ -1,6 +1,8 @@
 // The URI and the local name of a qualified name (EXI 7.1.7), judged and written. Work memory is
 // read alone: what joins a table is added once the whole event is accepted. What the functions ask
 // and leave is in specs/Uris.antt and specs/Names.antt.
+#![tactic(auto)]
+
 ghost use Rattle.read_field.specs.View.{alignment_of};
 ghost use Rattle.write_field.specs.Written.{Put};
 ghost use Rattle.write_names.specs.Uris.{NewUriPre, NewUriPost, UriPre, UriPost, uri_bits};

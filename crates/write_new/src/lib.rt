@@ -1,6 +1,8 @@
 // Quick steps: a start element or an attribute that no learned production fits, or that has its
 // name judged whole (EXI 8.4.3). What is new of its name joins the tables. What the functions ask
 // and leave is in specs of `write_first` and `write_event`.
+#![tactic(auto)]
+
 ghost use Rattle.settings.specs.Meant.{settings_from};
 ghost use Rattle.event.specs.Cells.{meaning};
 ghost use Rattle.event.specs.declared.Event.TheVariants.{StartElement, Attribute};

@@ -2,6 +2,8 @@
 // refused, and what is to join its table once the whole event is accepted. And the two forms in
 // which a string of a partition is written (EXI 7.3.3). What the functions ask and leave is in
 // specs/.
+#![tactic(auto)]
+
 ghost use Rattle.std.specs.Prelude.{◌≡◌, ◌+◌, ◌≤◌, length};
 ghost use Rattle.spec_exi.specs.Sizes.{max_store};
 ghost use Rattle.spec_exi.specs.Writer.{first_failed};

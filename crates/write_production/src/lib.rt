@@ -1,5 +1,7 @@
 // The event code of an event (EXI 6.2, 8.4.3), written. What the functions ask and leave is in
 // specs/Codes.antt.
+#![tactic(auto)]
+
 ghost use Rattle.std.specs.Prelude.{◌≡◌};
 ghost use Rattle.settings.specs.Meant.{settings_from};
 ghost use Rattle.read_field.specs.View.{alignment_of};

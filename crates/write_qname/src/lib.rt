@@ -1,5 +1,7 @@
 // A qualified name (EXI 7.1.7), judged and written: a URI and a local name. What the functions ask
 // and leave is in specs/Qnames.antt.
+#![tactic(auto)]
+
 ghost use Rattle.std.specs.Prelude.{◌≡◌};
 ghost use Rattle.read_field.specs.View.{alignment_of};
 ghost use Rattle.write_field.specs.Written.{Put};

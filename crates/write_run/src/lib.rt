@@ -1,5 +1,7 @@
 // The events of a list, the body of a stream (EXI 4), written one after the other, with the open
 // elements in place. What the functions ask and leave is in specs/Run.antt.
+#![tactic(auto)]
+
 ghost use Rattle.std.specs.Prelude.{◌≡◌};
 ghost use Rattle.settings.specs.Meant.{settings_from};
 ghost use Rattle.event.specs.Cells.{events_of};

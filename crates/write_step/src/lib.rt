@@ -1,5 +1,7 @@
 // One event of a list, written: by a quick step where one applies, else by the general path, as
 // comments and instructions are. What a step asks and leaves is in specs of `write_event`.
+#![tactic(auto)]
+
 ghost use Rattle.std.specs.Prelude.{ℕ, List};
 ghost use Rattle.settings.specs.Meant.{settings_from};
 ghost use Rattle.event.specs.Cells.{meaning};

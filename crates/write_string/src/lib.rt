@@ -1,5 +1,7 @@
 // A String, written at a bit position: its length, raised by the count of partitions that it could
 // have been a hit in, and its code points.
+#![tactic(auto)]
+
 ghost use Rattle.std.specs.Prelude.{◌≡◌, ◌+◌, ◌*◌};
 ghost use Rattle.spec_fields.specs.Bits.{each};
 ghost use Rattle.spec_fields.specs.Field.{unsigned_bits};

@@ -1,6 +1,8 @@
 // Quick steps: an event without a value that teaches nothing, as are elements whose production is
 // learned and end tags in an element's content. Work memory is not written. What the functions ask
 // and leave is in specs/Tags.antt.
+#![tactic(auto)]
+
 ghost use Rattle.std.specs.Prelude.{◌<◌, ◌≡◌, true};
 ghost use Rattle.spec_exi.specs.Sizes.{max_events, max_open};
 ghost use Rattle.spec_exi.specs.Event.{SE, EE};

@@ -1,6 +1,8 @@
 // Values (EXI 7.3.3) and strings by no table (EXI 7.1.10), judged; and values, written. Work memory
 // is not written: a value that joins is added once the whole event is accepted. What the functions
 // ask and leave is in specs/Values.antt and specs/Texts.antt.
+#![tactic(auto)]
+
 ghost use Rattle.std.specs.Prelude.{◌≡◌, ◌+◌, ◌≤◌};
 ghost use Rattle.spec_exi.specs.Sizes.{max_store};
 ghost use Rattle.name_rules.specs.Texts.{role_of};

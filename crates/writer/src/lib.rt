@@ -1,6 +1,8 @@
 // The writer: an event list to the octets of its strict form, or a refusal with its number and
 // index. The definitions that the contracts cite are in specs/Write.antt and, for the answer, in
 // crates/spec_exi/specs/Writer.antt.
+#![tactic(auto)]
+
 ghost use Rattle.std.specs.Prelude.{◌≡◌};
 ghost use Rattle.settings.specs.Meant.{settings_from};
 ghost use Rattle.event.specs.Cells.{events_of};
