@@ -4,6 +4,7 @@
 // or 0 for none. Every function is safe and ends on any memory. What the contracts cite is in
 // specs/.
 #![tactic(auto)]
+
 ghost use Rattle.std.specs.Prelude.{◌≡◌, ◌<◌};
 ghost use Rattle.mem_layout.specs.Layout.{uri_rows};
 ghost use Rattle.mem_names.specs.Uris.{uri_has_text, UriRowPre, FindUriPre, FoundUri, UriAt};
@@ -20,14 +21,14 @@ use mem_layout::{
     OPENING_URIS, URI_FIRSTS, URI_PLACES, URI_ROWS, URI_SIZES,
 };
 
-#[derive(Drop)]
+#[derive(Clone, Copy)]
 pub struct Uri {
     pub place: u32,
     pub size: u32,
     pub first: u32,
 }
 
-#[derive(Drop)]
+#[derive(Clone, Copy)]
 pub struct Name {
     pub uri: u32,
     pub number: u32,

@@ -1,0 +1,26 @@
+use Rattle.mem_names.proofs.Joined.{add-steps}
+use Rattle.mem_names.proofs.Names.{uri-joining}
+use native.Mathlib.Omega.{arith}
+use borrow.Author.Rules.{rules}
+use Rattle.mem_names.proofs.add_name.Goals as goal
+
+-- `add_name` meets its contract.
+pub join-requires : goal.join-requires
+join-requires c =
+    uri-joining c.by_uri.ensures
+    (omega (
+      arith,
+      c.requires.room,
+      c.put_name.auto.work,
+    ))
+    c.requires.low
+    (omega (arith, c.requires.few))
+
+pub returns : goal.returns
+returns c =
+    add-steps _ _ _ _ _ _
+    c.by_uri.ensures
+    c.spot.ensures.is
+    c.put_name.ensures
+    c.join.ensures
+    c.link.ensures

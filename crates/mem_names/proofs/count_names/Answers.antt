@@ -1,0 +1,7 @@
+use Rattle.mem_names.proofs.Names.{counted-names}
+use borrow.Author.Rules.{rules}
+use Rattle.mem_names.proofs.count_names.Goals as goal
+
+-- `count_names` meets its contract.
+pub returns : goal.returns
+returns c = counted-names c.requires.low c.count.ensures

@@ -1,0 +1,9 @@
+use Rattle.mem_names.proofs.Names.{name-at-made}
+use borrow.Author.Rules.{rules}
+use Rattle.mem_names.proofs.name_at.Goals as goal
+
+-- `name_at` meets its contract.
+pub returns : goal.returns
+returns c =
+    name-at-made c.requires.low
+    c.less.ensures c.falling.ensures

@@ -1,0 +1,7 @@
+use Rattle.mem_names.proofs.Uris.{uri-at-made}
+use borrow.Author.Rules.{rules}
+use Rattle.mem_names.proofs.uri_at.Goals as goal
+
+-- `uri_at` meets its contract.
+pub returns : goal.returns
+returns c = uri-at-made c.requires.low c.falling.ensures
