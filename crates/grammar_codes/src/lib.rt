@@ -5,7 +5,7 @@
 
 ghost use Rattle.std.specs.Prelude.{◌≡◌, [], ◌∷◌, ◌<◌, length, get_or, drop};
 ghost use Rattle.std.proofs.Math.Option.{none};
-ghost use Rattle.spec_exi.specs.Event.{Kind, SD};
+ghost use Rattle.spec_exi.specs.Event.{Kind, SD as kind_sd};
 ghost use Rattle.spec_exi.specs.Grammar.{kind_number};
 ghost use Rattle.event_code.specs.Numbers.{in_fragment, in_tag, in_element};
 ghost use Rattle.grammar_codes.specs.Table.{max_levels, kept_kinds, CountAt, values_at, PlaceAt};
@@ -58,7 +58,7 @@ pub fn kept_count(comments: bool, instructions: bool) -> u32
 
 // The kind with number v there.
 pub fn kept_at(v: u32, comments: bool, instructions: bool) -> u32
-    ensures { result ≡ kind_number (get_or (kept_kinds comments instructions) v SD) }
+    ensures { result ≡ kind_number (get_or (kept_kinds comments instructions) v kind_sd) }
 {
     if comments {
         if instructions {
@@ -105,7 +105,7 @@ pub fn fixed_count(mode: u32) -> u32
 
 // The kind of the production with number v there.
 pub fn fixed_kind(mode: u32, v: u32) -> u32
-    ensures { result ≡ kind_number (get_or (fixed_kinds mode) v SD) }
+    ensures { result ≡ kind_number (get_or (fixed_kinds mode) v kind_sd) }
 {
     match mode {
         IN_DOC_CONTENT => nth(v, SE, 0, 0, 0),

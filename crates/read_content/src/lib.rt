@@ -4,7 +4,7 @@
 #![tactic(auto)]
 
 ghost use Rattle.std.specs.Prelude.{◌≡◌, false};
-ghost use Rattle.spec_exi.specs.Event.{SE, AT, CH, CM, PI};
+ghost use Rattle.spec_exi.specs.Event.{SE as kind_se, AT as kind_at, CH as kind_ch, CM as kind_cm, PI as kind_pi};
 ghost use Rattle.spec_exi.specs.Grammar.{kind_number};
 ghost use Rattle.spec_fields.specs.Field.{Alignment};
 ghost use Rattle.mem_rows.specs.Rows.{kind_at};
@@ -71,7 +71,7 @@ fn read_element(
     work: &[u32],
 ) -> Content
     requires content_pre { ContentPre stream.now at text.old work.now c p }
-    requires kind_value { p.kind ≡ kind_number SE }
+    requires kind_value { p.kind ≡ kind_number kind_se }
     requires learned_value { p.learned ≡ false }
     ensures { ContentPost (alignment_of aligned) stream.now at text.old
         work.now c p text.new result }
@@ -104,7 +104,7 @@ fn read_attribute(
     work: &[u32],
 ) -> Content
     requires content_pre { ContentPre stream.now at text.old work.now c p }
-    requires kind_value { p.kind ≡ kind_number AT }
+    requires kind_value { p.kind ≡ kind_number kind_at }
     requires learned_value { p.learned ≡ false }
     ensures { ContentPost (alignment_of aligned) stream.now at text.old
         work.now c p text.new result }
@@ -145,7 +145,7 @@ fn read_characters(
     work: &[u32],
 ) -> Content
     requires content_pre { ContentPre stream.now at text.old work.now c p }
-    requires kind_value { p.kind ≡ kind_number CH }
+    requires kind_value { p.kind ≡ kind_number kind_ch }
     ensures { ContentPost (alignment_of aligned) stream.now at text.old
         work.now c p text.new result }
 {
@@ -177,7 +177,7 @@ fn read_comment(
     work: &[u32],
 ) -> Content
     requires content_pre { ContentPre stream.now at text.old work.now c p }
-    requires kind_value { p.kind ≡ kind_number CM }
+    requires kind_value { p.kind ≡ kind_number kind_cm }
     ensures { (a : Alignment) → ContentPost a stream.now at text.old
         work.now c p text.new result }
 {
@@ -199,7 +199,7 @@ fn read_instruction(
     work: &[u32],
 ) -> Content
     requires content_pre { ContentPre stream.now at text.old work.now c p }
-    requires kind_value { kind_at p.kind ≡ PI }
+    requires kind_value { kind_at p.kind ≡ kind_pi }
     ensures { (a : Alignment) → ContentPost a stream.now at text.old
         work.now c p text.new result }
 {

@@ -5,7 +5,7 @@
 
 ghost use Rattle.std.specs.Prelude.{◌-◌, ◌≤◌, ◌≡◌, Bool, false, length};
 ghost use Rattle.settings.specs.Meant.{settings_from};
-ghost use Rattle.spec_exi.specs.Event.{CH, EE};
+ghost use Rattle.spec_exi.specs.Event.{CH as kind_ch, EE as kind_ee};
 ghost use Rattle.spec_exi.specs.Grammar.{kind_number};
 ghost use Rattle.event.specs.declared.Event.TheVariants.{Characters};
 ghost use Rattle.mem_layout.specs.Layout.{work_cells};
@@ -114,7 +114,7 @@ fn add_characters(
     events: &mut [u32],
     work: &mut [u32],
 ) -> Stepped
-    requires kind_value { g.kind ≡ kind_number CH }
+    requires kind_value { g.kind ≡ kind_number kind_ch }
     requires add_pre { AddPre events.old work.old (valued_strings no_strings c.top (joining_of x)) g c cell
         n }
     ensures { (fragment : Bool) → Added fragment (Characters (part_of x))
@@ -146,7 +146,7 @@ pub fn first_characters(
     work: &mut [u32],
 ) -> Stepped
     requires step_pre { StepPre stream.now events.old text.old work.old c cell n }
-    requires first_pre { FirstPre CH (settings_from o) stream.now work.old c p }
+    requires first_pre { FirstPre kind_ch (settings_from o) stream.now work.old c p }
     ensures { StepPost (settings_from o) stream.now events.old text.old
         work.old c cell n events.new text.new work.new
         result }
@@ -177,7 +177,7 @@ pub fn first_end(
     events: &mut [u32],
     work: &mut [u32],
 ) -> Stepped
-    requires tag_pre { TagPre EE events.old c cell n p }
+    requires tag_pre { TagPre kind_ee events.old c cell n p }
     requires work_cells_in_bounds { work_cells ≤ length work.old }
     requires learned_value { p.learned ≡ false }
     ensures { TagPost fragment events.old work.old c cell n p events.new

@@ -4,7 +4,7 @@
 #![tactic(auto)]
 
 ghost use Rattle.std.specs.Prelude.{◌≡◌};
-ghost use Rattle.spec_exi.specs.Event.{AT, CH};
+ghost use Rattle.spec_exi.specs.Event.{AT as kind_at, CH as kind_ch};
 ghost use Rattle.event.specs.declared.Event.TheVariants.{Attribute};
 ghost use Rattle.mem_names.specs.Uris.{UriRowPre};
 ghost use Rattle.mem_names.specs.Names.{NameRowPre};
@@ -91,7 +91,7 @@ pub fn known_attribute(
     work: &mut [u32],
 ) -> Stepped
     requires step_pre { StepPre stream.now events.old text.old work.old c cell 0 }
-    requires learned_pre { LearnedPre AT stream.now c p }
+    requires learned_pre { LearnedPre kind_at stream.now c p }
     ensures { AttributePost (alignment_of aligned) stream.now events.old
         text.old work.old c cell p events.new text.new
         work.new result }
@@ -129,7 +129,7 @@ pub fn known_characters(
     work: &mut [u32],
 ) -> Stepped
     requires step_pre { StepPre stream.now events.old text.old work.old c cell n }
-    requires learned_pre { LearnedPre CH stream.now c p }
+    requires learned_pre { LearnedPre kind_ch stream.now c p }
     ensures { KnownPost (alignment_of aligned) stream.now events.old
         text.old work.old c cell n p events.new text.new
         work.new result }

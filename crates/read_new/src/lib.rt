@@ -6,7 +6,7 @@
 ghost use Rattle.std.specs.Prelude.{ℕ, ◌<◌, ◌≡◌, Bool};
 ghost use Rattle.settings.specs.Meant.{settings_from};
 ghost use Rattle.spec_exi.specs.Sizes.{max_events};
-ghost use Rattle.spec_exi.specs.Event.{SE, AT};
+ghost use Rattle.spec_exi.specs.Event.{SE as kind_se, AT as kind_at};
 ghost use Rattle.spec_exi.specs.Grammar.{kind_number};
 ghost use Rattle.event.specs.declared.Event.TheVariants.{StartElement, Attribute};
 ghost use Rattle.mem_state.specs.Joining.{uri_joining};
@@ -47,7 +47,7 @@ fn add_element(
     events: &mut [u32],
     work: &mut [u32],
 ) -> Stepped
-    requires kind_value { g.kind ≡ kind_number SE }
+    requires kind_value { g.kind ≡ kind_number kind_se }
     requires name_value { g.name ≡ l.row }
     requires add_pre { AddPre events.old work.old (element_strings u l) g c cell n }
     ensures { (fragment : Bool) → Added fragment (StartElement (part_of u) (part_of l))
@@ -88,7 +88,7 @@ pub fn new_element(
     work: &mut [u32],
 ) -> Stepped
     requires step_pre { StepPre stream.now events.old text.old work.old c cell n }
-    requires first_pre { FirstPre SE (settings_from o) stream.now work.old c p }
+    requires first_pre { FirstPre kind_se (settings_from o) stream.now work.old c p }
     ensures { StepPost (settings_from o) stream.now events.old text.old
         work.old c cell n events.new text.new work.new
         result }
@@ -123,7 +123,7 @@ fn add_attribute(
     events: &mut [u32],
     work: &mut [u32],
 ) -> Stepped
-    requires kind_value { g.kind ≡ kind_number AT }
+    requires kind_value { g.kind ≡ kind_number kind_at }
     requires add_pre { AddPre events.old work.old (attribute_strings u l x) g c cell 0 }
     ensures { (n : ℕ) → n < max_events → (fragment : Bool) → Added fragment
         (Attribute (part_of u) (part_of l) (part_of x)) (attribute_strings u l x) g x.next
@@ -154,7 +154,7 @@ pub fn new_attribute(
     work: &mut [u32],
 ) -> Stepped
     requires step_pre { StepPre stream.now events.old text.old work.old c cell 0 }
-    requires first_pre { FirstPre AT (settings_from o) stream.now work.old c p }
+    requires first_pre { FirstPre kind_at (settings_from o) stream.now work.old c p }
     ensures { (n : ℕ) → n < max_events → StepPost (settings_from o) stream.now
         events.old text.old work.old c cell n
         events.new text.new work.new result }

@@ -5,7 +5,7 @@
 
 ghost use Rattle.std.specs.Prelude.{◌+◌, ◌≤◌, ◌<◌, ◌≡◌, Bool, true, false, length};
 ghost use Rattle.spec_exi.specs.Sizes.{cells_per_event, max_events};
-ghost use Rattle.spec_exi.specs.Event.{SD, ED, SE, EE};
+ghost use Rattle.spec_exi.specs.Event.{SD as kind_sd, ED as kind_ed, SE as kind_se, EE as kind_ee};
 ghost use Rattle.event.specs.declared.Event.TheVariants.{StartElement};
 ghost use Rattle.event_code.specs.Numbers.{in_element};
 ghost use Rattle.mem_layout.specs.Layout.{work_cells};
@@ -56,7 +56,7 @@ pub fn known_element(
     events: &mut [u32],
     work: &mut [u32],
 ) -> Stepped
-    requires tag_pre { TagPre SE events.old c cell n p }
+    requires tag_pre { TagPre kind_se events.old c cell n p }
     requires work_cells_in_bounds { work_cells ≤ length work.old }
     requires learned_value { p.learned ≡ true }
     ensures { (fragment : Bool) → TagPost fragment events.old work.old c cell n p
@@ -115,7 +115,7 @@ pub fn known_end(
     n: usize,
     events: &mut [u32],
 ) -> Stepped
-    requires { TagPre EE events.old c cell n p }
+    requires { TagPre kind_ee events.old c cell n p }
     ensures { PlainPost fragment events.old c cell n p events.new result }
 {
     let mode = mem_state::mode_after(fragment, EE, c.mode, c.depth);
@@ -141,7 +141,7 @@ pub fn end_tag(
     events: &mut [u32],
     work: &[u32],
 ) -> Stepped
-    requires tag_pre { TagPre EE events.old c cell n p }
+    requires tag_pre { TagPre kind_ee events.old c cell n p }
     requires work_cells_in_bounds { work_cells ≤ length work.now }
     requires learned_value { p.learned ≡ false }
     requires mode_value { c.mode ≡ in_element }
@@ -163,7 +163,7 @@ pub fn start_document(
     n: usize,
     events: &mut [u32],
 ) -> Stepped
-    requires { TagPre SD events.old c cell n p }
+    requires { TagPre kind_sd events.old c cell n p }
     ensures { PlainPost fragment events.old c cell n p events.new result }
 {
     let mode = mem_state::mode_after(fragment, SD, c.mode, c.depth);
@@ -187,7 +187,7 @@ pub fn end_document(
     n: usize,
     events: &mut [u32],
 ) -> Stepped
-    requires { TagPre ED events.old c cell n p }
+    requires { TagPre kind_ed events.old c cell n p }
     ensures { (fragment : Bool) → PlainPost fragment events.old c cell n p
         events.new result }
 {

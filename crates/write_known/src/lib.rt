@@ -4,7 +4,7 @@
 #![tactic(auto)]
 
 ghost use Rattle.std.specs.Prelude.{◌<◌, ◌≡◌, false, ◌&&◌, eqb};
-ghost use Rattle.spec_exi.specs.Event.{AT, CH};
+ghost use Rattle.spec_exi.specs.Event.{AT as kind_at, CH as kind_ch};
 ghost use Rattle.event.specs.declared.Event.TheVariants.{Characters};
 ghost use Rattle.event_code.specs.Numbers.{in_tag};
 ghost use Rattle.mem_layout.specs.Layout.{name_rows};
@@ -179,7 +179,7 @@ pub fn known_characters(
     work: &mut [u32],
 ) -> Stepped
     requires step_pre { StepPre stream.old work.old c n }
-    requires learned_pre { LearnedPre CH work.old c 0 row }
+    requires learned_pre { LearnedPre kind_ch work.old c 0 row }
     ensures { KnownPost (alignment_of aligned) text.now (Characters value)
         stream.old work.old c n stream.new work.new result }
 {
@@ -214,7 +214,7 @@ pub fn known_attribute(
     work: &mut [u32],
 ) -> Stepped
     requires step_pre { StepPre stream.old work.old c 0 }
-    requires learned_pre { LearnedPre AT work.old c name row }
+    requires learned_pre { LearnedPre kind_at work.old c name row }
     requires mode_value { c.mode ≡ in_tag }
     requires name_lt_name_rows { name < name_rows }
     requires name_value { marked_in work.old c.tag name ≡ false }

@@ -5,7 +5,7 @@
 
 ghost use Rattle.std.specs.Prelude.{◌<◌, ◌≡◌, true};
 ghost use Rattle.spec_exi.specs.Sizes.{max_events, max_open};
-ghost use Rattle.spec_exi.specs.Event.{SE, EE};
+ghost use Rattle.spec_exi.specs.Event.{SE as kind_se, EE as kind_ee};
 ghost use Rattle.event.specs.declared.Event.TheVariants.{StartDocument, EndDocument};
 ghost use Rattle.event.specs.declared.Event.TheVariants.{EndElement};
 ghost use Rattle.event_code.specs.Numbers.{in_element};
@@ -40,7 +40,7 @@ pub fn known_element(
     work: &[u32],
 ) -> Stepped
     requires step_pre { StepPre stream.old work.now c n }
-    requires learned_pre { LearnedPre SE work.now c name row }
+    requires learned_pre { LearnedPre kind_se work.now c name row }
     requires name_value { flag_in work.now name ≡ true }
     requires depth_lt_max_open { c.depth < max_open }
     ensures { ElementPost (alignment_of aligned) name stream.old work.now c n
@@ -86,7 +86,7 @@ pub fn known_end(
     work: &[u32],
 ) -> Stepped
     requires step_pre { StepPre stream.old work.now c n }
-    requires learned_pre { LearnedPre EE work.now c 0 row }
+    requires learned_pre { LearnedPre kind_ee work.now c 0 row }
     ensures { TagPost (alignment_of aligned) fragment EndElement stream.old
         work.now c n stream.new result }
 {
