@@ -7,13 +7,13 @@ ghost use Rattle.event.specs.Cells.{as_span, meaning, judged, judged_as, cells_o
 ghost use Rattle.event.specs.Cells.{is_zeros, if_zeros, loaded_from};
 
 // A string: a place and a length in a text store.
-#[derive(Drop)]
+#[derive(Clone, Copy)]
 pub struct Part {
     pub place: u32,
     pub size: u32,
 }
 
-#[derive(Drop)]
+#[derive(Clone, Copy)]
 pub enum Event {
     StartDocument,
     EndDocument,
@@ -29,7 +29,7 @@ pub enum Event {
 }
 
 // What stored cells mean: an event, or one that is SHAPE by itself.
-#[derive(Drop)]
+#[derive(Clone, Copy)]
 pub enum Loaded {
     Whole(Event),
     Shape,
