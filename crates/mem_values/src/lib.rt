@@ -18,7 +18,7 @@ use mem_layout::{
     VALUE_RING, VALUE_SIZES, VALUE_TEXT_HEADS, VALUE_TEXT_NEXTS,
 };
 
-#[derive(Drop)]
+#[derive(Clone, Copy)]
 pub struct Value {
     pub owner: u32,
     pub number: u32,
@@ -180,7 +180,7 @@ pub fn nth_global(n: u32, low: u32, newer: u32, number: u32) -> u32
 }
 
 // How a value stands: by its name's numbers, by the global numbers, or not at all.
-#[derive(Drop)]
+#[derive(Clone, Copy)]
 pub enum Form {
     Local(u32),
     Global(u32),

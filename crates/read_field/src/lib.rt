@@ -20,7 +20,7 @@ const NUMBER: u8 = refusal::NUMBER as u8;
 const MOST: u64 = 2147483647;
 
 // What stands at a position: a number and the position after it, or the number of a refusal.
-#[derive(Drop)]
+#[derive(Clone, Copy)]
 pub enum Field {
     Value { value: u32, next: usize },
     Refused(u8),

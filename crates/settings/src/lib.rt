@@ -15,7 +15,7 @@ const MOST: u32 = MAX_VALUES as u32 + 1;
 // for yes; of the two for values (EXI 5.4; P5) 0 is unbounded, and n + 1 a bound n. The last three
 // are reserved: no number but 0 has a meaning yet.
 #[repr(C)]
-#[derive(Drop)]
+#[derive(Clone, Copy)]
 pub struct SettingNumbers {
     pub alignment: u32,
     pub cookie: u32,
@@ -31,7 +31,7 @@ pub struct SettingNumbers {
 
 // The longest value that joins and the capacity of the value partitions are as they were handed
 // over.
-#[derive(Drop)]
+#[derive(Clone, Copy)]
 pub struct Settings {
     pub aligned: bool,
     pub cookie: bool,
