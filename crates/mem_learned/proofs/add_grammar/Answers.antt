@@ -1,0 +1,9 @@
+use Rattle.mem_learned.specs.Grammars.{with_grammar_of}
+use mathlib.Core.Path.{refl}
+use borrow.Author.Rules.{rules}
+use Rattle.mem_learned.proofs.add_grammar.Goals as goal
+
+-- `add_grammar` meets its contract.
+pub returns : goal.returns
+unfolding with_grammar_of
+returns c = refl
