@@ -21,7 +21,7 @@ use mem_layout::{
 };
 
 // The number of a kind; the name and its number among its site's; the rows that named it.
-#[derive(Drop)]
+#[derive(Clone, Copy)]
 pub struct Production {
     pub kind: u32,
     pub name: u32,
