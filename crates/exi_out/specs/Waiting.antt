@@ -1,10 +1,11 @@
 -- Output that waits in a buffer.
-use Rattle.std.specs.Prelude.{ℕ, ◌+◌, false, cond, List, ltb, length, set}
+use Rattle.std.specs.Prelude.{ℕ, ◌+◌, cond, List, ltb, length, set, None}
+use Rattle.std.specs.declared.io.Stdout.{Stdout}
 use Rattle.exi_out.specs.declared.Out.{Out}
 
--- Nothing waits.
-abbrev pub none_waits : Out
-none_waits = record { at = 0; failed = false }
+-- Nothing waits, and no write failed.
+abbrev pub none_waits : Stdout → Out
+none_waits to = record { to = to; at = 0; failed = None }
 
 -- Where the next octet goes, in a buffer of n: behind those that wait, or to the start once they
 -- went out.

@@ -4,40 +4,49 @@
 ghost use Rattle.std.specs.Prelude.{◌≡◌, length};
 ghost use Rattle.exi_out.specs.Waiting.{none_waits, place_in, waiting_after, buffer_after};
 
-use libc::STDOUT_FILENO;
+use std::io::{Error, Print, Stdout};
 
-// How many octets wait, and whether a write failed.
-#[derive(Drop)]
+// Where it goes, how many octets wait, and why a write failed, the last one that did.
+#[derive(Clone, Copy)]
 pub struct Out {
+    pub to: Stdout,
     pub at: usize,
-    pub failed: bool,
+    pub failed: Option<Error>,
 }
 
-pub fn none() -> Out
-    ensures { result ≡ none_waits }
+pub fn none(to: Stdout) -> Out
+    ensures { result ≡ none_waits to }
 {
     Out {
+        to,
         at: 0,
-        failed: false,
+        failed: None,
     }
+}
+
+// That more waits than the buffer holds, or that it holds nothing.
+fn without_room() -> Error {
+    Error::other("the buffer is too short")
 }
 
 // Writes what waits.
 pub fn flush(buffer: &[u8], o: Out) -> Out
     ensures { result.at ≡ 0 }
 {
+    let to = o.to;
     let n = o.at;
     if buffer.len() < n {
         return Out {
+            to,
             at: 0,
-            failed: true,
+            failed: Some(without_room()),
         };
     }
-    let written = io::write_all(STDOUT_FILENO, &buffer[0..n]);
-    Out {
-        at: 0,
-        failed: o.failed | !written,
-    }
+    let failed = match to.write_all(&buffer[0..n]) {
+        Ok(()) => o.failed,
+        Err(e) => Some(e),
+    };
+    Out { to, at: 0, failed }
 }
 
 // Writes what waits where no octet more would fit.
@@ -57,10 +66,15 @@ pub fn put_octet(buffer: &mut [u8], o: Out, x: u8) -> Out
     let roomy = with_room(buffer, o);
     let at = roomy.at;
     if buffer.len() <= at {
-        return Out { at, failed: true };
+        return Out {
+            to: roomy.to,
+            at,
+            failed: Some(without_room()),
+        };
     }
     buffer[at] = x;
     Out {
+        to: roomy.to,
         at: at + 1,
         failed: roomy.failed,
     }
