@@ -9,7 +9,7 @@ use exi_out::Out;
 
 // How many packets were taken, and how many events were complete; the packet that was refused, 0
 // for none; and how many quarters are told.
-#[derive(Drop)]
+#[derive(Clone, Copy)]
 pub struct Told {
     pub packets: usize,
     pub events: u32,
