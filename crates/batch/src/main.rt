@@ -29,7 +29,7 @@ use settings::SettingNumbers;
 use sizes::{CELLS_PER_EVENT, EVENT_CELLS, MAX_STORE, MAX_STREAM, READER_WORK, WRITER_WORK};
 use writer::WriteReply;
 
-#[derive(Drop)]
+#[derive(Clone, Copy)]
 struct Request {
     numbers: SettingNumbers,
     next: usize,

@@ -6,14 +6,14 @@ ghost use Rattle.std.specs.Prelude.{◌≡◌, ◌+◌, ◌≤◌, length};
 use sizes::CELLS_PER_EVENT;
 use std::num::wrapping_add_usize;
 
-#[derive(Drop)]
+#[derive(Clone, Copy)]
 pub(crate) struct Numeral {
     pub(crate) value: u32,
     pub(crate) next: usize,
 }
 
 // How many octets or cells were laid.
-#[derive(Drop)]
+#[derive(Clone, Copy)]
 pub(crate) struct Laid {
     pub(crate) count: usize,
     pub(crate) next: usize,

@@ -6,14 +6,14 @@ use receiver_record::Receiver;
 use settings::SettingNumbers;
 
 // What closing answers, and the output.
-#[derive(Drop)]
+#[derive(Clone, Copy)]
 pub struct Ended {
     pub reply: ReadReply,
     pub out: Out,
 }
 
 // The record, what is told and the output, after some packets.
-#[derive(Drop)]
+#[derive(Clone, Copy)]
 pub struct Going {
     pub receiver: Receiver,
     pub told: Told,

@@ -9,11 +9,12 @@ use exi_words::{
     Number, PACKETS, Word,
 };
 use settings::SettingNumbers;
+use std::env::Env;
 
 // Which flags are given, and with which numbers, by their places in the table; how many files are
 // named; the flag that a number has to follow, 0 for none; whether only files follow; and the first
 // word that is wrong, 0 for none, with what is wrong of it.
-#[derive(Drop)]
+#[derive(Clone, Copy)]
 pub struct Asked {
     pub flags: [u32; FLAGS],
     pub numbers: [u32; FLAGS],
@@ -103,7 +104,7 @@ fn with_word(a: Asked, word: Word, at: usize, marks: &mut [u8]) -> Asked {
 }
 
 // What the words from the second on ask for, up to the first that is wrong. Files are marked.
-pub fn read_words(count: usize, marks: &mut [u8]) -> Asked {
+pub fn read_words<E: Env>(env: &E, count: usize, marks: &mut [u8]) -> Asked {
     let mut a = Asked {
         flags: [0; FLAGS],
         numbers: [0; FLAGS],
@@ -118,7 +119,7 @@ pub fn read_words(count: usize, marks: &mut [u8]) -> Asked {
         if a.wrong != 0 {
             return a;
         }
-        a = with_word(a, exi_words::word_at(i), i, marks);
+        a = with_word(a, exi_words::word_at(env, i), i, marks);
         i += 1;
     }
     a

@@ -1,31 +1,31 @@
 // Says which name is refused, and why: a line on standard error that begins with two spaces.
 #![tactic(auto)]
 
-use exi_say::tell;
-use libc::STDERR_FILENO;
+use exi_say::{tell, tell_hex};
 use sizes::MAX_STRING;
+use std::io::Stderr;
 
-fn tell_number(p: u32) {
-    tell(b"\\u{");
-    io::print_hex(STDERR_FILENO, p as u64, 1);
-    tell(b"}");
+fn tell_number(err: Stderr, p: u32) {
+    tell(err, b"\\u{");
+    tell_hex(err, p as u64);
+    tell(err, b"}");
 }
 
 // As it is where it is printable ASCII and no space.
-fn tell_code_point(p: u32) {
+fn tell_code_point(err: Stderr, p: u32) {
     if p < 33 {
-        tell_number(p);
+        tell_number(err, p);
     } else if 126 < p {
-        tell_number(p);
+        tell_number(err, p);
     } else {
-        tell(&[p as u8]);
+        tell(err, &[p as u8]);
     }
 }
 
-fn tell_code_points(x: &[u32]) {
+fn tell_code_points(err: Stderr, x: &[u32]) {
     let mut i = 0;
     while i < x.len() {
-        tell_code_point(x[i]);
+        tell_code_point(err, x[i]);
         i += 1;
     }
 }
@@ -42,23 +42,23 @@ fn has(x: &[u32], p: u32) -> bool {
 }
 
 // Why a text is no name.
-fn tell_cause(x: &[u32]) {
+fn tell_cause(err: Stderr, x: &[u32]) {
     if name_chars::is_xml(x) {
-        tell(b"; no target is xml, in any case\n");
+        tell(err, b"; no target is xml, in any case\n");
     } else if has(x, 58) {
-        tell(b"; it has a colon\n");
+        tell(err, b"; it has a colon\n");
     } else {
-        tell(b"; it is no XML name\n");
+        tell(err, b"; it is no XML name\n");
     }
 }
 
-fn tell_refused(name: &[u32], n: usize) {
+fn tell_refused(err: Stderr, name: &[u32], n: usize) {
     if name.len() < n {
         return;
     }
-    tell(b"  the name, by its octets: ");
-    tell_code_points(&name[0..n]);
-    tell_cause(&name[0..n]);
+    tell(err, b"  the name, by its octets: ");
+    tell_code_points(err, &name[0..n]);
+    tell_cause(err, &name[0..n]);
 }
 
 // Whether the event's octets up to that of the fault are too few for a new URI's text, which bit by
@@ -81,31 +81,34 @@ fn is_hit(stream: &[u8], octet: usize) -> bool {
 }
 
 // A name that no literal with a code point is: empty, or one of the initial entries.
-fn tell_other(stream: &[u8], aligned: bool, bit: usize, octet: usize) {
+fn tell_other(err: Stderr, stream: &[u8], aligned: bool, bit: usize, octet: usize) {
     let hit = is_hit(stream, octet);
-    tell(b"  the name is ");
+    tell(err, b"  the name is ");
     if !(aligned & hit) {
-        tell(b"empty");
+        tell(err, b"empty");
     }
     if !aligned {
-        tell(b", or ");
+        tell(err, b", or ");
     }
     if hit | !aligned {
-        tell(b"nil or type of XMLSchema-instance, which no attribute may have");
+        tell(
+            err,
+            b"nil or type of XMLSchema-instance, which no attribute may have",
+        );
     }
     if !is_known(aligned, bit, octet) {
-        tell(b", or stands behind a new URI");
+        tell(err, b", or stands behind a new URI");
     }
-    tell(b"\n");
+    tell(err, b"\n");
 }
 
 // Says it of an event that begins at a bit, where the fault shows at an octet.
-pub fn name(stream: &[u8], aligned: bool, bit: usize, octet: usize) {
+pub fn name(err: Stderr, stream: &[u8], aligned: bool, bit: usize, octet: usize) {
     let mut name = [0u32; MAX_STRING];
     let n = exi_name::refused(stream, aligned, bit, octet, &mut name);
     if n == 0 {
-        tell_other(stream, aligned, bit, octet);
+        tell_other(err, stream, aligned, bit, octet);
         return;
     }
-    tell_refused(&name, n);
+    tell_refused(err, &name, n);
 }

@@ -7,23 +7,25 @@ use exi_words::{
     WRITE_READINGS,
 };
 use sizes::MAX_VALUES;
+use std::env::Env;
+use std::io::Stderr;
 
 // What is wrong of words that are understood one by one, and answers whether anything is.
-fn misfit(command: usize, a: Asked) -> bool {
+fn misfit(err: Stderr, command: usize, a: Asked) -> bool {
     let flags = a.flags;
     let numbers = a.numbers;
     if (flags[BIT_PACKED] == 1) & (flags[BYTE_ALIGNED] == 1) {
-        exi_usage::complain(b"--bit-packed and --byte-aligned exclude each other");
+        exi_usage::complain(err, b"--bit-packed and --byte-aligned exclude each other");
     } else if (flags[MS] == 1) & (command != READINGS) {
-        exi_usage::complain(b"--ms goes with exi readings alone");
+        exi_usage::complain(err, b"--ms goes with exi readings alone");
     } else if (flags[UTF8] == 1) & (command != SHOW) {
-        exi_usage::complain(b"--utf8 goes with exi show alone");
+        exi_usage::complain(err, b"--utf8 goes with exi show alone");
     } else if (flags[PACKETS] == 1) & (command != CHECK) {
-        exi_usage::complain(b"--packets goes with exi check alone");
+        exi_usage::complain(err, b"--packets goes with exi check alone");
     } else if (flags[PACKETS] == 1) & (numbers[PACKETS] == 0) {
-        exi_usage::complain(b"a packet has at least 1 octet");
+        exi_usage::complain(err, b"a packet has at least 1 octet");
     } else if MAX_VALUES < numbers[CAPACITY] as usize {
-        exi_usage::complain(b"--capacity is at most 2048");
+        exi_usage::complain(err, b"--capacity is at most 2048");
     } else {
         return false;
     }
@@ -31,24 +33,24 @@ fn misfit(command: usize, a: Asked) -> bool {
 }
 
 // A flag that no number follows.
-fn unfinished(waiting: usize) {
+fn unfinished(err: Stderr, waiting: usize) {
     if waiting == MAX_LENGTH {
-        exi_usage::complain(b"no number follows --max-length");
+        exi_usage::complain(err, b"no number follows --max-length");
     } else if waiting == CAPACITY {
-        exi_usage::complain(b"no number follows --capacity");
+        exi_usage::complain(err, b"no number follows --capacity");
     } else {
-        exi_usage::complain(b"no number follows --packets");
+        exi_usage::complain(err, b"no number follows --packets");
     }
 }
 
 // How many files are named, against how many there should be.
-fn miscount(command: usize, files: usize) -> bool {
+fn miscount(err: Stderr, command: usize, files: usize) -> bool {
     if (command == WRITE_READINGS) & (files != 2) {
-        exi_usage::complain(b"write-readings wants CSV and OUT");
+        exi_usage::complain(err, b"write-readings wants CSV and OUT");
     } else if files == 0 {
-        exi_usage::complain(b"no FILE is named");
+        exi_usage::complain(err, b"no FILE is named");
     } else if (command == READINGS) & (files != 1) {
-        exi_usage::complain(b"readings wants one FILE");
+        exi_usage::complain(err, b"readings wants one FILE");
     } else {
         return false;
     }
@@ -56,17 +58,17 @@ fn miscount(command: usize, files: usize) -> bool {
 }
 
 // Says what is wrong of the words after a command, and answers whether anything is.
-pub fn is_wrong(command: usize, a: Asked) -> bool {
+pub fn is_wrong<E: Env>(err: Stderr, env: &E, command: usize, a: Asked) -> bool {
     if a.wrong != 0 {
-        exi_usage::wrong_word(a.wrong, a.fault);
+        exi_usage::wrong_word(err, env, a.wrong, a.fault);
         return true;
     }
     if a.waiting != 0 {
-        unfinished(a.waiting);
+        unfinished(err, a.waiting);
         return true;
     }
-    if misfit(command, a) {
+    if misfit(err, command, a) {
         return true;
     }
-    miscount(command, a.files)
+    miscount(err, command, a.files)
 }

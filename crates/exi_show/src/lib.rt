@@ -9,7 +9,7 @@ use exi_out::Out;
 use sizes::CELLS_PER_EVENT;
 
 // How events are shown: with code points in UTF-8, and with their indexes.
-#[derive(Drop)]
+#[derive(Clone, Copy)]
 pub struct Manner {
     pub utf8: bool,
     pub indexes: bool,
@@ -118,7 +118,7 @@ fn put_index(buffer: &mut [u8], o: Out, i: u32, shown: bool) -> Out {
 }
 
 // The output, and the depth behind an event's line.
-#[derive(Drop)]
+#[derive(Clone, Copy)]
 pub struct Shown {
     pub out: Out,
     pub depth: u32,

@@ -8,7 +8,7 @@ use event::Part;
 use exi_out::Out;
 
 // How a code point is shown: as it is, as a letter behind a backslash, or as its number.
-#[derive(Drop)]
+#[derive(Clone, Copy)]
 pub enum Shown {
     Plain(u8),
     Letter(u8),

@@ -3,63 +3,122 @@
 #![tactic(auto)]
 
 use exi_asked::{NO_NUMBER, TOO_MANY};
-use libc::{STDERR_FILENO, STDOUT_FILENO};
+use std::env::Env;
+use std::fmt::Write;
+use std::io::{Error, Print, Stderr, Stdout};
+use std::{fmt, str};
 
-fn tell(x: &[u8]) {
-    io::write_all(STDERR_FILENO, x);
+// What cannot be told is left out.
+fn tell(err: Stderr, x: &[u8]) {
+    let _ = err.write_all(x);
 }
 
-// The reason is errno's.
-pub fn unwritten(what: &[u8]) {
-    tell(b"exi: cannot write ");
-    os::fail(what);
+fn tell_decimal(err: Stderr, n: u64) {
+    let mut digits = [0u8; 20];
+    let k = io::decimal(n, &mut digits);
+    tell(err, &digits[..k]);
 }
 
-// The reason is errno's, which a write that succeeds leaves as it is.
-pub fn unread(what: &[u8]) {
-    tell(b"exi: cannot read ");
-    os::fail(what);
+// The first octets of a text, and how many there are.
+#[derive(Drop)]
+struct Text {
+    octets: [u8; 256],
+    size: usize,
+}
+
+impl Write for Text {
+    fn write_str(&mut self, s: &str) -> fmt::Result {
+        for x in s.as_bytes() {
+            if self.size < 256 {
+                self.octets[self.size] = *x;
+                self.size += 1;
+            }
+        }
+        Ok(())
+    }
+}
+
+// The system's text for a reason, without the number that the library puts behind it.
+fn without_number(text: &str) -> &str {
+    match text.split_once(" (os error ") {
+        Some((before, _)) => before,
+        None => text,
+    }
+}
+
+fn tell_octets(err: Stderr, octets: &[u8]) {
+    if let Ok(text) = str::from_utf8(octets) {
+        tell(err, without_number(text).as_bytes());
+    }
+}
+
+// What was not read or written, and why.
+fn fail(err: Stderr, what: &[u8], reason: Error) {
+    let mut text = Text {
+        octets: [0; 256],
+        size: 0,
+    };
+    let _ = write!(text, "{reason}");
+    tell(err, what);
+    tell(err, b": ");
+    if text.size <= 256 {
+        tell_octets(err, &text.octets[..text.size]);
+    }
+    tell(err, b"\n");
+}
+
+pub fn unwritten(err: Stderr, what: &[u8], reason: Error) {
+    tell(err, b"exi: cannot write ");
+    fail(err, what, reason);
+}
+
+pub fn unread(err: Stderr, what: &[u8], reason: Error) {
+    tell(err, b"exi: cannot read ");
+    fail(err, what, reason);
 }
 
 // A complaint, and where help is.
-pub fn complain(what: &[u8]) {
-    tell(b"exi: ");
-    tell(what);
-    tell(b"; exi --help tells the words\n");
+pub fn complain(err: Stderr, what: &[u8]) {
+    tell(err, b"exi: ");
+    tell(err, what);
+    tell(err, b"; exi --help tells the words\n");
 }
 
-fn tell_word(at: usize) {
+// One of more than 4096 octets is left out.
+fn tell_word<E: Env>(err: Stderr, env: &E, at: usize) {
     let mut word = io::buffer();
-    let n = os::arg(at, &mut word);
-    tell(&word[..n]);
+    if let Ok(n) = env.arg(at, &mut word) {
+        tell(err, &word[..n]);
+    }
 }
 
 // What is wrong of a word with this number, before the word itself. A number stands behind its
 // flag.
-fn reason(at: usize, fault: u32) {
+fn reason<E: Env>(err: Stderr, env: &E, at: usize, fault: u32) {
     if fault == NO_NUMBER {
-        tell(b" is no number from 0 to 4294967294, which ");
-        tell_word(std::num::wrapping_sub_usize(at, 1));
-        tell(b" wants: ");
+        tell(err, b" is no number from 0 to 4294967294, which ");
+        tell_word(err, env, std::num::wrapping_sub_usize(at, 1));
+        tell(err, b" wants: ");
     } else if fault == TOO_MANY {
-        tell(b" is one word too many: ");
+        tell(err, b" is one word too many: ");
     } else {
-        tell(b" is not understood: ");
+        tell(err, b" is not understood: ");
     }
 }
 
 // The word with this number, the command being 1.
-pub fn wrong_word(at: usize, fault: u32) {
-    tell(b"exi: word ");
-    io::print_decimal(STDERR_FILENO, at as u64);
-    reason(at, fault);
-    tell_word(at);
-    tell(b"; exi --help tells the words\n");
+pub fn wrong_word<E: Env>(err: Stderr, env: &E, at: usize, fault: u32) {
+    tell(err, b"exi: word ");
+    tell_decimal(err, at as u64);
+    reason(err, env, at, fault);
+    tell_word(err, env, at);
+    tell(err, b"; exi --help tells the words\n");
 }
 
 // What a call without words gets.
-pub fn hint() {
+pub fn hint(err: Stderr) {
     tell(
+        err,
         b"exi: no command: it is show, check, readings, write-readings or plot
   exi show FILE prints the events of a stream, exi check FILE whether it is accepted
   exi --help tells the rest
@@ -68,9 +127,8 @@ pub fn hint() {
 }
 
 // What help prints, on standard output.
-pub fn usage() {
-    let written = io::write_all(
-        STDOUT_FILENO,
+pub fn usage(out: Stdout, err: Stderr) {
+    let written = out.write_all(
         b"Reads EXI 1.0 streams without a schema, in strict form.
 
   exi show [FLAG..] FILE..  prints the events, one a line, and what the stream has;
@@ -109,7 +167,7 @@ error has number, name, event, reading or line, and reason, then lines that begi
 spaces. 2: something was not read or written, or a word is not understood.
 ",
     );
-    if !written {
-        unwritten(b"standard output");
+    if let Err(e) = written {
+        unwritten(err, b"standard output", e);
     }
 }

@@ -6,10 +6,11 @@ use exi_show::Manner;
 use mem_state::Core;
 use refusal::{HEADER, LIMIT, NAME, TAIL};
 use settings::SettingNumbers;
+use std::io::Stderr;
 
 // What is asked of a stream: its settings, whether its events are shown, in UTF-8, and in packets
 // of how many octets it is read, 0 for whole.
-#[derive(Drop)]
+#[derive(Clone, Copy)]
 pub struct Task {
     pub settings: SettingNumbers,
     pub shows: bool,
@@ -18,7 +19,7 @@ pub struct Task {
 }
 
 // What a stream has.
-#[derive(Drop)]
+#[derive(Clone, Copy)]
 pub struct Counts {
     pub events: u32,
     pub code_points: u32,
@@ -27,7 +28,7 @@ pub struct Counts {
 
 // How many octets of a stream are good, how many events are complete in them, and the state behind
 // these.
-#[derive(Drop)]
+#[derive(Clone, Copy)]
 pub struct Good {
     pub octets: usize,
     pub events: u32,
@@ -35,10 +36,10 @@ pub struct Good {
 }
 
 // Writes what waits, and says so where that fails.
-pub fn finish(buffer: &[u8], o: Out) {
+pub fn finish(err: Stderr, buffer: &[u8], o: Out) {
     let done = exi_out::flush(buffer, o);
-    if done.failed {
-        exi_usage::unwritten(b"standard output");
+    if let Some(e) = done.failed {
+        exi_usage::unwritten(err, b"standard output", e);
     }
 }
 
@@ -86,6 +87,7 @@ pub fn put_events(
 
 // A stream that is accepted.
 pub fn accept(
+    err: Stderr,
     buffer: &mut [u8],
     o: Out,
     t: Task,
@@ -98,30 +100,36 @@ pub fn accept(
     let b = put_file(buffer, a, file);
     let c = exi_out::put(buffer, b, b"accepted: ");
     let d = put_counts(buffer, c, n);
-    finish(buffer, d);
+    finish(err, buffer, d);
 }
 
 // Where the event with this index begins, if it is one and all events before it are known.
-fn explain_event(number: u32, index: u32, good: Good) {
+fn explain_event(err: Stderr, number: u32, index: u32, good: Good) {
     if good.events != index {
-        exi_why::unknown(good.events);
+        exi_why::unknown(err, good.events);
     } else if number != TAIL {
-        exi_why::event(good.core.at);
+        exi_why::event(err, good.core.at);
     }
 }
 
 // More on a refusal at the event with this index, by what is good before it.
-pub fn explain(t: Task, number: u32, index: u32, stream: &[u8], good: Good) {
+pub fn explain(err: Stderr, t: Task, number: u32, index: u32, stream: &[u8], good: Good) {
     if number == HEADER {
-        exi_why::header(stream, t.settings.cookie == 1);
+        exi_why::header(err, stream, t.settings.cookie == 1);
         return;
     }
-    explain_event(number, index, good);
-    exi_why::octet(good.octets, stream.len());
+    explain_event(err, number, index, good);
+    exi_why::octet(err, good.octets, stream.len());
     if number == LIMIT {
-        exi_why::limits(index, good.octets, good.core);
+        exi_why::limits(err, index, good.octets, good.core);
     }
     if number == NAME {
-        exi_cause::name(stream, t.settings.alignment == 1, good.core.at, good.octets);
+        exi_cause::name(
+            err,
+            stream,
+            t.settings.alignment == 1,
+            good.core.at,
+            good.octets,
+        );
     }
 }

@@ -5,6 +5,8 @@
 ghost use Rattle.std.specs.Prelude.{◌≡◌, length};
 ghost use Rattle.exi_words.specs.Words.{word_place, is_option, limited_to, number_of};
 
+use std::env::{Env, FillError};
+
 // A word's first 16 octets, zeros behind it.
 pub type Word = [u8; 16];
 
@@ -95,23 +97,34 @@ pub fn is_option(word: Word) -> bool
     (word[0] == b'-') & (word[1] != 0)
 }
 
+// How many words the command line has, the program's own name among them.
+pub fn count<E: Env>(env: &E) -> usize {
+    let mut first = [0u8; 1];
+    for i in 0..usize::MAX {
+        if let Err(FillError::NotPresent) = env.arg(i, &mut first) {
+            return i;
+        }
+    }
+    usize::MAX
+}
+
 // A word of the command line; zeros where there is none. One of more than 16 octets leaves its
 // first 16, which none of the table has.
-pub fn word_at(i: usize) -> Word
+pub fn word_at<E: Env>(env: &E, i: usize) -> Word
     ensures { 16 ≡ length result }
 {
     let mut word = [0u8; 16];
-    os::arg(i, &mut word);
+    let _ = env.arg(i, &mut word);
     word
 }
 
 // The place of a word of the command line.
-pub fn place_at(i: usize) -> usize {
-    place_of(word_at(i))
+pub fn place_at<E: Env>(env: &E, i: usize) -> usize {
+    place_of(word_at(env, i))
 }
 
 // A number, or none.
-#[derive(Drop)]
+#[derive(Clone, Copy)]
 pub enum Number {
     Is(u32),
     None,
