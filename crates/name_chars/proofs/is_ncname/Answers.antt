@@ -19,11 +19,11 @@ unfolding table classes class_of is_name_start is_name_char in_ranges in_range s
 is_name_start-requires c = refl
 
 pub returns-then-not-is_name_start : goal.returns-then-not-is_name_start
-returns-then-not-is_name_start c = first-stop _ (sym c.is_name_start.ensures ∙ not-true _ c.if-not-is_name_start.true-raw)
+returns-then-not-is_name_start c = first-stop _ (sym c.is_name_start.ensures ∙ c.if-not-is_name_start.true)
 
 pub loop-i-init : goal.loop-i-init
 loop-i-init c =
-    let good = sym c.is_name_start.ensures ∙ not-false _ c.if-not-is_name_start.false-raw in
+    let good = sym c.is_name_start.ensures ∙ c.if-not-is_name_start.false in
     (search rules, first_on _ c.if-x-eq0.false good)
 
 pub is_name_char-requires : goal.is_name_char-requires
@@ -35,7 +35,7 @@ returns-then-not-is_name_char c =
     let loop = c.loop-i in
     let loop-test = c.loop-i-test in
     let is-name-char = c.is_name_char in
-    let bad = sym is-name-char.ensures ∙ not-true _ c.if-not-is_name_char.true-raw in
+    let bad = sym is-name-char.ensures ∙ c.if-not-is_name_char.true in
     name-stop _ _ loop-test.true bad ∙ loop.invariant.1
 
 pub loop-i-preserved : goal.loop-i-preserved
@@ -43,7 +43,7 @@ loop-i-preserved c =
     let loop = c.loop-i in
     let loop-test = c.loop-i-test in
     let is-name-char = c.is_name_char in
-    let good = sym is-name-char.ensures ∙ not-false _ c.if-not-is_name_char.false-raw in
+    let good = sym is-name-char.ensures ∙ c.if-not-is_name_char.false in
     (search rules, name-on _ _ loop-test.true good ∙ loop.invariant.1)
 
 pub returns : goal.returns
