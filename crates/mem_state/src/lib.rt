@@ -2,6 +2,7 @@
 // rows are added to it. What memory holds is in specs/Holds.antt, what is added in
 // specs/Commit.antt.
 #![tactic(auto)]
+
 ghost use Rattle.std.specs.Prelude.{◌≡◌, ◌<◌};
 ghost use Rattle.mem_rows.specs.Rows.{content_after, mode_after};
 ghost use Rattle.mem_state.specs.Joining.{joining, no_strings, valued_strings};
@@ -20,7 +21,7 @@ use event_code::{
 // that is no attribute, that one counted. The settings for values, the longest that joins and the
 // capacity, as their numbers have them, never change; they stand where they take no more room.
 #[repr(C)]
-#[derive(Drop)]
+#[derive(Clone, Copy)]
 pub struct Core {
     pub at: usize,
     pub stored: usize,
@@ -39,7 +40,7 @@ pub struct Core {
 
 // The strings of an event: where each lies, and the hash of a name's or a value's text; the rows of
 // its URI and its name, and that of the name whose value it has; and which join their tables.
-#[derive(Drop)]
+#[derive(Clone, Copy)]
 pub struct Strings {
     pub uri_place: u32,
     pub uri_size: u32,
@@ -59,7 +60,7 @@ pub struct Strings {
 
 // What an event leaves in the grammars: whether its name gets an element grammar, and whether a
 // production of its kind and name is learned at a site.
-#[derive(Drop)]
+#[derive(Clone, Copy)]
 pub struct Growth {
     pub enters: bool,
     pub teaches: bool,
