@@ -1,9 +1,9 @@
 /*
  * Decodes an EXI stream and prints its events.
  *
- *   rt staticlib plumethrift
+ *   (cd crates/plumethrift && rt lib)
  *   cc -std=c99 -Wall -Wextra -Werror -Iinclude examples/decode.c \
- *     target/staticlib/libplumethrift.a -o target/decode
+ *     crates/plumethrift/out/libplumethrift.a -o target/decode
  *   printf '\200\001\002\141\003\003\142\000' | target/decode 1000 -
  *
  * The first argument is at most ten digits, the settings' numbers in the order of the header:

@@ -2,9 +2,9 @@
  * Reads an EXI stream from standard input in packets, and says after each how many events are
  * complete, as a gateway does with what a radio hands over.
  *
- *   rt staticlib plumethrift
+ *   (cd crates/plumethrift && rt lib)
  *   cc -std=c99 -Wall -Wextra -Werror -Iinclude examples/packets.c \
- *     target/staticlib/libplumethrift.a -o target/packets
+ *     crates/plumethrift/out/libplumethrift.a -o target/packets
  *   printf '\200\001\002\141\003\003\142\000' | target/packets 3 --byte-aligned
  *
  * The first argument is how many octets a packet has, 1 to 240. The flags after it say how the

@@ -2,9 +2,9 @@
  * Prints the readings of an EXI stream as CSV, a line each: the stamp as it stands in the stream,
  * in milliseconds since 2000-01-01T00:00:00.000Z, and the movement in micrometres.
  *
- *   rt staticlib plumethrift
+ *   (cd crates/plumethrift && rt lib)
  *   cc -std=c99 -Wall -Wextra -Werror -Iinclude examples/readings.c \
- *     target/staticlib/libplumethrift.a -o target/readings
+ *     crates/plumethrift/out/libplumethrift.a -o target/readings
  *   target/readings samples/day-bit-packed.exi
  *
  * The stream is bit-packed; with a second argument `--byte-aligned` it is not. Exit status: 0 read,

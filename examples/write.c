@@ -2,9 +2,9 @@
  * Writes the lines of standard input as an EXI stream: an element `lines` with a child `line` for
  * each, numbered by the attribute `n`.
  *
- *   rt staticlib plumethrift
+ *   (cd crates/plumethrift && rt lib)
  *   cc -std=c99 -Wall -Wextra -Werror -Iinclude examples/write.c \
- *     target/staticlib/libplumethrift.a -o target/write
+ *     crates/plumethrift/out/libplumethrift.a -o target/write
  *   printf 'eins\nzwei\n' | target/write --byte-aligned >target/lines.exi
  *
  * Lines are UTF-8 of up to 4,095 octets. The flags are --byte-aligned, --cookie, --comments,

@@ -1,9 +1,9 @@
 //! Finds the proved archive, or has it made, and links it.
 //!
-//! The archive is `target/staticlib/libplumethrift.a` below the repository's root. One that is
+//! The archive is `crates/plumethrift/out/libplumethrift.a` below the repository's root. One that is
 //! there is taken as it is, with a warning where its sources are newer; where there is none,
-//! `rt staticlib plumethrift` proves and writes it. `PLUMETHRIFT_ARCHIVE_DIR` may name another
-//! folder that has the archive, by its whole path.
+//! `rt lib`, called in `crates/plumethrift`, proves and writes it. `PLUMETHRIFT_ARCHIVE_DIR` may name
+//! another folder that has the archive, by its whole path.
 
 use std::path::{Path, PathBuf};
 use std::process::{exit, Command};
@@ -58,25 +58,29 @@ fn repository_folder() -> PathBuf {
         "cargo:rerun-if-changed={}",
         root.join("crates.txt").display()
     );
-    println!("cargo:rerun-if-changed={}", root.join("crates").display());
-    let folder = root.join("target").join("staticlib");
+    let sources = source_folders(&root.join("crates"));
+    for folder in &sources {
+        println!("cargo:rerun-if-changed={}", folder.display());
+    }
+    let package = root.join("crates").join("plumethrift");
+    let folder = package.join("out");
     let archive = folder.join(ARCHIVE);
     if !archive.is_file() {
         let begin = Instant::now();
-        make_archive(root);
+        make_archive(&package);
         if !archive.is_file() {
             stop(&format!(
-                "`rt staticlib plumethrift` left no '{}'",
+                "`rt lib` in crates/plumethrift left no '{}'",
                 archive.display()
             ));
         }
         let seconds = begin.elapsed().as_secs();
         say(&format!(
-            "`rt staticlib plumethrift` proved and wrote the archive in {seconds} s"
+            "`rt lib` in crates/plumethrift proved and wrote the archive in {seconds} s"
         ));
-    } else if changed(&archive) < newest_source(&root.join("crates")) {
+    } else if changed(&archive) < newest_source(&sources) {
         say(&format!(
-            "'{}' is older than its sources: `rt staticlib plumethrift` makes it anew",
+            "'{}' is older than its sources: `rt lib` in crates/plumethrift makes it anew",
             archive.display()
         ));
     }
@@ -86,20 +90,26 @@ fn repository_folder() -> PathBuf {
 /// Whether a crate is of the programs, and not of the library.
 fn is_outside(crate_folder: &Path) -> bool {
     let name = crate_folder.file_name().unwrap_or_default();
-    name == "streams" || name.to_string_lossy().starts_with("exi")
+    name == "batch" || name.to_string_lossy().starts_with("exi")
+}
+
+/// The entries of a folder, none where it cannot be read.
+fn entries(folder: &Path) -> impl Iterator<Item = PathBuf> {
+    let entries = fs::read_dir(folder).into_iter().flatten();
+    entries.filter_map(|entry| Some(entry.ok()?.path()))
+}
+
+/// The `src` of each crate of the library, beside which `rt` keeps its work.
+fn source_folders(crates: &Path) -> Vec<PathBuf> {
+    let library = entries(crates).filter(|folder| !is_outside(folder));
+    let sources = library.map(|folder| folder.join("src"));
+    sources.filter(|folder| folder.is_dir()).collect()
 }
 
 /// When the newest source of the library was changed.
-fn newest_source(folder: &Path) -> Option<SystemTime> {
-    let entries = fs::read_dir(folder).ok()?;
-    let paths = entries.filter_map(|entry| Some(entry.ok()?.path()));
-    let times = paths.map(|path| match path.extension() {
-        _ if is_outside(&path) => None,
-        _ if path.is_dir() => newest_source(&path),
-        Some(kind) if kind == "rt" => changed(&path),
-        _ => None,
-    });
-    times.max().flatten()
+fn newest_source(folders: &[PathBuf]) -> Option<SystemTime> {
+    let files = folders.iter().flat_map(|folder| entries(folder));
+    files.filter_map(|file| changed(&file)).max()
 }
 
 fn changed(file: &Path) -> Option<SystemTime> {
@@ -113,23 +123,21 @@ fn say(message: &str) {
 
 /// Proves the library and writes the archive. What `rt` says of each crate goes to this script's
 /// output: cargo shows it after a failure, and at once where it is called with `-vv`.
-fn make_archive(root: &Path) {
-    eprintln!("plumethrift: `rt staticlib plumethrift` proves the library, once: some minutes");
-    let status = match Command::new("rt")
-        .args(["staticlib", "plumethrift"])
-        .current_dir(root)
-        .status()
-    {
+fn make_archive(package: &Path) {
+    eprintln!(
+        "plumethrift: `rt lib` in crates/plumethrift proves the library, once: an hour or more"
+    );
+    let status = match Command::new("rt").arg("lib").current_dir(package).status() {
         Ok(status) => status,
         Err(error) => stop(&format!(
-            "there is no {ARCHIVE}, and `rt staticlib plumethrift`, which makes it, did not start: \
-             {error}\nPut the kit's `rt` on PATH, or let {FOLDER} name a folder that has it"
+            "there is no {ARCHIVE}, and `rt lib`, which makes it, did not start: {error}\nPut the \
+             kit's `rt` on PATH, or let {FOLDER} name a folder that has it"
         )),
     };
     if !status.success() {
         stop(&format!(
-            "`rt staticlib plumethrift` failed ({status}) in '{}'",
-            root.display()
+            "`rt lib` failed ({status}) in '{}'",
+            package.display()
         ));
     }
 }

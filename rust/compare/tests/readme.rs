@@ -80,7 +80,7 @@ fn what_the_c_program_prints() {
         .collect();
     assert!(!programs.is_empty());
     let archive = env::var_os("PLUMETHRIFT_ARCHIVE_DIR")
-        .map_or_else(|| root().join("target/staticlib"), PathBuf::from)
+        .map_or_else(|| root().join("crates/plumethrift/out"), PathBuf::from)
         .join("libplumethrift.a");
     for (block, after) in programs {
         let folder = Path::new(env!("CARGO_TARGET_TMPDIR"));
