@@ -2,6 +2,7 @@
 // store, and the rows of the three URIs and the six local names. What the contracts cite is in
 // specs/.
 #![tactic(auto)]
+
 ghost use Rattle.std.specs.Prelude.{◌≡◌, ◌+◌, ◌≤◌, length};
 ghost use Rattle.mem_layout.specs.Layout.{work_cells};
 ghost use Rattle.mem_initial.specs.Initial.{zeroed, initial_text};
