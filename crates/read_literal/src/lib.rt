@@ -22,7 +22,7 @@ struct Point {
 
 // The number of a refusal or 0; the position behind the string or, where code points are left, that
 // of the first of these; the hash of the text, 0 after a refusal.
-#[derive(Drop)]
+#[derive(Clone, Copy)]
 pub struct Literal {
     pub number: u32,
     pub next: usize,
