@@ -1,9 +1,9 @@
 //! Finds the proved archive, or has it made, and links it.
 //!
-//! The archive is `crates/plumethrift/out/libplumethrift.a` below the repository's root. One that is
-//! there is taken as it is, with a warning where its sources are newer; where there is none,
-//! `rt lib`, called in `crates/plumethrift`, proves and writes it. `PLUMETHRIFT_ARCHIVE_DIR` may name
-//! another folder that has the archive, by its whole path.
+//! The archive is `crates/plumethrift/out/libplumethrift.a` below the repository's root. One that
+//! is there is taken as it is, with a warning where its sources are newer; where there is none,
+//! `rt lib`, called in `crates/plumethrift`, proves and writes it. `PLUMETHRIFT_ARCHIVE_DIR` may
+//! name another folder that has the archive, by its whole path.
 
 use std::path::{Path, PathBuf};
 use std::process::{exit, Command};

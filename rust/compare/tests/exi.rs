@@ -817,8 +817,8 @@ fn output_that_is_a_closed_pipe() {
 }
 
 /// A repository of its own with the script and a kit that proves nothing: `rt run` says of one of
-/// two crates that it is proved, as of the other nothing has changed, and makes a program that prints
-/// its words.
+/// two crates that it is proved, nothing of the other, which has not changed, and makes a program
+/// that prints its words.
 fn scripted(test: &str) -> PathBuf {
     let folder = folder(test);
     for inner in ["bin", ".ci", "crates/exi/src"] {
@@ -833,7 +833,8 @@ fn scripted(test: &str) -> PathBuf {
     .unwrap();
     fs::write(folder.join("crates/exi/src/main.rt"), "").unwrap();
     let rt = folder.join("bin/rt");
-    let made = "#!/bin/sh\ntop=$(dirname \"$0\")/..\nif [ $1 = version ]; then cat \"$top/kit\"; exit; fi\n\
+    let made = "#!/bin/sh\ntop=$(dirname \"$0\")/..\n\
+                if [ $1 = version ]; then cat \"$top/kit\"; exit; fi\n\
                 echo 'crate exi: modules loaded=0 checked=2' >&2\n\
                 [ ! -e \"$top/fails\" ] || { echo 'fn exi::main: not proved' >&2; exit 1; }\n\
                 mkdir -p out\nprintf '#!/bin/sh\\necho \"$@\"\\n' >out/exi\n\
