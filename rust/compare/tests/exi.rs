@@ -816,11 +816,31 @@ fn output_that_is_a_closed_pipe() {
     }
 }
 
+/// A folder that goes with the test. It has a source, which `rt ci` refuses anywhere in this
+/// repository but among its crates.
+struct Scripted(PathBuf);
+
+impl std::ops::Deref for Scripted {
+    type Target = Path;
+
+    fn deref(&self) -> &Path {
+        &self.0
+    }
+}
+
+impl Drop for Scripted {
+    fn drop(&mut self) {
+        let _ = fs::remove_dir_all(&self.0);
+    }
+}
+
 /// A repository of its own with the script and a kit that proves nothing: `rt run` says of one of
 /// two crates that it is proved, nothing of the other, which has not changed, and makes a program
 /// that prints its words.
-fn scripted(test: &str) -> PathBuf {
-    let folder = folder(test);
+fn scripted(test: &str) -> Scripted {
+    let name = format!("plumethrift-{test}-{}", std::process::id());
+    let folder = std::env::temp_dir().join(name);
+    let _ = fs::remove_dir_all(&folder);
     for inner in ["bin", ".ci", "crates/exi/src"] {
         fs::create_dir_all(folder.join(inner)).unwrap();
     }
@@ -843,7 +863,7 @@ fn scripted(test: &str) -> PathBuf {
     fs::write(&rt, made).unwrap();
     fs::set_permissions(&rt, std::os::unix::fs::PermissionsExt::from_mode(0o755)).unwrap();
     fs::write(folder.join("kit"), "kit 1\n").unwrap();
-    folder
+    Scripted(folder)
 }
 
 fn run_scripted(folder: &Path, word: &str) -> (Option<i32>, String, String) {
