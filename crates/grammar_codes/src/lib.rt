@@ -21,7 +21,7 @@ use event_code::{
 pub const MAX_LEVELS: u32 = 3;
 
 // A level, and the number of a production there; MAX_LEVELS for none.
-#[derive(Drop)]
+#[derive(Clone, Copy)]
 pub struct Place {
     pub level: u32,
     pub value: u32,

@@ -24,7 +24,7 @@ use write_values::{NEITHER, ValueJudged};
 
 // The number of a refusal or 0; the code points in the store after the content; what is to join;
 // and of a value the partition that has it, and its compact identifier there.
-#[derive(Drop)]
+#[derive(Clone, Copy)]
 pub struct Content {
     pub number: u32,
     pub stored: usize,

@@ -30,7 +30,7 @@ use write_values::NEITHER;
 
 // The number of a refusal or 0; where the event's kind stands in the table, its code, its content
 // and what it leaves in the grammars.
-#[derive(Drop)]
+#[derive(Clone, Copy)]
 struct EventJudged {
     number: u32,
     place: Place,

@@ -16,7 +16,7 @@ use settings::Settings;
 
 // Whether the code is a learned production's; how many are learned in the state; and of a learned
 // one how many are newer, the value of its part.
-#[derive(Drop)]
+#[derive(Clone, Copy)]
 pub struct Code {
     pub learned: bool,
     pub count: u32,
