@@ -1,0 +1,15 @@
+use native.Mathlib.Omega.{arith}
+use Rattle.spec_exi.specs.Sizes.{max_store}
+use Rattle.read_values.proofs.Bounds.{find-asks}
+use borrow.Author.Rules.{rules}
+use Rattle.read_values.proofs.seek.Goals as goal
+
+pub overflow_cast-stored : goal.overflow_cast-stored
+unfolding max_store
+overflow_cast-stored c = omega (arith, c.requires.store)
+
+pub find-requires : goal.find-requires
+find-requires c = find-asks c.requires
+
+pub returns : goal.returns
+returns c = rw (← c.look_up-x.ensures.result_value, ← c.replaced-low.ensures.is) c.find.ensures
