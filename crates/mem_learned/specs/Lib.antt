@@ -1,2 +1,3 @@
 pub mod Learned
 pub mod Grammars
+pub mod Grows

@@ -1,2 +1,3 @@
 pub mod Uris
 pub mod Names
+pub mod Places

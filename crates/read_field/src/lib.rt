@@ -3,7 +3,7 @@
 
 ghost use Rattle.std.specs.Prelude.{◌≡◌, ◌+◌, ◌*◌, ◌/◌, ◌%◌, ◌^◌, ◌≤◌, ◌<◌, length, drop};
 ghost use Rattle.spec_fields.specs.Bits.{unpack};
-ghost use Rattle.spec_fields.specs.Field.{bit_packed, octet, number_field, width};
+ghost use Rattle.spec_fields.specs.Field.{bit_packed, byte_aligned, octet, number_field, width};
 ghost use Rattle.spec_fields.specs.Field.{unsigned};
 ghost use Rattle.read_field.specs.declared.Field.TheVariants.{Value};
 ghost use Rattle.read_field.specs.View.{field_at, alignment_of, InStream, NumberPre};
@@ -112,11 +112,42 @@ pub fn exchanged(x: u32) -> u32
     (x & 255) * 256 + (x >> 8)
 }
 
+// The fewest octets that hold n bits, least significant first: none, one or two.
+fn octets(s: &[u8], at: usize, n: u32) -> Field
+    requires { NumberPre s.now at n 16 }
+    ensures { result ≡ field_at (number_field byte_aligned n) s.now at }
+{
+    if n == 0 {
+        return Field::Value { value: 0, next: at };
+    }
+    if n <= 8 {
+        return few_bits(s, at, 8);
+    }
+    match bits(s, at, 16) {
+        Field::Value { value, next } => Field::Value {
+            value: exchanged(value),
+            next,
+        },
+        Field::Refused(k) => Field::Refused(k),
+    }
+}
+
 pub fn octet(s: &[u8], at: usize) -> Field
     requires { InStream s.now at }
     ensures { result ≡ field_at octet s.now at }
 {
     few_bits(s, at, 8)
+}
+
+// A number of n bits.
+pub fn number(aligned: bool, s: &[u8], at: usize, n: u32) -> Field
+    requires { NumberPre s.now at n 16 }
+    ensures { result ≡ field_at (number_field (alignment_of aligned) n) s.now at }
+{
+    if aligned {
+        return octets(s, at, n);
+    }
+    bits(s, at, n)
 }
 
 // How many bits a choice among m takes.
