@@ -1,21 +1,19 @@
 -- The learned production of a name that its tables have.
 use Rattle.std.specs.Prelude.{ℕ, ◌-◌, ◌≤◌, ◌<◌, ◌≡◌, Bool, true, cond, ◌&&◌, ◌||◌, List, length, eqb, ltb}
 use Rattle.text.specs.Text.{inside}
-use Rattle.spec_exi.specs.Sizes.{max_string, max_uris, max_names, max_learned}
+use Rattle.spec_exi.specs.Sizes.{max_string}
 use Rattle.name_rules.specs.Names.{is_reserved}
 use Rattle.event.specs.declared.Part.{Part}
 use Rattle.event.specs.Cells.{as_span}
-use Rattle.mem_layout.specs.Layout.{name_rows, work_cells}
+use Rattle.mem_layout.specs.Layout.{name_rows}
 use Rattle.mem_chain.specs.Chain.{first_that}
 use Rattle.mem_entries.specs.Texts.{hash_of}
 use Rattle.mem_names.specs.Uris.{uri_store, uri_has_text}
 use Rattle.mem_names.specs.Names.{name_store, name_found_in}
 use Rattle.mem_state.specs.declared.Core.{Core}
-use Rattle.grammar_match.specs.Here.{CountedHere}
 use Rattle.grammar_match.specs.Found.{found_here, FoundHere}
 use Rattle.write_partition.specs.Judged.{found_as}
 use Rattle.write_qname.specs.Premise.{part_at}
-use Rattle.write_qname.specs.Qnames as qname
 use Rattle.write_qname.specs.Qnames.{named_as, NamePost}
 use Rattle.write_known.specs.declared.NameFound.{NameFound}
 
@@ -28,60 +26,46 @@ pub record Named (opening text : List ℕ) (attr : Bool) (uri local : Part) (c :
   pub post : NamePost opening text attr uri local c work
       (named_as uri local (found_as u c.stored) (found_as name c.stored))
 
-unfoldable pub uri_found : List ℕ → List ℕ → Part → ℕ → List ℕ → ℕ
-uri_found opening text uri uris work =
-    first_that (uri_has_text work (uri_store opening text) (part_at text uri)) uris
+unfoldable pub uri_found : List ℕ → List ℕ → Part → Core → List ℕ → ℕ
+uri_found opening text uri c work =
+    first_that (uri_has_text work (uri_store opening text) (part_at text uri)) c.uris
 
 -- Its row and 1, or 0: too long, reserved, or not there.
-unfoldable pub known_in : List ℕ → List ℕ → Bool → Part → Part → ℕ → ℕ → List ℕ → ℕ
-known_in opening text attr uri local uris names work =
+unfoldable pub known_in : List ℕ → List ℕ → Bool → Part → Part → Core → List ℕ → ℕ
+known_in opening text attr uri local c work =
     let x = part_at text local in
-    cond (eqb (uri_found opening text uri uris work) 0) 0
+    cond (eqb (uri_found opening text uri c work) 0) 0
     (cond (ltb max_string (length x) || (attr && is_reserved (part_at text uri) x)) 0
-    (name_found_in work (name_store opening text) (uri_found opening text uri uris work - 1) x
-    (hash_of x) names))
+    (name_found_in work (name_store opening text) (uri_found opening text uri c work - 1) x (hash_of x)
+    c.names))
 
--- Work memory has its size, and there are no more rows than there may be.
-pub record NamePre (work : List ℕ) (uris names : ℕ) : Type 0 where
-  pub room : work_cells ≤ length work
-  pub uris-few : uris ≤ max_uris
-  pub names-few : names ≤ max_names
-
-pub record KnownName (opening text : List ℕ) (attr : Bool) (uri local : Part) (uris names : ℕ)
+pub record KnownName (opening text : List ℕ) (attr : Bool) (uri local : Part) (c : Core)
     (work : List ℕ) (r : ℕ) : Type 0 where
-  pub is : r ≡ known_in opening text attr uri local uris names work
-  pub few : r ≤ names
-  pub named : 0 < r → (c : Core) → qname.NamePre work c → c.uris ≡ uris → c.names ≡ names
-      → Named opening text attr uri local c work (r - 1)
+  pub is : r ≡ known_in opening text attr uri local c work
+  pub few : r ≤ c.names
+  pub named : 0 < r → Named opening text attr uri local c work (r - 1)
 
 -- ---- its production
 
 abbrev pub unknown_as : NameFound
 unknown_as = record { name = 0; row = 0 }
 
--- What is found where so many productions are learned: nothing where none is.
-unfoldable pub learned_in : List ℕ → List ℕ → ℕ → Part → Part → ℕ → ℕ → ℕ → ℕ → ℕ → List ℕ → ℕ
-    → NameFound
-learned_in opening text kind uri local uris names mode top learned work count =
-    let k = known_in opening text (eqb kind 3) uri local uris names work in
-    cond (eqb count 0) unknown_as
-    (cond (inside text (as_span uri) && inside text (as_span local))
+unfoldable pub learned_in : List ℕ → List ℕ → ℕ → Part → Part → Core → List ℕ → NameFound
+learned_in opening text kind uri local c work =
+    let k = known_in opening text (eqb kind 3) uri local c work in
+    cond (inside text (as_span uri) && inside text (as_span local))
     (cond (eqb k 0) unknown_as
-    (record { name = k - 1; row = found_here work mode top kind (k - 1) learned }))
-    unknown_as)
+    (record {
+      name = k - 1;
+      row = found_here work c.mode c.top kind (k - 1) c.learned;
+    }))
+    unknown_as
 
-pub record SearchPre (work : List ℕ) (uris names top learned : ℕ) : Type 0 where
-  pub rows : NamePre work uris names
-  pub low : top < name_rows
-  pub few : learned ≤ max_learned
-
-pub record LearnedName (opening text : List ℕ) (kind : ℕ) (uri local : Part)
-    (uris names mode top learned : ℕ) (work : List ℕ) (r : NameFound) : Type 0 where
-  pub count : ℕ
-  pub counted : CountedHere work mode top count
-  pub is : r ≡ learned_in opening text kind uri local uris names mode top learned work count
+pub record LearnedName (opening text : List ℕ) (kind : ℕ) (uri local : Part) (c : Core)
+    (work : List ℕ) (r : NameFound) : Type 0 where
+  pub is : r ≡ learned_in opening text kind uri local c work
   pub low : r.name < name_rows
   pub within : 0 < r.row → (inside text (as_span uri) ≡ true) × (inside text (as_span local) ≡ true)
-  pub named : 0 < r.row → (c : Core) → qname.NamePre work c → c.uris ≡ uris → c.names ≡ names
-      → Named opening text (eqb kind 3) uri local c work r.name
-  pub found : 0 < r.row → FoundHere work mode top kind r.name learned r.row
+  pub named : 0 < r.row → Named opening text (eqb kind 3) uri local c work r.name
+  pub found : 0 < r.row
+      → FoundHere work c.mode c.top kind r.name c.learned r.row

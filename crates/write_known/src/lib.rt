@@ -3,7 +3,7 @@
 // have. What the functions ask and leave is in specs/.
 #![tactic(auto)]
 
-ghost use Rattle.std.specs.Prelude.{◌<◌, ◌≡◌, false, ◌&&◌, eqb};
+ghost use Rattle.std.specs.Prelude.{◌<◌, ◌≡◌, false, eqb};
 ghost use Rattle.spec_exi.specs.Event.{AT as kind_at, CH as kind_ch};
 ghost use Rattle.event.specs.declared.Event.TheVariants.{Characters};
 ghost use Rattle.event_code.specs.Numbers.{in_tag};
@@ -13,9 +13,8 @@ ghost use Rattle.read_field.specs.View.{alignment_of};
 ghost use Rattle.write_event.specs.Step.{StepPre};
 ghost use Rattle.write_known.specs.Known.{PutLearnedPre, LearnedPut, KeepPre, ValueKept};
 ghost use Rattle.write_known.specs.Known.{LearnedPre, KnownPost, AttributePost};
-ghost use Rattle.name_rules.specs.Names.{is_reserved};
-ghost use Rattle.write_known.specs.Names.{NamePre, KnownName, unknown_as};
-ghost use Rattle.write_known.specs.Names.{SearchPre, LearnedName};
+ghost use Rattle.write_qname.specs.Qnames.{NamePre};
+ghost use Rattle.write_known.specs.Names.{KnownName, unknown_as, LearnedName};
 
 use event::Part;
 use event_code::{AT, CH};
@@ -41,16 +40,6 @@ fn unknown() -> NameFound
     NameFound { name: 0, row: 0 }
 }
 
-// Whether a name is one that no attribute may have, where it is an attribute's.
-fn is_refused(attr: bool, y: &[u32], x: &[u32]) -> bool
-    ensures { result ≡ attr && is_reserved y.now x.now }
-{
-    if attr {
-        return name_rules::is_reserved(y, x);
-    }
-    false
-}
-
 // The row and 1 of a name that its tables have, and that may be an attribute's where attr; else 0.
 fn known_name(
     opening: &[u32],
@@ -58,58 +47,48 @@ fn known_name(
     attr: bool,
     uri: Part,
     local: Part,
-    uris: u32,
-    names: u32,
+    c: Core,
     work: &[u32],
 ) -> u32
-    requires { NamePre work.now uris names }
-    ensures { KnownName opening.now text.now attr uri local uris names
-        work.now result }
+    requires { NamePre work.now c }
+    ensures { KnownName opening.now text.now attr uri local c work.now
+        result }
 {
     let y = text::look_up(text, uri.place, uri.size);
-    let u = mem_names::find_uri(work, opening, text, y, uris);
+    let u = mem_names::find_uri(work, opening, text, y, c.uris);
     if u == 0 {
         return 0;
     }
     let x = text::look_up(text, local.place, local.size);
-    if (MAX_STRING < x.len()) | is_refused(attr, y, x) {
+    if (MAX_STRING < x.len()) | (attr & name_rules::is_reserved(y, x)) {
         return 0;
     }
     let h = mem_entries::hash(x);
-    mem_names::find_name(work, opening, text, u - 1, x, h, names)
+    mem_names::find_name(work, opening, text, u - 1, x, h, c.names)
 }
 
 // The learned production that fits an event of this kind and name, whose strings its tables have.
-// Given are the numbers of a core that it goes by, so that the core stays in registers.
 pub fn learned_name(
     opening: &[u32],
     text: &[u32],
     kind: u32,
     uri: Part,
     local: Part,
-    uris: u32,
-    names: u32,
-    mode: u32,
-    top: u32,
-    learned: u32,
+    c: Core,
     work: &[u32],
 ) -> NameFound
-    requires { SearchPre work.now uris names top learned }
-    ensures { LearnedName opening.now text.now kind uri local uris names mode top
-        learned work.now result }
+    requires { NamePre work.now c }
+    ensures { LearnedName opening.now text.now kind uri local c
+        work.now result }
 {
-    let count = grammar_match::count_here(mode, top, work);
-    if count == 0 {
-        return unknown();
-    }
     if !(write_event::is_inside(text, uri) & write_event::is_inside(text, local)) {
         return unknown();
     }
-    let k = known_name(opening, text, kind == AT, uri, local, uris, names, work);
+    let k = known_name(opening, text, kind == AT, uri, local, c, work);
     if k == 0 {
         return unknown();
     }
-    let row = grammar_match::find_learned(mode, top, kind, k - 1, learned, work);
+    let row = grammar_match::find_learned(c.mode, c.top, kind, k - 1, c.learned, work);
     NameFound { name: k - 1, row }
 }
 

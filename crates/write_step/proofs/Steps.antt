@@ -23,10 +23,9 @@ use Rattle.mem_learned.specs.Grammars.{flag_in}
 use Rattle.mem_state.specs.declared.Core.{Core}
 use Rattle.grammar_match.specs.Found.{FoundHere}
 use Rattle.grammar_stepped.specs.declared.Stepped.{Stepped}
-use Rattle.write_qname.specs.Qnames.{NamePre}
 use Rattle.write_event.specs.Step.{StepPre, StepPost}
 use Rattle.write_known.specs.declared.NameFound.{NameFound}
-use Rattle.write_known.specs.Names.{SearchPre, LearnedName}
+use Rattle.write_known.specs.Names.{LearnedName}
 use Rattle.write_known.specs.Known.{AttributePost}
 use Rattle.write_tags.specs.Tags.{ElementPost}
 
@@ -107,20 +106,6 @@ as_first pre =
       early = omega arith;
     }
 
-name-asks : {stream work : List ℕ} {c : Core} {n : ℕ} → StepPre stream work c n → NamePre work c
-name-asks pre = record { room = pre.rows; bounded = pre.bounded }
-
--- What the search for a name asks.
-pub search-asks : {stream work : List ℕ} {c : Core} {n : ℕ} → StepPre stream work c n
-    → SearchPre work c.uris c.names c.top c.learned
-search-asks pre =
-    let b = pre.bounded in
-    record {
-      rows = record { room = pre.rows; uris-few = b.uris; names-few = b.names };
-      low = b.top;
-      few = b.learned;
-    }
-
 -- A step by copies of the settings and the core is a step by them.
 pub copied-asks : {d c : Core} → d ≡ c → {stream work : List ℕ} {n : ℕ} → StepPre stream work c n
     → StepPre stream work d n
@@ -137,25 +122,22 @@ copied-step {p} {o} {d} {c} {q} {r} e₁ e₂ e₃ {opening} {text} {e} {stream}
 
 module _ {opening text : List ℕ} {uri local : Part} {c : Core} {work : List ℕ} {f : NameFound} {n : ℕ}
     {a : Alignment} {stream stream' : List ℕ} {r : Stepped} {b : Bool} where
-  pub element-step : StepPre stream work c n
-      → LearnedName opening text 2 uri local c.uris c.names c.mode c.top c.learned work f
-      → b ≡ flag_in work f.name
+  pub element-step : LearnedName opening text 2 uri local c work f → b ≡ flag_in work f.name
       → ((eqb f.row 0 || not b) || leb 100 c.depth) || ltb c.mode in_tag ≡ false
       → ElementPost a f.name stream work c n stream' r → (s : Settings) → s.alignment ≡ a
       → StepPost s opening text (meaning (StartElement uri local)) stream work c n stream' work r
-  element-step pre l is t p s same =
+  element-step l is t p s same =
       let some = (element-tests f.row c.depth c.mode b t).0 in
       let (u, v) = l.within some in
-      p.steps s same opening text uri local u v (l.named some c (name-asks pre) refl refl)
+      p.steps s same opening text uri local u v (l.named some)
 
-  pub attribute-step : StepPre stream work c n
-      → LearnedName opening text 3 uri local c.uris c.names c.mode c.top c.learned work f
+  pub attribute-step : LearnedName opening text 3 uri local c work f
       → b ≡ marked_in work c.tag f.name
       → (eqb f.row 0 || b) || not (eqb c.mode in_tag) ≡ false → {value : Part} {work' : List ℕ}
       → AttributePost a text value f.name stream work c stream' work' r
-      → (s : Settings) → s.alignment ≡ a
+      → n < max_events → (s : Settings) → s.alignment ≡ a
       → StepPost s opening text (meaning (Attribute uri local value)) stream work c n stream' work' r
-  attribute-step pre l is t p s same =
+  attribute-step l is t p early s same =
       let some = (attribute-tests f.row c.mode b t).0 in
       let (u, v) = l.within some in
-      p.steps n pre.early s same opening uri local u v (l.named some c (name-asks pre) refl refl)
+      p.steps n early s same opening uri local u v (l.named some)

@@ -88,9 +88,7 @@ fn start_element(
         (meaning (StartElement uri local)) stream.old work.old c n
         stream.new work.new result }
 {
-    let f = write_known::learned_name(
-        opening, text, SE, uri, local, c.uris, c.names, c.mode, c.top, c.learned, work,
-    );
+    let f = write_known::learned_name(opening, text, SE, uri, local, c, work);
     let has = mem_learned::has_grammar(work, f.name);
     if (f.row == 0) | !has | (MAX_OPEN <= c.depth) | (c.mode < IN_TAG) {
         return write_new::new_element(o, stream, opening, text, uri, local, n, c, work);
@@ -115,9 +113,7 @@ fn attribute(
         (meaning (Attribute uri local value)) stream.old work.old c n
         stream.new work.new result }
 {
-    let f = write_known::learned_name(
-        opening, text, AT, uri, local, c.uris, c.names, c.mode, c.top, c.learned, work,
-    );
+    let f = write_known::learned_name(opening, text, AT, uri, local, c, work);
     let marked = mem_marks::is_marked(work, f.name, c.tag);
     if (f.row == 0) | marked | (c.mode != IN_TAG) {
         return write_new::new_attribute(o, stream, opening, text, uri, local, value, n, c, work);

@@ -1,4 +1,4 @@
-use Rattle.write_step.proofs.Steps.{attribute-step, search-asks}
+use Rattle.write_step.proofs.Steps.{attribute-step}
 use mathlib.Core.Path.{refl, sym, ◌∙◌}
 use Rattle.spec_exi.specs.Grammar.{kind_number}
 use Rattle.settings.specs.Meant.{settings_from}
@@ -8,7 +8,7 @@ use Rattle.write_step.proofs.attribute.Statement.{statement}
 use Rattle.write_step.proofs.attribute.Tie as tie
 
 learned-name-requires : tie.Need-learned-name-requires
-learned-name-requires c κs = search-asks c.before.before.before.before.before.requires
+learned-name-requires c κs = search rules
 
 is-marked-requires : tie.Need-is-marked-requires
 is-marked-requires c κs = search rules
@@ -54,8 +54,8 @@ returns-2 c =
     let is-marked = if1.before.before.before in
     let learned-name = is-marked.before.before in
     let start = learned-name.before.before.before.before.before.before in
-    attribute-step start.requires learned-name.learned-name.ensures
-    is-marked.is-marked.ensures if1.if1.false known-attribute.known-attribute.ensures _
+    attribute-step learned-name.learned-name.ensures
+    is-marked.is-marked.ensures if1.if1.false known-attribute.known-attribute.ensures start.requires.early _
     refl
 
 pub attribute-spec : {M : Type 1} → statement M

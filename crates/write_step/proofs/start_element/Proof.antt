@@ -1,4 +1,4 @@
-use Rattle.write_step.proofs.Steps.{element-step, search-asks}
+use Rattle.write_step.proofs.Steps.{element-step}
 use mathlib.Core.Path.{refl, sym, ◌∙◌}
 use Rattle.spec_exi.specs.Sizes.{max_open}
 use Rattle.spec_exi.specs.Grammar.{kind_number}
@@ -9,7 +9,7 @@ use Rattle.write_step.proofs.start_element.Statement.{statement}
 use Rattle.write_step.proofs.start_element.Tie as tie
 
 learned-name-requires : tie.Need-learned-name-requires
-learned-name-requires c κs = search-asks c.before.before.before.before.before.requires
+learned-name-requires c κs = search rules
 
 has-grammar-requires : tie.Need-has-grammar-requires
 has-grammar-requires c κs = search rules
@@ -55,7 +55,7 @@ returns-2 c =
     let has-grammar = if1.before.before.before.before in
     let learned-name = has-grammar.before.before in
     let start = learned-name.before.before.before.before.before.before in
-    element-step start.requires learned-name.learned-name.ensures
+    element-step learned-name.learned-name.ensures
     has-grammar.has-grammar.ensures if1.if1.false known-element.known-element.ensures _
     refl
 
