@@ -27,6 +27,7 @@ use parse::{Laid, Numeral};
 use reader::ReadReply;
 use settings::SettingNumbers;
 use sizes::{CELLS_PER_EVENT, EVENT_CELLS, MAX_STORE, MAX_STREAM, READER_WORK, WRITER_WORK};
+use std::io::{Read, Stdin, Stdout};
 use writer::WriteReply;
 
 #[derive(Clone, Copy)]
@@ -37,35 +38,38 @@ struct Request {
 
 const CELL: u32 = 0xA5A5A5A5;
 
-fn show_read(r: ReadReply, cells: &[u32], store: &[u32], work: &[u32]) {
-    print::head(r.number, r.index, b" - -");
-    let are_events = print::events(cells, r.events);
-    let is_text = print::code_points(store, 0, r.code_points as usize);
-    let are_zero = print::code_points(cells, CELLS_PER_EVENT * r.events as usize, 0);
-    print::end(are_events & is_text & are_zero & print::code_points(work, 0, 0));
+fn show_read(out: Stdout, r: ReadReply, cells: &[u32], store: &[u32], work: &[u32]) {
+    print::head(out, r.number, r.index, b" - -");
+    let are_events = print::events(out, cells, r.events);
+    let is_text = print::code_points(out, store, 0, r.code_points as usize);
+    let are_zero = print::code_points(out, cells, CELLS_PER_EVENT * r.events as usize, 0);
+    print::end(
+        out,
+        are_events & is_text & are_zero & print::code_points(out, work, 0, 0),
+    );
 }
 
 // Calls the reader, with 3 cells more than the sizes of each part.
-fn read(s: SettingNumbers, stream: &[u8]) {
+fn read(out: Stdout, s: SettingNumbers, stream: &[u8]) {
     let mut cells = [CELL; EVENT_CELLS + 3];
     let mut store = [CELL; MAX_STORE + 3];
     let mut work = [CELL; READER_WORK + 3];
     let r = reader::read(s, stream, &mut cells, &mut store, &mut work);
-    show_read(r, &cells, &store, &work);
+    show_read(out, r, &cells, &store, &work);
 }
 
-fn show_written(r: WriteReply, stream: &[u8], work: &[u32]) {
-    print::head(r.number, r.index, b" -");
-    let are_octets = print::octets(stream, r.octets as usize);
-    print::end(are_octets & print::code_points(work, 0, 0));
+fn show_written(out: Stdout, r: WriteReply, stream: &[u8], work: &[u32]) {
+    print::head(out, r.number, r.index, b" -");
+    let are_octets = print::octets(out, stream, r.octets as usize);
+    print::end(out, are_octets & print::code_points(out, work, 0, 0));
 }
 
 // The same for the writer.
-fn write(s: SettingNumbers, cells: &[u32], text: &[u32]) {
+fn write(out: Stdout, s: SettingNumbers, cells: &[u32], text: &[u32]) {
     let mut stream = [0xA5u8; MAX_STREAM + 3];
     let mut work = [CELL; WRITER_WORK + 3];
     let r = writer::write(s, &mut stream, cells, text, &mut work);
-    show_written(r, &stream, &work);
+    show_written(out, r, &stream, &work);
 }
 
 fn first_octets(x: &[u8], n: usize) -> &[u8] {
@@ -170,18 +174,18 @@ fn store_at(line: &[u8], at: usize, store: &mut [u32]) -> Laid {
     laid_at(line, at, parse::numbers(line, at, b',', 16, 16, store, 0))
 }
 
-fn answer_read(line: &[u8]) -> bool {
+fn answer_read(out: Stdout, line: &[u8]) -> bool {
     let a = asked(line);
     let mut octets = [0u8; 20000];
     let o = laid_at(line, a.next, parse::octets(line, a.next, &mut octets));
     if o.next != line.len() {
         return false;
     }
-    read(a.numbers, first_octets(&octets, o.count));
+    read(out, a.numbers, first_octets(&octets, o.count));
     true
 }
 
-fn answer_write(line: &[u8]) -> bool {
+fn answer_write(out: Stdout, line: &[u8]) -> bool {
     let a = asked(line);
     let mut cells = [0u32; 5000 * CELLS_PER_EVENT];
     let mut store = [0u32; 20000];
@@ -191,11 +195,11 @@ fn answer_write(line: &[u8]) -> bool {
         return false;
     }
     let events = first_cells(&cells, e.count);
-    write(a.numbers, events, first_cells(&store, t.count));
+    write(out, a.numbers, events, first_cells(&store, t.count));
     true
 }
 
-fn answer_look_up(line: &[u8]) -> bool {
+fn answer_look_up(out: Stdout, line: &[u8]) -> bool {
     let place = setting(line, 1);
     let size = setting(line, place.next);
     let mut store = [0u32; 20000];
@@ -204,28 +208,28 @@ fn answer_look_up(line: &[u8]) -> bool {
         return false;
     }
     let x = text::look_up(first_cells(&store, t.count), place.value, size.value);
-    io::print_decimal(1, x.len() as u64);
-    print::code_points(x, 0, x.len());
-    print::end(true);
+    print::decimal(out, x.len() as u64);
+    print::code_points(out, x, 0, x.len());
+    print::end(out, true);
     true
 }
 
-fn copy(line: &[u8]) -> bool {
-    io::write_all(1, line);
-    print::end(true);
+fn copy(out: Stdout, line: &[u8]) -> bool {
+    print::put(out, line);
+    print::end(out, true);
     true
 }
 
 // Tells whether the line is a request or a comment.
-fn answer(line: &[u8]) -> bool {
+fn answer(out: Stdout, line: &[u8]) -> bool {
     if line.len() == 0 {
         return false;
     }
     match line[0] {
-        b'#' => copy(line),
-        b'r' => answer_read(line),
-        b'w' => answer_write(line),
-        b'l' => answer_look_up(line),
+        b'#' => copy(out, line),
+        b'r' => answer_read(out, line),
+        b'w' => answer_write(out, line),
+        b'l' => answer_look_up(out, line),
         _ => false,
     }
 }
@@ -235,20 +239,20 @@ fn wide(o: u8) -> u32 {
 }
 
 // An octet of standard input; 256 at its end.
-fn next_octet() -> u32 {
+fn next_octet(mut input: Stdin) -> u32 {
     let mut one = [0u8; 1];
-    if io::read_full(0, &mut one) == 0 {
-        return 256;
+    match input.read(&mut one) {
+        Ok(1) => wide(one[0]),
+        _ => 256,
     }
-    wide(one[0])
 }
 
 // Reads a line, and tells its length; all of the room where standard input has no line left that
 // fits it.
-fn read_line(line: &mut [u8]) -> usize {
+fn read_line(input: Stdin, line: &mut [u8]) -> usize {
     let mut n = 0;
     while n < line.len() {
-        let b = next_octet();
+        let b = next_octet(input);
         if b == 10 {
             return n;
         }
@@ -262,22 +266,24 @@ fn read_line(line: &mut [u8]) -> usize {
 }
 
 // Tells whether there was a line.
-fn answer_line() -> bool {
+fn answer_line(input: Stdin, out: Stdout) -> bool {
     let mut line = io::large_buffer();
-    let n = read_line(&mut line);
+    let n = read_line(input, &mut line);
     if n == 65536 {
         return false;
     }
-    if !answer(first_octets(&line, n)) {
-        io::write_all(1, b"?\n");
+    if !answer(out, first_octets(&line, n)) {
+        print::put(out, b"?\n");
     }
     true
 }
 
 // A proved loop ends: no input has as many lines.
-fn main() {
+fn main(rt: HostRuntime) {
+    let input = rt.stdin();
+    let out = rt.stdout();
     let mut turns = u64::MAX;
-    while turns > 0 && answer_line() {
+    while turns > 0 && answer_line(input, out) {
         turns -= 1;
     }
 }

@@ -4,42 +4,87 @@ use exi_asked::Asked;
 use exi_verdict::Task;
 use exi_words::{MS, PACKETS, READINGS, SHOW, UTF8, WRITE_READINGS};
 use sizes::MAX_STREAM;
+use std::env::{Env, FillError};
+use std::fs::Files;
+use std::io::{Error, Input, Stderr, Stdout};
+
+// The system's numbers of a word that is not there, and of a name that is too long.
+const EINVAL: i32 = 22;
+
+const ENAMETOOLONG: i32 = 36;
 
 // Takes one octet more than a stream may have, so that the reader itself refuses a longer one.
-fn answer_file(command: usize, t: Task, in_ms: bool, several: bool, name: &[u8]) {
+fn answer_file<R: Files + Input>(
+    rt: &R,
+    out: Stdout,
+    err: Stderr,
+    command: usize,
+    t: Task,
+    in_ms: bool,
+    several: bool,
+    name: &[u8],
+) {
     let mut octets = [0u8; MAX_STREAM + 1];
-    let got = exi_files::read(name, &mut octets);
-    if got.failed {
-        exi_usage::unread(name);
+    let got = exi_files::read(rt, name, &mut octets);
+    if let Some(e) = got.failed {
+        exi_usage::unread(err, name, e);
         return;
     }
     let n = got.octets;
     if command == READINGS {
-        stream::print_readings(t, in_ms, &octets[..n]);
+        stream::print_readings(out, err, t, in_ms, &octets[..n]);
     } else if several {
-        stream::judge_stream(t, name, &octets[..n]);
+        stream::judge_stream(out, err, t, name, &octets[..n]);
     } else {
-        stream::judge_stream(t, b"", &octets[..n]);
+        stream::judge_stream(out, err, t, b"", &octets[..n]);
+    }
+}
+
+// Why a word is not read.
+fn reason(e: FillError) -> Error {
+    match e {
+        FillError::NotPresent => Error::from_raw_os_error(EINVAL),
+        FillError::TooLong => Error::from_raw_os_error(ENAMETOOLONG),
     }
 }
 
 // The command on the file that a word names.
-fn answer_word(command: usize, t: Task, in_ms: bool, several: bool, at: usize) {
+fn answer_word<R: Env + Files + Input>(
+    rt: &R,
+    out: Stdout,
+    err: Stderr,
+    command: usize,
+    t: Task,
+    in_ms: bool,
+    several: bool,
+    at: usize,
+) {
     let mut name = io::buffer();
-    let n = os::arg(at, &mut name);
-    if os::errno() != 0 {
-        exi_usage::unread(b"the name of FILE");
-        return;
-    }
-    answer_file(command, t, in_ms, several, &name[..n]);
+    let n = match rt.arg(at, &mut name) {
+        Ok(n) => n,
+        Err(e) => {
+            exi_usage::unread(err, b"the name of FILE", reason(e));
+            return;
+        }
+    };
+    answer_file(rt, out, err, command, t, in_ms, several, &name[..n]);
 }
 
 // The command on each file.
-fn answer_words(command: usize, t: Task, in_ms: bool, several: bool, marks: &[u8]) {
+fn answer_words<R: Env + Files + Input>(
+    rt: &R,
+    out: Stdout,
+    err: Stderr,
+    command: usize,
+    t: Task,
+    in_ms: bool,
+    several: bool,
+    marks: &[u8],
+) {
     let mut i = 0;
     while i < marks.len() {
         if marks[i] == 1 {
-            answer_word(command, t, in_ms, several, i);
+            answer_word(rt, out, err, command, t, in_ms, several, i);
         }
         i += 1;
     }
@@ -58,23 +103,23 @@ fn marked(marks: &[u8], from: usize) -> usize {
 }
 
 // Whether a word is a file, and stands for standard input.
-fn is_input(marks: &[u8], at: usize) -> bool {
+fn is_input<E: Env>(env: &E, marks: &[u8], at: usize) -> bool {
     if marks.len() <= at {
         return false;
     }
     if marks[at] != 1 {
         return false;
     }
-    let word = exi_words::word_at(at);
+    let word = exi_words::word_at(env, at);
     (word[0] == b'-') & (word[1] == 0)
 }
 
 // Whether more than one of the files is standard input.
-fn reads_input_twice(marks: &[u8]) -> bool {
+fn reads_input_twice<E: Env>(env: &E, marks: &[u8]) -> bool {
     let mut seen = false;
     let mut i = 0;
     while i < marks.len() {
-        if is_input(marks, i) {
+        if is_input(env, marks, i) {
             if seen {
                 return true;
             }
@@ -85,22 +130,39 @@ fn reads_input_twice(marks: &[u8]) -> bool {
     false
 }
 
-fn write_readings(a: Asked, marks: &[u8]) {
+fn write_readings<R: Env + Files + Input>(
+    rt: &R,
+    out: Stdout,
+    err: Stderr,
+    a: Asked,
+    marks: &[u8],
+) {
     let first = marked(marks, 0);
     let second = marked(marks, std::num::wrapping_add_usize(first, 1));
     let mut csv = io::buffer();
-    let n = os::arg(first, &mut csv);
-    if os::errno() != 0 {
-        exi_usage::unread(b"the name of CSV");
-        return;
-    }
+    let n = match rt.arg(first, &mut csv) {
+        Ok(n) => n,
+        Err(e) => {
+            exi_usage::unread(err, b"the name of CSV", reason(e));
+            return;
+        }
+    };
     let mut name = io::buffer();
-    let m = os::arg(second, &mut name);
-    if os::errno() != 0 {
-        exi_usage::unread(b"the name of OUT");
-        return;
-    }
-    write::write_file(exi_asked::settings_of(a), &csv[..n], &name[..m]);
+    let m = match rt.arg(second, &mut name) {
+        Ok(m) => m,
+        Err(e) => {
+            exi_usage::unread(err, b"the name of OUT", reason(e));
+            return;
+        }
+    };
+    write::write_file(
+        rt,
+        out,
+        err,
+        exi_asked::settings_of(a),
+        &csv[..n],
+        &name[..m],
+    );
 }
 
 fn task(command: usize, a: Asked) -> Task {
@@ -115,20 +177,30 @@ fn task(command: usize, a: Asked) -> Task {
 }
 
 // The command, where its words fit.
-pub(crate) fn ask(command: usize, a: Asked, marks: &[u8]) {
-    if exi_fit::is_wrong(command, a) {
+pub(crate) fn ask<R: Env + Files + Input>(
+    rt: &R,
+    out: Stdout,
+    err: Stderr,
+    command: usize,
+    a: Asked,
+    marks: &[u8],
+) {
+    if exi_fit::is_wrong(err, rt, command, a) {
         return;
     }
     if command == WRITE_READINGS {
-        write_readings(a, marks);
+        write_readings(rt, out, err, a, marks);
         return;
     }
-    if reads_input_twice(marks) {
-        exi_usage::complain(b"FILE is - for standard input once alone");
+    if reads_input_twice(rt, marks) {
+        exi_usage::complain(err, b"FILE is - for standard input once alone");
         return;
     }
     let flags = a.flags;
     answer_words(
+        rt,
+        out,
+        err,
         command,
         task(command, a),
         flags[MS] == 1,

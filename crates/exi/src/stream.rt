@@ -6,10 +6,12 @@ use reader::ReadReply;
 use readings_from::MAX_READINGS;
 use refusal::LONG;
 use sizes::{EVENT_CELLS, MAX_STORE, MAX_STREAM, READER_WORK};
+use std::io::{Stderr, Stdout};
 
 // A stream that is refused for what its octets are: the events before the fault, then the refusal,
 // what can be told of it, and settings that accept the stream.
 fn refuse_octets(
+    err: Stderr,
     buffer: &mut [u8],
     o: Out,
     t: Task,
@@ -23,14 +25,15 @@ fn refuse_octets(
 ) {
     let good = exi_fault::good_events(t.settings, stream, r.index, held, cells, store, work);
     let a = exi_verdict::put_events(buffer, o, t, true, cells, good.events, store);
-    exi_verdict::finish(buffer, a);
-    exi_say::refused(file, r.number, r.index);
-    exi_verdict::explain(t, r.number, r.index, stream, good);
-    tries::suggestions(t.settings, stream, cells, store, work);
+    exi_verdict::finish(err, buffer, a);
+    exi_say::refused(err, file, r.number, r.index);
+    exi_verdict::explain(err, t, r.number, r.index, stream, good);
+    tries::suggestions(err, t.settings, stream, cells, store, work);
 }
 
 // A stream that is refused.
 fn refuse(
+    err: Stderr,
     buffer: &mut [u8],
     o: Out,
     t: Task,
@@ -43,15 +46,16 @@ fn refuse(
     work: &mut [u32],
 ) {
     if r.number <= LONG {
-        exi_verdict::finish(buffer, o);
-        exi_say::refused(file, r.number, r.index);
+        exi_verdict::finish(err, buffer, o);
+        exi_say::refused(err, file, r.number, r.index);
         return;
     }
-    refuse_octets(buffer, o, t, file, r, stream, held, cells, store, work);
+    refuse_octets(err, buffer, o, t, file, r, stream, held, cells, store, work);
 }
 
 // The verdict that was read.
 fn verdict(
+    err: Stderr,
     buffer: &mut [u8],
     o: Out,
     t: Task,
@@ -64,7 +68,7 @@ fn verdict(
     work: &mut [u32],
 ) {
     if r.number != 0 {
-        refuse(buffer, o, t, file, r, stream, held, cells, store, work);
+        refuse(err, buffer, o, t, file, r, stream, held, cells, store, work);
         return;
     }
     let n = Counts {
@@ -72,11 +76,12 @@ fn verdict(
         code_points: r.code_points,
         octets: stream.len(),
     };
-    exi_verdict::accept(buffer, o, t, file, n, cells, store);
+    exi_verdict::accept(err, buffer, o, t, file, n, cells, store);
 }
 
 // The verdict, of the stream whole or in packets.
 fn judge(
+    err: Stderr,
     buffer: &mut [u8],
     o: Out,
     t: Task,
@@ -89,26 +94,27 @@ fn judge(
 ) {
     if t.packet == 0 {
         let r = reader::read(t.settings, stream, cells, store, work);
-        verdict(buffer, o, t, file, r, stream, held, cells, store, work);
+        verdict(err, buffer, o, t, file, r, stream, held, cells, store, work);
         return;
     }
     let e = pieces::read(
         buffer, o, t.settings, stream, t.packet, held, cells, store, work,
     );
     verdict(
-        buffer, e.out, t, file, e.reply, stream, held, cells, store, work,
+        err, buffer, e.out, t, file, e.reply, stream, held, cells, store, work,
     );
 }
 
-pub(crate) fn judge_stream(t: Task, file: &[u8], stream: &[u8]) {
+pub(crate) fn judge_stream(out: Stdout, err: Stderr, t: Task, file: &[u8], stream: &[u8]) {
     let mut buffer = io::large_buffer();
     let mut held = [0u8; MAX_STREAM];
     let mut cells = [0u32; EVENT_CELLS];
     let mut store = [0u32; MAX_STORE];
     let mut work = [0u32; READER_WORK];
     judge(
+        err,
         &mut buffer,
-        exi_out::none(),
+        exi_out::none(out),
         t,
         file,
         stream,
@@ -121,6 +127,8 @@ pub(crate) fn judge_stream(t: Task, file: &[u8], stream: &[u8]) {
 
 // The refusal of a stream that has no readings.
 fn refuse_readings(
+    out: Stdout,
+    err: Stderr,
     buffer: &mut [u8],
     t: Task,
     number: u32,
@@ -131,7 +139,7 @@ fn refuse_readings(
     work: &mut [u32],
 ) {
     if refusal::STRUCTURE <= number {
-        exi_say::refused(b"", number, index);
+        exi_say::refused(err, b"", number, index);
         return;
     }
     let r = ReadReply {
@@ -141,12 +149,14 @@ fn refuse_readings(
         code_points: 0,
     };
     let mut held = [0u8; MAX_STREAM];
-    let o = exi_out::none();
-    refuse(buffer, o, t, b"", r, stream, &mut held, cells, store, work);
+    let o = exi_out::none(out);
+    refuse(
+        err, buffer, o, t, b"", r, stream, &mut held, cells, store, work,
+    );
 }
 
 // The readings of a stream, as a table.
-pub(crate) fn print_readings(t: Task, in_ms: bool, stream: &[u8]) {
+pub(crate) fn print_readings(out: Stdout, err: Stderr, t: Task, in_ms: bool, stream: &[u8]) {
     let mut stamps = [0u64; MAX_READINGS];
     let mut movements = [0u32; MAX_READINGS];
     let mut buffer = io::large_buffer();
@@ -164,6 +174,8 @@ pub(crate) fn print_readings(t: Task, in_ms: bool, stream: &[u8]) {
     );
     if r.number != 0 {
         refuse_readings(
+            out,
+            err,
             &mut buffer,
             t,
             r.number,
@@ -175,7 +187,7 @@ pub(crate) fn print_readings(t: Task, in_ms: bool, stream: &[u8]) {
         );
         return;
     }
-    let o = exi_out::none();
+    let o = exi_out::none(out);
     let a = exi_table::put_table(&mut buffer, o, in_ms, &stamps, &movements, r.readings);
-    exi_verdict::finish(&buffer, a);
+    exi_verdict::finish(err, &buffer, a);
 }

@@ -3,6 +3,7 @@ ghost use Rattle.std.specs.Prelude.{◌≤◌};
 
 use exi_say::tell;
 use settings::SettingNumbers;
+use std::io::Stderr;
 
 // How many settings are tried: one for each set of the flags for a stream, with both bounds of
 // values as they are asked for, then without the first, without the second, and without either.
@@ -43,43 +44,43 @@ fn settings_at(k: u32, asked: SettingNumbers) -> SettingNumbers {
     }
 }
 
-fn flag(given: u32, x: &[u8]) {
+fn flag(err: Stderr, given: u32, x: &[u8]) {
     if given == 1 {
-        tell(x);
+        tell(err, x);
     }
 }
 
 // A bound n is n + 1 in the settings.
-fn bound(given: u32, x: &[u8]) {
+fn bound(err: Stderr, given: u32, x: &[u8]) {
     if given != 0 {
-        tell(x);
-        exi_say::tell_decimal((given - 1) as u64);
+        tell(err, x);
+        exi_say::tell_decimal(err, (given - 1) as u64);
     }
 }
 
 // The flags of settings.
-fn tell_flags(s: SettingNumbers) {
-    flag(s.alignment, b" --byte-aligned");
-    flag(s.cookie, b" --cookie");
-    flag(s.comments, b" --comments");
-    flag(s.instructions, b" --instructions");
-    flag(s.fragment, b" --fragment");
-    bound(s.value_length, b" --max-length ");
-    bound(s.value_capacity, b" --capacity ");
+fn tell_flags(err: Stderr, s: SettingNumbers) {
+    flag(err, s.alignment, b" --byte-aligned");
+    flag(err, s.cookie, b" --cookie");
+    flag(err, s.comments, b" --comments");
+    flag(err, s.instructions, b" --instructions");
+    flag(err, s.fragment, b" --fragment");
+    bound(err, s.value_length, b" --max-length ");
+    bound(err, s.value_capacity, b" --capacity ");
 }
 
 fn is_bounded(s: SettingNumbers) -> bool {
     (s.value_length != 0) | (s.value_capacity != 0)
 }
 
-fn suggest(k: u32, s: SettingNumbers) {
+fn suggest(err: Stderr, k: u32, s: SettingNumbers) {
     if (k % FLAG_SETS == 0) & !is_bounded(s) {
-        tell(b"  accepted without flags\n");
+        tell(err, b"  accepted without flags\n");
         return;
     }
-    tell(b"  accepted with");
-    tell_flags(s);
-    tell(b"\n");
+    tell(err, b"  accepted with");
+    tell_flags(err, s);
+    tell(err, b"\n");
 }
 
 // Whether settings with a smaller number are the same: a bound is dropped that is not asked for.
@@ -91,6 +92,7 @@ fn is_again(k: u32, asked: SettingNumbers) -> bool {
 // Tries the settings with this number, and says so where they accept the stream. Answers how many
 // do: 1 or none.
 fn accepted(
+    err: Stderr,
     k: u32,
     asked: SettingNumbers,
     stream: &[u8],
@@ -107,12 +109,13 @@ fn accepted(
     if reader::read(s, stream, cells, store, work).number != 0 {
         return 0;
     }
-    suggest(k, s);
+    suggest(err, k, s);
     1
 }
 
 // Says of at most two settings that they accept the stream.
 pub(crate) fn suggestions(
+    err: Stderr,
     asked: SettingNumbers,
     stream: &[u8],
     cells: &mut [u32],
@@ -122,7 +125,7 @@ pub(crate) fn suggestions(
     let mut found = 0;
     let mut k = 0;
     while k < TRIED {
-        found += accepted(k, asked, stream, cells, store, work);
+        found += accepted(err, k, asked, stream, cells, store, work);
         if found == 2 {
             return;
         }
