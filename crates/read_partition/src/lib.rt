@@ -10,7 +10,7 @@ ghost use Rattle.read_partition.specs.Strings.{refused_as, found_as, literal_as,
 // are left, that of the first of these; where the string lies; its row in its table, or the row
 // that it is to have; the code points in the store; and whether it is to join, with the hash of its
 // text.
-#[derive(Drop)]
+#[derive(Clone, Copy)]
 pub struct StringRead {
     pub number: u32,
     pub next: usize,

@@ -23,7 +23,7 @@ use settings::Settings;
 // names; whether that is a learned one and, if so, the row of the name that it carries or 0, and
 // the rows of the URI and of the name that named it. After a refusal all but the number is 0, and
 // the position is where the code began.
-#[derive(Drop)]
+#[derive(Clone, Copy)]
 pub struct ProductionRead {
     pub number: u32,
     pub next: usize,
