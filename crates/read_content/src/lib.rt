@@ -4,7 +4,7 @@
 #![tactic(auto)]
 
 ghost use Rattle.std.specs.Prelude.{◌≡◌, false};
-ghost use Rattle.spec_exi.specs.Event.{SE as kind_se, AT as kind_at, CH as kind_ch, CM as kind_cm, PI as kind_pi};
+ghost use Rattle.spec_exi.specs.Event.{SE as kind_se, AT as kind_att, CH as kind_ch, CM as kind_cm, PI as kind_pi};
 ghost use Rattle.spec_exi.specs.Grammar.{kind_number};
 ghost use Rattle.spec_fields.specs.Field.{Alignment};
 ghost use Rattle.mem_rows.specs.Rows.{kind_at};
@@ -104,7 +104,7 @@ fn read_attribute(
     work: &[u32],
 ) -> Content
     requires content_pre { ContentPre stream.now at text.old work.now c p }
-    requires kind_value { p.kind ≡ kind_number kind_at }
+    requires kind_value { p.kind ≡ kind_number kind_att }
     requires learned_value { p.learned ≡ false }
     ensures { ContentPost (alignment_of aligned) stream.now at text.old
         work.now c p text.new result }
