@@ -1,0 +1,78 @@
+use native.Mathlib.Omega.{arith}
+use Rattle.spec_fields.specs.Refusal.{number_of}
+use Rattle.read_event.proofs.Steps.{numbered}
+use Rattle.read_known.proofs.Values.{attribute-equal, attribute-stepped}
+use Rattle.read_known.proofs.Values.{value-asks, clear-asks, join-asks, attribute-stopped}
+use borrow.Author.Rules.{rules}
+use Rattle.read_known.proofs.known_attribute.Goals as goal
+
+pub read_value-x-requires : goal.read_value-x-requires
+read_value-x-requires c =
+    value-asks c.requires.step_pre c.requires.learned_pre c.requires.learned_pre.bounds.name
+
+pub returns-then-x-ne0 : goal.returns-then-x-ne0
+returns-then-x-ne0 c =
+    rw c.answer.ensures (record {
+      numbered = λ n early. record {
+        steps = λ s a q. attribute-stopped (numbered c.requires.step_pre early) q c.requires.learned_pre.learned a
+            c.read_value-x.ensures.joins_within c.requires.learned_pre.kind c.read_value-x.ensures.value_post
+            (omega (arith, c.if-x-ne0.true));
+      };
+    })
+
+pub overflow_sub-x : goal.overflow_sub-x
+overflow_sub-x c =
+    (clear-asks c.requires.step_pre c.requires.learned_pre c.read_value-x.ensures.value_post c.if-x-ne0.false).0
+
+pub clear_cells-requires : goal.clear_cells-requires
+clear_cells-requires c =
+    (clear-asks c.requires.step_pre c.requires.learned_pre c.read_value-x.ensures.value_post c.if-x-ne0.false).1
+
+pub returns-then-is_marked : goal.returns-then-is_marked
+unfolding number_of
+returns-then-is_marked c =
+    rw c.answer-then-is_marked.ensures (record {
+      numbered = λ n early. record {
+        steps = λ s a q. attribute-equal (numbered c.requires.step_pre early) q c.requires.learned_pre.learned a
+            c.read_value-x.ensures.joins_within c.requires.learned_pre.kind c.read_value-x.ensures.value_post
+            c.if-x-ne0.false c.is_marked.ensures c.if-is_marked.true
+            c.clear_cells.ensures;
+      };
+    })
+
+pub attribute-event-requires : goal.attribute-event-requires
+attribute-event-requires c =
+    record {
+      uri_row_pre = record {
+        room = c.requires.step_pre.rows;
+        low = c.requires.learned_pre.bounds.uri;
+      };
+      name_row_pre = record { room = c.requires.step_pre.rows; low = c.requires.learned_pre.bounds.local };
+    }
+
+pub store-requires : goal.store-requires
+store-requires c =
+    c.requires.step_pre.cells
+
+pub keep-requires : goal.keep-requires
+keep-requires c =
+    join-asks c.requires.step_pre c.requires.learned_pre c.read_value-x.ensures.joins_within c.requires.learned_pre.bounds.name
+
+pub moved_on-requires : goal.moved_on-requires
+moved_on-requires c =
+    c.requires.step_pre.bounded
+
+pub shape_of-text : goal.shape_of-text
+shape_of-text c =
+    c.text-1.given
+
+pub returns : goal.returns
+returns c =
+    rw c.moved_on.ensures (record {
+      numbered = λ n early. record {
+        steps = λ s a q. attribute-stepped (numbered c.requires.step_pre early) q c.requires.learned_pre.learned a
+            c.read_value-x.ensures.joins_within c.requires.learned_pre.kind c.read_value-x.ensures.value_post
+            c.if-x-ne0.false c.is_marked.ensures c.if-is_marked.false c.part_of.ensures
+            c.attribute-event.ensures c.store.ensures c.keep.ensures;
+      };
+    })
