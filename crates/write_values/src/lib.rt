@@ -52,7 +52,7 @@ pub const NEITHER: u32 = 2;
 
 // The number of a refusal or 0; the partition that has the value, and its compact identifier there;
 // the code points in the store after it; and whether it is to join, with the hash of its text.
-#[derive(Drop)]
+#[derive(Clone, Copy)]
 pub struct ValueJudged {
     pub number: u32,
     pub partition: u32,
