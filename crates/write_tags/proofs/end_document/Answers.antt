@@ -1,0 +1,14 @@
+use Rattle.write_tags.proofs.Documents.{last_of, document-ended}
+use borrow.Author.Rules.{rules}
+use Rattle.write_tags.proofs.end_document.Goals as goal
+
+pub outer-requires : goal.outer-requires
+outer-requires c =
+    record {
+      step_pre = c.requires.step_pre;
+      outer_pre = last_of _ _ c.requires.mode_value;
+    }
+
+pub returns : goal.returns
+returns c =
+    document-ended c.requires.step_pre c.requires.mode_value c.requires.found_here c.outer.ensures
