@@ -6,14 +6,14 @@ use receiver_record::Receiver;
 use settings::SettingNumbers;
 
 // What closing answers, and the output.
-#[derive(Clone, Copy)]
+#[derive(Drop)]
 pub struct Ended {
     pub reply: ReadReply,
     pub out: Out,
 }
 
 // The record, what is told and the output, after some packets.
-#[derive(Clone, Copy)]
+#[derive(Drop)]
 pub struct Going {
     pub receiver: Receiver,
     pub told: Told,
@@ -119,8 +119,8 @@ fn close(
     h.reply
 }
 
-fn put_end(buffer: &mut [u8], g: Going) -> Out {
-    let a = exi_progress::put_last(buffer, g.out, g.told);
+fn put_end(buffer: &mut [u8], o: Out, told: Told) -> Out {
+    let a = exi_progress::put_last(buffer, o, told);
     exi_out::put_octet(buffer, a, b'\n')
 }
 
@@ -137,7 +137,7 @@ pub(crate) fn read(
     work: &mut [u32],
 ) -> Ended {
     let g = feed_from_start(buffer, o, s, stream, n, held, cells, store, work);
-    let out = put_end(buffer, g);
+    let out = put_end(buffer, g.out, g.told);
     let reply = close(g.receiver, held, cells, store, work);
     Ended { reply, out }
 }

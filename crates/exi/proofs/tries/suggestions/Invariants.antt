@@ -1,0 +1,9 @@
+-- No more are found than are tried.
+use Rattle.std.proofs.Common.{◌-◌, ◌≤◌}
+use Rattle.exi.proofs.tries.suggestions.Given as goal
+
+abbrev pub invariant-loop-k : goal.invariant-loop-k
+invariant-loop-k l = l.found ≤ l.k
+
+abbrev pub decreases-loop-k : goal.decreases-loop-k
+decreases-loop-k l = 128 - l.k
