@@ -2,8 +2,8 @@
 use Rattle.std.proofs.Common.{◌-◌, ◌≤◌, length}
 use Rattle.batch.proofs.parse.events.Given as goal
 
-abbrev pub invariant-loop-n : goal.invariant-loop-n
-invariant-loop-n l = l.n ≤ length l.cells
+abbrev pub invariant-loop-cells : goal.invariant-loop-cells
+invariant-loop-cells l = l.n ≤ length l.cells
 
-abbrev pub decreases-loop-n : goal.decreases-loop-n
-decreases-loop-n l = length l.cells - l.n
+abbrev pub decreases-loop-cells : goal.decreases-loop-cells
+decreases-loop-cells l = length l.cells - l.n
