@@ -18,7 +18,7 @@ use sizes::{EVENT_CELLS, MAX_STORE, MAX_STREAM, READER_WORK};
 // The number of the refusal or 0, the index of the event concerned, and the counts of events and
 // code points.
 #[repr(C)]
-#[derive(Drop)]
+#[derive(Clone, Copy)]
 pub struct ReadReply {
     pub number: u32,
     pub index: u32,
