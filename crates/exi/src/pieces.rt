@@ -1,8 +1,8 @@
 // A stream in packets of one size (02, P8).
+use exi_fault::the_reader::ReadReply;
+use exi_fault::the_receiver_record::Receiver;
 use exi_out::Out;
 use exi_progress::Told;
-use reader::ReadReply;
-use receiver_record::Receiver;
 use settings::SettingNumbers;
 
 // What closing answers, and the output.
@@ -29,7 +29,7 @@ fn put_head(buffer: &mut [u8], o: Out, n: usize) -> Out {
 // Before the first packet.
 fn start(buffer: &mut [u8], o: Out, s: SettingNumbers, n: usize) -> Going {
     let out = put_head(buffer, o, n);
-    let receiver = receiver_record::started(s);
+    let receiver = exi_fault::the_receiver_record::started(s);
     let told = exi_progress::nothing();
     Going {
         receiver,
@@ -50,7 +50,7 @@ fn feed(
     store: &mut [u32],
     work: &mut [u32],
 ) -> Going {
-    let h = receiver::fed(g.receiver, packet, held, cells, store, work);
+    let h = exi_fault::the_receiver::fed(g.receiver, packet, held, cells, store, work);
     let y = h.reply;
     let told = exi_progress::after(g.told, y.number, y.events, end, all);
     let out = exi_progress::put_packet(buffer, g.out, g.told, told);
@@ -115,7 +115,7 @@ fn close(
     store: &mut [u32],
     work: &mut [u32],
 ) -> ReadReply {
-    let h = receiver::closed(r, held, cells, store, work);
+    let h = exi_fault::the_receiver::closed(r, held, cells, store, work);
     h.reply
 }
 

@@ -1,8 +1,8 @@
 // A stream, judged or turned into a table.
 use crate::{pieces, tries};
+use exi_fault::the_reader::ReadReply;
 use exi_out::Out;
 use exi_verdict::{Counts, Task};
-use reader::ReadReply;
 use readings_from::MAX_READINGS;
 use refusal::LONG;
 use sizes::{EVENT_CELLS, MAX_STORE, MAX_STREAM, READER_WORK};
@@ -93,7 +93,7 @@ fn judge(
     work: &mut [u32],
 ) {
     if t.packet == 0 {
-        let r = reader::read(t.settings, stream, cells, store, work);
+        let r = exi_fault::the_reader::read(t.settings, stream, cells, store, work);
         verdict(err, buffer, o, t, file, r, stream, held, cells, store, work);
         return;
     }

@@ -106,7 +106,7 @@ fn accepted(
         return 0;
     }
     let s = settings_at(k, asked);
-    if reader::read(s, stream, cells, store, work).number != 0 {
+    if exi_fault::the_reader::read(s, stream, cells, store, work).number != 0 {
         return 0;
     }
     suggest(err, k, s);

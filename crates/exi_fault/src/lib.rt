@@ -3,7 +3,9 @@
 #![tactic(auto)]
 
 use exi_verdict::Good;
-use receiver_record::{Handed, Receiver};
+pub use receiver as the_receiver;
+use receiver::the_receiver_record::{Handed, Receiver};
+pub use receiver::{the_reader as the_reader, the_receiver_record as the_receiver_record};
 use settings::SettingNumbers;
 use sizes::MAX_STREAM;
 
@@ -17,7 +19,7 @@ fn feed(
     store: &mut [u32],
     work: &mut [u32],
 ) -> Handed {
-    let r = receiver_record::started(s);
+    let r = receiver::the_receiver_record::started(s);
     if stream.len() < n {
         return receiver::fed(r, stream, held, cells, store, work);
     }

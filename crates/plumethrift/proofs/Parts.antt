@@ -3,14 +3,14 @@ use mathlib.Core.List.{[], ◌∷◌, List}
 use mir.Val.{Val}
 use denote.Laws.{Is}
 use denote.Struct.Laws as LL
-use Rattle.reader.specs.contracts.ReadReply as Y
-use Rattle.reader.proofs.ReadReply.TheLaws as Y'
-use Rattle.receiver_record.specs.declared.Receiver.{Receiver}
-use Rattle.receiver_record.specs.declared.Handed.{Handed}
-use Rattle.receiver_record.specs.contracts.Receiver as T
-use Rattle.receiver_record.proofs.Receiver.TheLaws as T'
-use Rattle.receiver_record.specs.contracts.Handed as D
-use Rattle.receiver_record.proofs.Handed.TheLaws as D'
+use Rattle.receiver.specs.reader.contracts.ReadReply as Y
+use Rattle.receiver.proofs.reader.ReadReply.TheLaws as Y'
+use Rattle.receiver.specs.receiver_record.declared.Receiver.{Receiver}
+use Rattle.receiver.specs.receiver_record.declared.Handed.{Handed}
+use Rattle.receiver.specs.receiver_record.contracts.Receiver as T
+use Rattle.receiver.proofs.receiver_record.Receiver.TheLaws as T'
+use Rattle.receiver.specs.receiver_record.contracts.Handed as D
+use Rattle.receiver.proofs.receiver_record.Handed.TheLaws as D'
 
 abbrev pub row_vals : Receiver → List Val
 row_vals = LL.vals T.the_type T'.the_laws

@@ -11,14 +11,14 @@ use Rattle.spec_exi.specs.Settings.{meaningful}
 use Rattle.spec_exi.specs.Sizes.{max_stream}
 use Rattle.settings.specs.Meant.{numbers_of}
 use Rattle.event_code.specs.Numbers.{is_over}
-use Rattle.reader.specs.declared.ReadReply.{ReadReply}
-use Rattle.receiver_record.specs.declared.Receiver.{Receiver}
-use Rattle.receiver_record.specs.Record.{is_started, is_closed, Lent, cleared, Left, left}
-use Rattle.receiver_course.specs.declared.Course.{Course}
-use Rattle.receiver_course.specs.declared.Course.TheVariants.{Repeats, Refused, Reads}
-use Rattle.receiver_course.specs.Course.{is_sound, course_of}
-use Rattle.receiver_course.proofs.Ways.{is-closed}
-use Rattle.receiver_phases.specs.Phases.{repeated, closed_by, closed_whole}
+use Rattle.receiver_piece.specs.reader.declared.ReadReply.{ReadReply}
+use Rattle.receiver_piece.specs.receiver_record.declared.Receiver.{Receiver}
+use Rattle.receiver_piece.specs.receiver_record.Record.{is_started, is_closed, Lent, cleared, Left, left}
+use Rattle.receiver_piece.specs.receiver_course.declared.Course.{Course}
+use Rattle.receiver_piece.specs.receiver_course.declared.Course.TheVariants.{Repeats, Refused, Reads}
+use Rattle.receiver_piece.specs.receiver_course.Course.{is_sound, course_of}
+use Rattle.receiver_piece.proofs.receiver_course.Ways.{is-closed}
+use Rattle.receiver_piece.specs.receiver_phases.Phases.{repeated, closed_by, closed_whole}
 use Rattle.receiver_piece.specs.Piece.{room_in}
 use Rattle.receiver.specs.Calls.{Fed, closed_now, closed_to, Closed}
 

@@ -22,20 +22,20 @@ use Rattle.spec_exi.proofs.Packets as packets
 use Rattle.spec_exi.proofs.ReaderReplies as replies
 use Rattle.settings.specs.Meant.{numbers_of}
 use Rattle.settings.specs.declared.SettingNumbers.{SettingNumbers}
-use Rattle.reader.specs.declared.ReadReply.{ReadReply}
-use Rattle.reader.specs.Read.{reply_of}
-use Rattle.receiver_record.specs.declared.Receiver.{Receiver}
-use Rattle.receiver_record.specs.Record.{is_refused, is_closed, refusal_at}
-use Rattle.receiver_record.specs.Record.{started_with, with_reply, Lent, zeros, cleared, Left, left}
+use Rattle.receiver_piece.specs.reader.declared.ReadReply.{ReadReply}
+use Rattle.receiver_piece.specs.reader.Read.{reply_of}
+use Rattle.receiver_piece.specs.receiver_record.declared.Receiver.{Receiver}
+use Rattle.receiver_piece.specs.receiver_record.Record.{is_refused, is_closed, refusal_at}
+use Rattle.receiver_piece.specs.receiver_record.Record.{started_with, with_reply, Lent, zeros, cleared, Left, left}
 use Rattle.event_code.specs.Numbers.{is_over}
-use Rattle.receiver_course.specs.declared.Course.{Course}
-use Rattle.receiver_course.specs.declared.Course.TheVariants.{Refused, Reads}
-use Rattle.receiver_course.specs.Course.{is_sound, course_of, counted, refused_after}
-use Rattle.receiver_course.proofs.Ways.{is-refused, sound-few, sound-within, going-not-started}
-use Rattle.receiver_course.proofs.Ways.{roomy-is}
-use Rattle.receiver_phases.specs.Phases as phases
+use Rattle.receiver_piece.specs.receiver_course.declared.Course.{Course}
+use Rattle.receiver_piece.specs.receiver_course.declared.Course.TheVariants.{Refused, Reads}
+use Rattle.receiver_piece.specs.receiver_course.Course.{is_sound, course_of, counted, refused_after}
+use Rattle.receiver_piece.proofs.receiver_course.Ways.{is-refused, sound-few, sound-within, going-not-started}
+use Rattle.receiver_piece.proofs.receiver_course.Ways.{roomy-is}
+use Rattle.receiver_piece.specs.receiver_phases.Phases as phases
 use Rattle.receiver_piece.specs.Piece.{room_in, room_of, SameLengths, Holds, Told, Took}
-use Rattle.receiver_read.specs.On.{Stands}
+use Rattle.receiver_piece.specs.receiver_read.On.{Stands}
 use Rattle.receiver_piece.proofs.Room.{room-is, same-room, read_is}
 use Rattle.receiver_piece.proofs.Told.{told-refused, told-stands}
 use Rattle.receiver_piece.proofs.Piece.{cleared-same, told_with}

@@ -7,15 +7,15 @@ use native.Mathlib.Omega.{arith}
 use lib.ListN.{length}
 use borrow.Author.Tests.{eq-eqb, ne_eqb}
 use Rattle.spec_fields.specs.Refusal.{number_of}
-use Rattle.reader.specs.declared.ReadReply.{ReadReply}
-use Rattle.receiver_record.specs.declared.Receiver.{Receiver}
-use Rattle.receiver_record.specs.declared.Handed.{Handed}
-use Rattle.receiver_record.specs.Record.{refusal_at, Lent, Left, left, handed}
-use Rattle.receiver_course.specs.declared.Course.{Course}
-use Rattle.receiver_course.specs.declared.Course.TheVariants.{Repeats, Refused, Reads}
-use Rattle.receiver_course.specs.Course.{course_of}
-use Rattle.receiver_course.proofs.Ways.{reads-passed}
-use Rattle.receiver_phases.specs.Phases.{repeated, refused, closed_by, closed_whole}
+use Rattle.receiver_piece.specs.reader.declared.ReadReply.{ReadReply}
+use Rattle.receiver_piece.specs.receiver_record.declared.Receiver.{Receiver}
+use Rattle.receiver_piece.specs.receiver_record.declared.Handed.{Handed}
+use Rattle.receiver_piece.specs.receiver_record.Record.{refusal_at, Lent, Left, left, handed}
+use Rattle.receiver_piece.specs.receiver_course.declared.Course.{Course}
+use Rattle.receiver_piece.specs.receiver_course.declared.Course.TheVariants.{Repeats, Refused, Reads}
+use Rattle.receiver_piece.specs.receiver_course.Course.{course_of}
+use Rattle.receiver_piece.proofs.receiver_course.Ways.{reads-passed}
+use Rattle.receiver_piece.specs.receiver_phases.Phases.{repeated, refused, closed_by, closed_whole}
 use Rattle.receiver_piece.specs.Piece.{room_in, SameLengths, PiecePre, PiecePost}
 use Rattle.receiver.specs.Calls.{Fed, closed_now, closed_to, Closed}
 

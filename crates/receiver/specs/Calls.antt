@@ -2,13 +2,13 @@
 use Rattle.std.specs.Prelude.{ℕ, ◌≡◌, cond, List, ◌++◌, length, eqb}
 use Rattle.spec_fields.specs.Refusal.{number_of, ended}
 use Rattle.event_code.specs.Numbers.{is_over}
-use Rattle.reader.specs.declared.ReadReply.{ReadReply}
-use Rattle.receiver_record.specs.declared.Receiver.{Receiver}
-use Rattle.receiver_record.specs.Record.{is_started, refusal_at, started_with, Lent, Left, left}
-use Rattle.receiver_course.specs.declared.Course.{Course}
-use Rattle.receiver_course.specs.declared.Course.TheVariants.{Repeats, Refused, Reads}
-use Rattle.receiver_course.specs.Course.{course_of}
-use Rattle.receiver_phases.specs.Phases.{repeated, refused, closed_by, closed_whole}
+use Rattle.receiver_piece.specs.reader.declared.ReadReply.{ReadReply}
+use Rattle.receiver_piece.specs.receiver_record.declared.Receiver.{Receiver}
+use Rattle.receiver_piece.specs.receiver_record.Record.{is_started, refusal_at, started_with, Lent, Left, left}
+use Rattle.receiver_piece.specs.receiver_course.declared.Course.{Course}
+use Rattle.receiver_piece.specs.receiver_course.declared.Course.TheVariants.{Repeats, Refused, Reads}
+use Rattle.receiver_piece.specs.receiver_course.Course.{course_of}
+use Rattle.receiver_piece.specs.receiver_phases.Phases.{repeated, refused, closed_by, closed_whole}
 use Rattle.receiver_piece.specs.Piece.{room_in, SameLengths, Holds, Took}
 
 -- A piece p is handed over with a record and what is lent; record, memory and reply after it. A

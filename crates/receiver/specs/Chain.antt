@@ -1,9 +1,9 @@
 -- Calls one after the other, each given record and memory as the one before left them.
 use Rattle.std.specs.Prelude.{List, [], ◌++◌, ℕ}
 use Rattle.settings.specs.declared.SettingNumbers.{SettingNumbers}
-use Rattle.reader.specs.declared.ReadReply.{ReadReply}
-use Rattle.receiver_record.specs.declared.Receiver.{Receiver}
-use Rattle.receiver_record.specs.Record.{started_with, Lent}
+use Rattle.receiver_piece.specs.reader.declared.ReadReply.{ReadReply}
+use Rattle.receiver_piece.specs.receiver_record.declared.Receiver.{Receiver}
+use Rattle.receiver_piece.specs.receiver_record.Record.{started_with, Lent}
 use Rattle.receiver.specs.Calls.{Fed}
 
 -- From the start, with what is lent then: these octets were handed over, in pieces of any lengths,

@@ -4,12 +4,13 @@
 #![tactic(auto)]
 
 ghost use Rattle.std.specs.Prelude.{◌≡◌};
-ghost use Rattle.receiver_record.specs.Record.{lent, handed};
+ghost use Rattle.receiver_piece.specs.receiver_record.Record.{lent, handed};
 ghost use Rattle.receiver.specs.Calls.{closed_now, Fed, Closed};
 
 use event_code::IS_OVER;
-use receiver_course::Course;
-use receiver_record::{Handed, Receiver, STARTED};
+use receiver_piece::the_receiver_course::Course;
+use receiver_piece::the_receiver_record::{Handed, Receiver, STARTED};
+pub use receiver_piece::{the_reader as the_reader, the_receiver_record as the_receiver_record};
 use refusal::ENDED;
 
 // Takes a piece: reply and memory are those of the octets so far, read whole, but ENDED is no
@@ -33,14 +34,16 @@ pub fn fed(
     let b = events.len();
     let c = text.len();
     let d = work.len();
-    let roomy = receiver_course::has_room(a, b, c, d);
-    let way = receiver_course::course_of(before, k, roomy);
+    let roomy = receiver_piece::the_receiver_course::has_room(a, b, c, d);
+    let way = receiver_piece::the_receiver_course::course_of(before, k, roomy);
     match way {
         Course::Repeats => {
-            return receiver_phases::repeat(before, held, events, text, work);
+            return receiver_piece::the_receiver_phases::repeat(before, held, events, text, work);
         }
         Course::Refused(y) => {
-            return receiver_phases::refuse(before, y, k, held, events, text, work);
+            return receiver_piece::the_receiver_phases::refuse(
+                before, y, k, held, events, text, work,
+            );
         }
         Course::Reads => {
             return receiver_piece::read_piece(before, piece, held, events, text, work);
@@ -62,14 +65,14 @@ fn close_now(
         work.old) }
 {
     if r.phase == STARTED {
-        let y = receiver_course::refusal_at(ENDED, 0);
-        return receiver_phases::close_refused(r, y, held, events, text, work);
+        let y = receiver_piece::the_receiver_course::refusal_at(ENDED, 0);
+        return receiver_piece::the_receiver_phases::close_refused(r, y, held, events, text, work);
     }
     if r.state.core.mode == IS_OVER {
-        return receiver_phases::close_whole(r, held, events, text, work);
+        return receiver_piece::the_receiver_phases::close_whole(r, held, events, text, work);
     }
-    let y = receiver_course::refusal_at(ENDED, r.reply.events);
-    receiver_phases::close_refused(r, y, held, events, text, work)
+    let y = receiver_piece::the_receiver_course::refusal_at(ENDED, r.reply.events);
+    receiver_piece::the_receiver_phases::close_refused(r, y, held, events, text, work)
 }
 
 // Closes: reply and memory are the whole reader's. The octets that were held and work memory are
@@ -91,14 +94,16 @@ pub fn closed(
     let b = events.len();
     let c = text.len();
     let d = work.len();
-    let roomy = receiver_course::has_room(a, b, c, d);
-    let way = receiver_course::course_of(before, 0, roomy);
+    let roomy = receiver_piece::the_receiver_course::has_room(a, b, c, d);
+    let way = receiver_piece::the_receiver_course::course_of(before, 0, roomy);
     match way {
         Course::Repeats => {
-            return receiver_phases::repeat(before, held, events, text, work);
+            return receiver_piece::the_receiver_phases::repeat(before, held, events, text, work);
         }
         Course::Refused(y) => {
-            return receiver_phases::close_refused(before, y, held, events, text, work);
+            return receiver_piece::the_receiver_phases::close_refused(
+                before, y, held, events, text, work,
+            );
         }
         Course::Reads => {
             return close_now(before, held, events, text, work);

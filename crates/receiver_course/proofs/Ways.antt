@@ -17,7 +17,7 @@ use Rattle.event_code.specs.Numbers.{in_tag, in_element}
 use Rattle.mem_rows.specs.Rows.{ModeFits}
 use Rattle.mem_state.specs.declared.Core.{Core}
 use Rattle.mem_state.specs.Holds.{Bounded}
-use Rattle.reader.specs.declared.ReadReply.{ReadReply}
+use Rattle.receiver_record.specs.reader.declared.ReadReply.{ReadReply}
 use Rattle.receiver_record.specs.declared.Receiver.{Receiver}
 use Rattle.receiver_record.specs.Record.{is_started, going_on, refusal_at}
 use Rattle.receiver_course.specs.declared.Course.{Course}

@@ -10,7 +10,7 @@ use Rattle.mem_layout.specs.Layout.{name_rows}
 use Rattle.event_code.specs.Numbers.{in_tag, in_element}
 use Rattle.mem_state.specs.declared.Core.{Core}
 use Rattle.mem_state.specs.Holds.{Bounded}
-use Rattle.reader.specs.declared.ReadReply.{ReadReply}
+use Rattle.receiver_record.specs.reader.declared.ReadReply.{ReadReply}
 use Rattle.receiver_record.specs.declared.Receiver.{Receiver}
 use Rattle.receiver_record.specs.Record.{is_started, going_on, is_refused, is_closed, refusal_at}
 use Rattle.receiver_course.specs.declared.Course.{Course}

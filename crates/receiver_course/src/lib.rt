@@ -11,7 +11,9 @@ ghost use Rattle.receiver_course.specs.Course.{course_of, counted, refused_after
 use event_code::{IN_ELEMENT, IN_TAG};
 use mem_layout::NAME_ROWS;
 use mem_state::Core;
-use reader::ReadReply;
+pub use receiver_record as the_receiver_record;
+pub use receiver_record::the_reader as the_reader;
+use receiver_record::the_reader::ReadReply;
 use receiver_record::{CLOSED, GOING_ON, REFUSED, Receiver, STARTED};
 use refusal::{LONG, ROOM, SETTINGS};
 use sizes::{

@@ -7,10 +7,10 @@ use native.Mathlib.Omega.{arith}
 use lib.ListN.{length, get_or, set, length-set}
 use lib.Seq.{take_all, paste, paste-zero, paste-suc}
 use borrow.Author.Tests.{eq-eqb, ne_eqb}
-use Rattle.reader.specs.declared.ReadReply.{ReadReply}
-use Rattle.receiver_record.specs.declared.Receiver.{Receiver}
-use Rattle.receiver_record.specs.Record.{is_refused, is_closed, with_reply, Lent, lent, zeros, cleared}
-use Rattle.receiver_record.specs.Record.{left}
+use Rattle.receiver_course.specs.reader.declared.ReadReply.{ReadReply}
+use Rattle.receiver_course.specs.receiver_record.declared.Receiver.{Receiver}
+use Rattle.receiver_course.specs.receiver_record.Record.{is_refused, is_closed, with_reply, Lent, lent, zeros, cleared}
+use Rattle.receiver_course.specs.receiver_record.Record.{left}
 use Rattle.receiver_course.specs.Course.{counted, refused_after}
 use Rattle.receiver_phases.specs.Phases.{kept, repeated, refused, closed_by, closed_whole}
 

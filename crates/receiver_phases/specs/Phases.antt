@@ -1,9 +1,9 @@
 -- What a call leaves where it reads no octets.
 use Rattle.std.specs.Prelude.{ℕ, ◌+◌, cond, List, ◌++◌, length, take, drop, eqb}
-use Rattle.reader.specs.declared.ReadReply.{ReadReply}
-use Rattle.receiver_record.specs.declared.Receiver.{Receiver}
-use Rattle.receiver_record.specs.Record.{is_refused, is_closed, with_reply, Lent, lent, zeros, cleared}
-use Rattle.receiver_record.specs.Record.{Left, left}
+use Rattle.receiver_course.specs.reader.declared.ReadReply.{ReadReply}
+use Rattle.receiver_course.specs.receiver_record.declared.Receiver.{Receiver}
+use Rattle.receiver_course.specs.receiver_record.Record.{is_refused, is_closed, with_reply, Lent, lent, zeros, cleared}
+use Rattle.receiver_course.specs.receiver_record.Record.{Left, left}
 use Rattle.receiver_course.specs.Course.{counted, refused_after}
 
 -- The piece after the first n octets.

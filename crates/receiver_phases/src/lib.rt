@@ -3,12 +3,14 @@
 #![tactic(auto)]
 
 ghost use Rattle.std.specs.Prelude.{◌≡◌, ◌+◌, ◌≤◌, length};
-ghost use Rattle.receiver_record.specs.Record.{Lent, lent, cleared, handed};
+ghost use Rattle.receiver_course.specs.receiver_record.Record.{Lent, lent, cleared, handed};
 ghost use Rattle.receiver_phases.specs.Phases.{kept, repeated, refused, closed_by};
 ghost use Rattle.receiver_phases.specs.Phases.{closed_whole};
 
-use reader::ReadReply;
-use receiver_record::{CLOSED, Handed, REFUSED, Receiver};
+pub use receiver_course as the_receiver_course;
+use receiver_course::the_reader::ReadReply;
+use receiver_course::the_receiver_record::{CLOSED, Handed, REFUSED, Receiver};
+pub use receiver_course::{the_reader as the_reader, the_receiver_record as the_receiver_record};
 
 // Clears all that is lent.
 fn clear_all(held: &mut [u8], events: &mut [u32], text: &mut [u32], work: &mut [u32])

@@ -25,24 +25,24 @@ use Rattle.mem_state.specs.Holds.{Bounded}
 use Rattle.mem_initial.specs.Initial.{start_at}
 use Rattle.mem_initial.proofs.Initial.{start-bounded, BoundsOf}
 use Rattle.grammar_open.specs.Opened.{none_open}
-use Rattle.read_run.specs.declared.Advanced.{Advanced}
-use Rattle.read_run.specs.Run.{AdvancePre}
-use Rattle.reader.specs.declared.ReadReply.{ReadReply}
-use Rattle.reader.specs.Read.{events_filled, text_filled}
-use Rattle.receiver_record.specs.declared.Receiver.{Receiver}
-use Rattle.receiver_record.specs.declared.Handed.{Handed}
-use Rattle.receiver_record.specs.declared.Wait.{Wait}
-use Rattle.receiver_record.specs.Record.{is_started, going_on, is_refused, refusal_at, started_with}
-use Rattle.receiver_record.specs.Record.{with_reply, Lent, lent, cleared, Left, handed}
-use Rattle.receiver_course.specs.Course.{counted, refused_after, is_sound, Within}
-use Rattle.receiver_course.proofs.Ways.{Roomy, roomy-is, sound-within, going-not-started}
-use Rattle.receiver_course.proofs.Ways.{within-sound}
+use Rattle.receiver_wait.specs.read_run.declared.Advanced.{Advanced}
+use Rattle.receiver_wait.specs.read_run.Run.{AdvancePre}
+use Rattle.receiver_phases.specs.reader.declared.ReadReply.{ReadReply}
+use Rattle.receiver_phases.specs.reader.Read.{events_filled, text_filled}
+use Rattle.receiver_phases.specs.receiver_record.declared.Receiver.{Receiver}
+use Rattle.receiver_phases.specs.receiver_record.declared.Handed.{Handed}
+use Rattle.receiver_phases.specs.receiver_record.declared.Wait.{Wait}
+use Rattle.receiver_phases.specs.receiver_record.Record.{is_started, going_on, is_refused, refusal_at, started_with}
+use Rattle.receiver_phases.specs.receiver_record.Record.{with_reply, Lent, lent, cleared, Left, handed}
+use Rattle.receiver_phases.specs.receiver_course.Course.{counted, refused_after, is_sound, Within}
+use Rattle.receiver_phases.proofs.receiver_course.Ways.{Roomy, roomy-is, sound-within, going-not-started}
+use Rattle.receiver_phases.proofs.receiver_course.Ways.{within-sound}
 use Rattle.receiver_phases.specs.Phases.{kept, refused}
 use Rattle.receiver_strings.specs.declared.Skipped.{Skipped}
 use Rattle.receiver_strings.specs.Strings.{SkipPost}
-use Rattle.receiver_read.specs.On.{BeginPre, BeginPost, Underway, Stands, Awaiting, Onward, OnPost}
-use Rattle.receiver_read.proofs.Longer.{underway-longer}
-use Rattle.receiver_read.proofs.Beginning.{begin-underway}
+use Rattle.receiver_wait.specs.receiver_read.On.{BeginPre, BeginPost, Underway, Stands, Awaiting, Onward, OnPost}
+use Rattle.receiver_wait.proofs.receiver_read.Longer.{underway-longer}
+use Rattle.receiver_wait.proofs.receiver_read.Beginning.{begin-underway}
 use Rattle.receiver_wait.specs.Wait.{StillPre, CutPre, CutPost}
 use Rattle.receiver_wait.proofs.Awaiting.{awaiting-looked, awaiting-longer, awaiting-on, awaiting-refused}
 use Rattle.receiver_wait.proofs.Stops.{stops-there}

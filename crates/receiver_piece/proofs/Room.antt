@@ -14,8 +14,8 @@ use Rattle.spec_exi.specs.Sizes.{reader_work}
 use Rattle.spec_exi.specs.Reader.{Reading, ReaderRoom, enough_to_read, read_sized, read_stream}
 use Rattle.spec_exi.specs.Reader as format
 use Rattle.spec_exi.specs.Packets.{complete, so_far, receive}
-use Rattle.receiver_record.specs.Record.{Lent}
-use Rattle.receiver_course.specs.Course.{has_room}
+use Rattle.receiver_phases.specs.receiver_record.Record.{Lent}
+use Rattle.receiver_phases.specs.receiver_course.Course.{has_room}
 use Rattle.receiver_piece.specs.Piece.{room_in, room_of, SameLengths}
 
 pub room-is : (m : Lent) → enough_to_read sizes (room_of m) ≡ room_in m

@@ -14,9 +14,9 @@ use Rattle.spec_exi.specs.Packets.{complete, receive}
 use Rattle.event_code.specs.Numbers.{is_over}
 use Rattle.read_literal.proofs.Store.{zero-drop}
 use Rattle.grammar_open.specs.declared.State.{State}
-use Rattle.reader.specs.Read.{reply_of, events_filled, text_filled}
-use Rattle.receiver_record.specs.Record.{refusal_at, Lent, lent, cleared}
-use Rattle.receiver_read.specs.On.{Stands}
+use Rattle.receiver_phases.specs.reader.Read.{reply_of, events_filled, text_filled}
+use Rattle.receiver_phases.specs.receiver_record.Record.{refusal_at, Lent, lent, cleared}
+use Rattle.receiver_wait.specs.receiver_read.On.{Stands}
 use Rattle.receiver_piece.specs.Piece.{shown, Told}
 use Rattle.receiver_piece.proofs.Room.{receive-whole, receive-cut}
 

@@ -7,17 +7,17 @@ use Rattle.spec_exi.specs.Sizes.{reader_work}
 use Rattle.spec_exi.specs.Reader.{Reading, ReaderRoom, read_reply}
 use Rattle.spec_exi.specs.Packets.{receive}
 use Rattle.settings.specs.Meant.{numbers_of}
-use Rattle.read_run.specs.declared.Advanced.{Advanced}
-use Rattle.reader.specs.declared.ReadReply.{ReadReply}
-use Rattle.reader.specs.Read.{reply_of, events_filled, text_filled}
-use Rattle.receiver_record.specs.declared.Receiver.{Receiver}
-use Rattle.receiver_record.specs.declared.Handed.{Handed}
-use Rattle.receiver_record.specs.declared.Wait.{Wait}
-use Rattle.receiver_record.specs.Record.{is_started, going_on, is_refused, refusal_at, started_with}
-use Rattle.receiver_record.specs.Record.{with_reply, Lent, cleared, Left, handed}
-use Rattle.receiver_course.specs.Course.{has_room, is_sound, Within}
+use Rattle.receiver_wait.specs.read_run.declared.Advanced.{Advanced}
+use Rattle.receiver_phases.specs.reader.declared.ReadReply.{ReadReply}
+use Rattle.receiver_phases.specs.reader.Read.{reply_of, events_filled, text_filled}
+use Rattle.receiver_phases.specs.receiver_record.declared.Receiver.{Receiver}
+use Rattle.receiver_phases.specs.receiver_record.declared.Handed.{Handed}
+use Rattle.receiver_phases.specs.receiver_record.declared.Wait.{Wait}
+use Rattle.receiver_phases.specs.receiver_record.Record.{is_started, going_on, is_refused, refusal_at, started_with}
+use Rattle.receiver_phases.specs.receiver_record.Record.{with_reply, Lent, cleared, Left, handed}
+use Rattle.receiver_phases.specs.receiver_course.Course.{has_room, is_sound, Within}
 use Rattle.receiver_phases.specs.Phases.{refused}
-use Rattle.receiver_read.specs.On.{BeginPost, Underway, Stands, Awaiting}
+use Rattle.receiver_wait.specs.receiver_read.On.{BeginPost, Underway, Stands, Awaiting}
 use Rattle.receiver_strings.specs.declared.Skipped.{Skipped}
 
 -- ---- room

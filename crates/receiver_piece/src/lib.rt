@@ -4,18 +4,23 @@
 
 ghost use Rattle.std.specs.Prelude.{◌≡◌, take};
 ghost use Rattle.settings.specs.Meant.{settings_meant, settings_from};
-ghost use Rattle.receiver_record.specs.Record.{lent, handed};
-ghost use Rattle.receiver_read.specs.On.{BeginPre, OnPost};
+ghost use Rattle.receiver_phases.specs.receiver_record.Record.{lent, handed};
+ghost use Rattle.receiver_wait.specs.receiver_read.On.{BeginPre, OnPost};
 ghost use Rattle.receiver_wait.specs.Wait.{CutPre, CutPost};
 ghost use Rattle.receiver_piece.specs.Piece.{went_on, concluded, ConcludePre, AdvancedPre};
 ghost use Rattle.receiver_piece.specs.Piece.{stayed, awaited};
 ghost use Rattle.receiver_piece.specs.Piece.{GoOnPre, GoOnPost, BegunPost};
 ghost use Rattle.receiver_piece.specs.Piece.{PiecePre, PiecePost};
 
-use read_run::Advanced;
-use reader::ReadReply;
-use receiver_record::{GOING_ON, Handed, Receiver, STARTED, Wait};
+pub use receiver_phases as the_receiver_phases;
+use receiver_phases::the_reader::ReadReply;
+use receiver_phases::the_receiver_record::{GOING_ON, Handed, Receiver, STARTED, Wait};
+pub use receiver_phases::{
+    the_reader as the_reader, the_receiver_course as the_receiver_course,
+    the_receiver_record as the_receiver_record,
+};
 use receiver_strings::Skipped;
+use receiver_wait::the_read_run::Advanced;
 use refusal::ENDED;
 
 // ---- the answer
@@ -61,7 +66,7 @@ fn conclude(
     if (a.number == 0) | (a.number == ENDED) {
         return went_on(r, k, a, w);
     }
-    let y = receiver_course::refusal_at(a.number, a.index as u32);
+    let y = receiver_phases::the_receiver_course::refusal_at(a.number, a.index as u32);
     receiver_phases::refuse(r, y, k, held, events, text, work)
 }
 
@@ -114,7 +119,7 @@ fn advanced(
     let st = r.state;
     let o = settings::settings_of(r.settings);
     let first = r.reply.events as usize;
-    receiver_read::read_held(o, held, n, st, first, events, text, work)
+    receiver_wait::the_receiver_read::read_held(o, held, n, st, first, events, text, work)
 }
 
 // Where a literal is cut, if the octets end in one.
@@ -145,7 +150,7 @@ fn go_on(
     let n = r.octets;
     let k = piece.len();
     receiver_phases::keep(held, n, piece);
-    let row = receiver_read::outermost(r.state);
+    let row = receiver_wait::the_receiver_read::outermost(r.state);
     let s = receiver_wait::still(held, n + k, r.wait.at, r.wait.left);
     if s.number != 0 {
         return stay(r, k, s, held, events, text, work);
@@ -166,8 +171,8 @@ fn begun(r: Receiver, events: &mut [u32], text: &mut [u32], work: &mut [u32]) ->
     if r.phase != STARTED {
         return r;
     }
-    receiver_read::begin(events, text, work);
-    let mut b = receiver_record::started(r.settings);
+    receiver_wait::the_receiver_read::begin(events, text, work);
+    let mut b = receiver_phases::the_receiver_record::started(r.settings);
     b.phase = GOING_ON;
     b
 }

@@ -1,1 +1,2 @@
 pub mod On
+pub use Rattle.read_run.specs as read_run

@@ -1,1 +1,2 @@
 pub mod Record
+pub use Rattle.reader.specs as reader

@@ -6,6 +6,7 @@ ghost use Rattle.std.specs.Prelude.{◌≡◌};
 ghost use Rattle.receiver_record.specs.Record.{started_with};
 
 use grammar_open::State;
+pub use reader as the_reader;
 use reader::ReadReply;
 use settings::SettingNumbers;
 

@@ -11,9 +11,9 @@ use Rattle.event_code.specs.Numbers.{is_over}
 use Rattle.grammar_open.specs.declared.State.{State}
 use Rattle.read_contract.specs.Outcome.{Declined}
 use Rattle.read_literal.proofs.Store.{laid_none}
-use Rattle.read_run.specs.declared.Advanced.{Advanced}
-use Rattle.read_run.specs.Events.{none_read}
-use Rattle.read_run.specs.Run.{AdvancePre, AdvancePost, Progress}
+use Rattle.receiver_read.specs.read_run.declared.Advanced.{Advanced}
+use Rattle.receiver_read.specs.read_run.Events.{none_read}
+use Rattle.receiver_read.specs.read_run.Run.{AdvancePre, AdvancePost, Progress}
 use Rattle.receiver_read.specs.On.{HeaderPost, InContext, OnPost}
 use Rattle.receiver_read.proofs.On.{events-stop}
 

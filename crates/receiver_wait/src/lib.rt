@@ -8,6 +8,8 @@ ghost use Rattle.receiver_strings.specs.Strings.{SkipPost};
 ghost use Rattle.receiver_wait.specs.Wait.{StillPre, CutPre, CutPost};
 
 use mem_state::Core;
+pub use receiver_read as the_receiver_read;
+pub use receiver_read::the_read_run as the_read_run;
 use receiver_record::Wait;
 use receiver_strings::Skipped;
 use refusal::ENDED;

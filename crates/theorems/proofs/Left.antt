@@ -20,13 +20,13 @@ use Rattle.settings.specs.Meant.{numbers_of}
 use Rattle.settings.specs.declared.SettingNumbers.{SettingNumbers}
 use Rattle.event.specs.Cells.{events_of, cells_of_all}
 use Rattle.event.proofs.Laws.{cells-mean, cells-size}
-use Rattle.reader.specs.declared.ReadReply.{ReadReply}
-use Rattle.reader.specs.Read.{ReaderLent, reader_room, reply_of, events_filled, text_filled}
-use Rattle.reader.specs.Read.{ReadPost}
-use Rattle.reader.specs.Read as reader
-use Rattle.writer.specs.declared.WriteReply.{WriteReply}
-use Rattle.writer.specs.Write.{WriterLent, writer_room, WritePost, filled}
-use Rattle.writer.specs.Write as writer
+use Rattle.receiver.specs.reader.declared.ReadReply.{ReadReply}
+use Rattle.receiver.specs.reader.Read.{ReaderLent, reader_room, reply_of, events_filled, text_filled}
+use Rattle.receiver.specs.reader.Read.{ReadPost}
+use Rattle.receiver.specs.reader.Read as reader
+use Rattle.readings.specs.writer.declared.WriteReply.{WriteReply}
+use Rattle.readings.specs.writer.Write.{WriterLent, writer_room, WritePost, filled}
+use Rattle.readings.specs.writer.Write as writer
 use Rattle.theorems.specs.Calls.{ReadCall, events_left, text_left, Leaves, WriteCall, Gives}
 use Rattle.theorems.specs.Cells.{Demand1Read, Demand1Write}
 use Rattle.theorems.proofs.Claims.{theorems}

@@ -24,8 +24,8 @@ use Rattle.readings_from.specs.Reply.{stamps_filled, movements_filled, FromListP
 use Rattle.readings_to.specs.declared.ListReply.{ListReply}
 use Rattle.readings_to.specs.Reply as to
 use Rattle.readings_to.specs.Reply.{events_filled, text_filled, ToListPost}
-use Rattle.writer.specs.declared.WriteReply.{WriteReply}
-use Rattle.writer.specs.Write as writer
+use Rattle.readings.specs.writer.declared.WriteReply.{WriteReply}
+use Rattle.readings.specs.writer.Write as writer
 use Rattle.readings.specs.Stream.{filled, FromLent, found_of, FromStreamPost, ToLent, written_of}
 use Rattle.readings.specs.Stream.{ToStreamPost}
 use Rattle.theorems.specs.ReadingsCells.{FromListLeft, ToListLeft, FromStreamLeft}

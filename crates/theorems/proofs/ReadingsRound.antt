@@ -47,8 +47,8 @@ use Rattle.readings_from.specs.Reply as from
 use Rattle.readings_from.specs.Reply.{stamps_filled, movements_filled}
 use Rattle.readings_to.specs.Reply as to
 use Rattle.readings_to.specs.Reply.{events_filled, text_filled}
-use Rattle.reader.specs.Read.{reader_room}
-use Rattle.writer.specs.Write as writer
+use Rattle.receiver.specs.reader.Read.{reader_room}
+use Rattle.readings.specs.writer.Write as writer
 use Rattle.readings.specs.Stream as stream
 use Rattle.readings.specs.Stream.{filled, found_of, written_of}
 use Rattle.theorems.specs.Calls.{asked, Hold, ReadCall, CanRead, events_left, text_left, Leaves}

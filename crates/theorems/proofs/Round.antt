@@ -25,9 +25,9 @@ use Rattle.spec_exi.proofs.Sizes.{accepted-still}
 use Rattle.settings.specs.Meant.{numbers_of}
 use Rattle.settings.specs.declared.SettingNumbers.{SettingNumbers}
 use Rattle.event.specs.Cells.{events_of}
-use Rattle.reader.specs.declared.ReadReply.{ReadReply}
-use Rattle.reader.specs.Read.{ReaderLent, reader_room, answer_of, reply_of}
-use Rattle.writer.specs.Write.{writer_room}
+use Rattle.receiver.specs.reader.declared.ReadReply.{ReadReply}
+use Rattle.receiver.specs.reader.Read.{ReaderLent, reader_room, answer_of, reply_of}
+use Rattle.readings.specs.writer.Write.{writer_room}
 use Rattle.theorems.specs.Calls.{asked, Hold, ReadCall, CanRead, events_left, text_left, Leaves}
 use Rattle.theorems.specs.Calls.{WriteCall, CanWrite, octets_left, Gives}
 use Rattle.theorems.specs.Cells.{Demand1Read}

@@ -8,10 +8,10 @@ use Rattle.spec_exi.specs.Sizes.{max_stream}
 use Rattle.spec_exi.specs.Reader.{read}
 use Rattle.settings.specs.Meant.{numbers_of}
 use Rattle.settings.specs.declared.SettingNumbers.{SettingNumbers}
-use Rattle.reader.specs.Read.{reader_room, answer_of}
-use Rattle.reader.specs.Read as reader
-use Rattle.receiver_record.specs.Record.{Lent}
-use Rattle.receiver_piece.specs.Piece.{room_of}
+use Rattle.receiver.specs.reader.Read.{reader_room, answer_of}
+use Rattle.receiver.specs.reader.Read as reader
+use Rattle.receiver.specs.receiver_record.Record.{Lent}
+use Rattle.receiver.specs.receiver_piece.Piece.{room_of}
 use Rattle.receiver.proofs.Split.{pieces, closing}
 use Rattle.receiver.proofs.Repeats.{repeats, repeats-close}
 use Rattle.theorems.specs.Split.{Split, Repeats}

@@ -12,10 +12,10 @@ use Rattle.spec_exi.specs.Meaning.{meant}
 use Rattle.settings.specs.Meant.{numbers_of}
 use Rattle.settings.specs.declared.SettingNumbers.{SettingNumbers}
 use Rattle.event.specs.Cells.{events_of}
-use Rattle.reader.specs.declared.ReadReply.{ReadReply}
-use Rattle.reader.specs.Read.{ReaderLent, reader_room, ReadPost}
-use Rattle.writer.specs.declared.WriteReply.{WriteReply}
-use Rattle.writer.specs.Write.{WriterLent, writer_room, WritePost}
+use Rattle.receiver.specs.reader.declared.ReadReply.{ReadReply}
+use Rattle.receiver.specs.reader.Read.{ReaderLent, reader_room, ReadPost}
+use Rattle.readings.specs.writer.declared.WriteReply.{WriteReply}
+use Rattle.readings.specs.writer.Write.{WriterLent, writer_room, WritePost}
 
 -- n cells, all zero.
 abbrev pub zeros : ℕ → List ℕ

@@ -15,7 +15,7 @@ use Rattle.readings_from.specs.declared.ReadingsReply.{ReadingsReply}
 use Rattle.readings_from.specs.Reply.{ReadingsLent, readings_room, FromListPost}
 use Rattle.readings_to.specs.declared.ListReply.{ListReply}
 use Rattle.readings_to.specs.Reply.{ListLent, list_room, ToListPost}
-use Rattle.writer.specs.declared.WriteReply.{WriteReply}
+use Rattle.readings.specs.writer.declared.WriteReply.{WriteReply}
 use Rattle.readings.specs.Stream.{FromLent, FromStreamPost, ToLent, ToStreamPost}
 use Rattle.readings.specs.Stream as stream
 use Rattle.theorems.specs.Calls.{Hold}

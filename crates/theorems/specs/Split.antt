@@ -7,12 +7,12 @@ use Rattle.spec_exi.specs.Reader.{read}
 use Rattle.spec_exi.specs.Packets.{receive}
 use Rattle.settings.specs.Meant.{numbers_of}
 use Rattle.settings.specs.declared.SettingNumbers.{SettingNumbers}
-use Rattle.reader.specs.declared.ReadReply.{ReadReply}
-use Rattle.reader.specs.Read.{answer_of}
-use Rattle.reader.specs.Read as reader
-use Rattle.receiver_record.specs.declared.Receiver.{Receiver}
-use Rattle.receiver_record.specs.Record.{Lent, zeros, cleared, left}
-use Rattle.receiver_piece.specs.Piece.{room_of, Told}
+use Rattle.receiver.specs.reader.declared.ReadReply.{ReadReply}
+use Rattle.receiver.specs.reader.Read.{answer_of}
+use Rattle.receiver.specs.reader.Read as reader
+use Rattle.receiver.specs.receiver_record.declared.Receiver.{Receiver}
+use Rattle.receiver.specs.receiver_record.Record.{Lent, zeros, cleared, left}
+use Rattle.receiver.specs.receiver_piece.Piece.{room_of, Told}
 use Rattle.receiver.specs.Calls.{Fed, Closed}
 use Rattle.receiver.specs.Chain.{Chain}
 

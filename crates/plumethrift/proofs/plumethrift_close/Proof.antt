@@ -45,15 +45,15 @@ use denote.Triple.Table.{entered, cited}
 use denote.Triple.Walked.{says, Stays, stay_ref, gave_slice, walk_of, AllGo, Goes-ref}
 use denote.Triple.Walked.{Goes-gave_slice, Walks, ends_at, walked, walk_Meets}
 use denote.Signature.{plain}
-use Rattle.reader.specs.contracts.ReadReply as Y
-use Rattle.reader.proofs.ReadReply.TheLaws as Y'
-use Rattle.receiver_record.specs.declared.Receiver.{Receiver}
-use Rattle.receiver_record.specs.declared.Handed.{Handed}
+use Rattle.receiver.specs.reader.contracts.ReadReply as Y
+use Rattle.receiver.proofs.reader.ReadReply.TheLaws as Y'
+use Rattle.receiver.specs.receiver_record.declared.Receiver.{Receiver}
+use Rattle.receiver.specs.receiver_record.declared.Handed.{Handed}
 use Rattle.receiver.specs.Calls.{Closed}
-use Rattle.receiver_record.specs.contracts.Receiver as T
-use Rattle.receiver_record.proofs.Receiver.TheLaws as T'
-use Rattle.receiver_record.specs.contracts.Handed as D
-use Rattle.receiver_record.proofs.Handed.TheLaws as D'
+use Rattle.receiver.specs.receiver_record.contracts.Receiver as T
+use Rattle.receiver.proofs.receiver_record.Receiver.TheLaws as T'
+use Rattle.receiver.specs.receiver_record.contracts.Handed as D
+use Rattle.receiver.proofs.receiver_record.Handed.TheLaws as D'
 use Rattle.receiver.specs.contracts.closed as closed
 use Rattle.receiver.proofs.closed.Symbol as closed-def
 use Rattle.receiver.proofs.closed.Symbol.{name as #receiver·closed}

@@ -48,15 +48,15 @@ use denote.Triple.Walked.{Goes-ref, Goes-none_slice, Goes-gave_slice, Walks, end
 use denote.Triple.Walked.{walk_Meets}
 use denote.Exit.{yes}
 use denote.Signature.{plain}
-use Rattle.reader.specs.contracts.ReadReply as Y
-use Rattle.reader.proofs.ReadReply.TheLaws as Y'
-use Rattle.receiver_record.specs.declared.Receiver.{Receiver}
-use Rattle.receiver_record.specs.declared.Handed.{Handed}
+use Rattle.receiver.specs.reader.contracts.ReadReply as Y
+use Rattle.receiver.proofs.reader.ReadReply.TheLaws as Y'
+use Rattle.receiver.specs.receiver_record.declared.Receiver.{Receiver}
+use Rattle.receiver.specs.receiver_record.declared.Handed.{Handed}
 use Rattle.receiver.specs.Calls.{Fed}
-use Rattle.receiver_record.specs.contracts.Receiver as T
-use Rattle.receiver_record.proofs.Receiver.TheLaws as T'
-use Rattle.receiver_record.specs.contracts.Handed as D
-use Rattle.receiver_record.proofs.Handed.TheLaws as D'
+use Rattle.receiver.specs.receiver_record.contracts.Receiver as T
+use Rattle.receiver.proofs.receiver_record.Receiver.TheLaws as T'
+use Rattle.receiver.specs.receiver_record.contracts.Handed as D
+use Rattle.receiver.proofs.receiver_record.Handed.TheLaws as D'
 use Rattle.receiver.specs.contracts.fed as fed
 use Rattle.receiver.proofs.fed.Symbol as fed-def
 use Rattle.receiver.proofs.fed.Symbol.{name as #receiver·fed}

@@ -16,13 +16,13 @@ pub use Rattle.settings.specs.declared.SettingNumbers.{SettingNumbers}
 pub use Rattle.settings.specs.Meant.{numbers_of}
 pub use Rattle.event.specs.Cells.{events_of, cells_of_all}
 pub use Rattle.event.specs.Examples.{CellExamples}
-pub use Rattle.reader.specs.declared.ReadReply.{ReadReply}
-pub use Rattle.reader.specs.Read.{reply_of as readNumbers}
-pub use Rattle.writer.specs.declared.WriteReply.{WriteReply}
-pub use Rattle.writer.specs.Write.{reply_of as writeNumbers}
+pub use Rattle.receiver.specs.reader.declared.ReadReply.{ReadReply}
+pub use Rattle.receiver.specs.reader.Read.{reply_of as readNumbers}
+pub use Rattle.readings.specs.writer.declared.WriteReply.{WriteReply}
+pub use Rattle.readings.specs.writer.Write.{reply_of as writeNumbers}
 -- what is lent, the definitions' answer for it, and the contracts
-pub use Rattle.reader.specs.Read.{ReaderLent, reader_room, ReadPost, answer_of as readAnswer}
-pub use Rattle.writer.specs.Write.{WriterLent, writer_room, WritePost, answer_of as writeAnswer}
+pub use Rattle.receiver.specs.reader.Read.{ReaderLent, reader_room, ReadPost, answer_of as readAnswer}
+pub use Rattle.readings.specs.writer.Write.{WriterLent, writer_room, WritePost, answer_of as writeAnswer}
 pub use Rattle.theorems.specs.Claims.{Demand1Reader, Demand1Writer}
 pub use Rattle.theorems.specs.Calls.{zeros, up_to, asked, Hold, ReadCall, CanRead, events_left}
 pub use Rattle.theorems.specs.Calls.{text_left, Leaves, WriteCall, CanWrite, octets_left, Gives}

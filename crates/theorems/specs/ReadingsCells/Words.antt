@@ -16,7 +16,7 @@ pub use Rattle.settings.specs.Meant.{numbers_of}
 pub use Rattle.readings_judge.specs.Verdict.{readings_in}
 pub use Rattle.readings_from.specs.declared.ReadingsReply.{ReadingsReply}
 pub use Rattle.readings_to.specs.declared.ListReply.{ListReply}
-pub use Rattle.writer.specs.declared.WriteReply.{WriteReply}
+pub use Rattle.readings.specs.writer.declared.WriteReply.{WriteReply}
 -- what is lent, and the contracts
 pub use Rattle.readings_from.specs.Reply.{ReadingsLent, FromListPost}
 pub use Rattle.readings_to.specs.Reply.{ListLent, ToListPost}
