@@ -140,6 +140,8 @@ fn limited(v: u64) -> Number
     Number::Is(v as u32)
 }
 
+const NINE: u8 = b'9';
+
 // The number that a word is: 1 to 15 digits, that mean at most 4294967294.
 pub fn number_of(word: Word) -> Number
     ensures { result ≡ number_of word }
@@ -160,7 +162,7 @@ pub fn number_of(word: Word) -> Number
         if c < b'0' {
             return Number::None;
         }
-        if b'9' < c {
+        if NINE < c {
             return Number::None;
         }
         if 4294967294 < v {

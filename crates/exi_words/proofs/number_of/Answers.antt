@@ -19,9 +19,9 @@ returns-then-c-eq0 c =
 pub returns-then-c-lt48 : goal.returns-then-c-lt48
 returns-then-c-lt48 c = below _ c.loop-i.invariant c.loop-i-test.true c.if-c-eq0.false c.if-c-lt48.true
 
-pub returns-then-c-gt57 : goal.returns-then-c-gt57
-returns-then-c-gt57 c =
-    above _ c.loop-i.invariant c.loop-i-test.true c.if-c-eq0.false c.if-c-lt48.false c.if-c-gt57.true
+pub returns-then-c-gt-NINE : goal.returns-then-c-gt-NINE
+returns-then-c-gt-NINE c =
+    above _ c.loop-i.invariant c.loop-i-test.true c.if-c-eq0.false c.if-c-lt48.false c.if-c-gt-NINE.true
 
 pub returns-then-v-gt4294967294 : goal.returns-then-v-gt4294967294
 returns-then-v-gt4294967294 c =
@@ -31,7 +31,7 @@ returns-then-v-gt4294967294 c =
     c.loop-i-test.true
     c.if-c-eq0.false
     c.if-c-lt48.false
-    c.if-c-gt57.false
+    c.if-c-gt-NINE.false
     c.if-v-gt4294967294.true
 
 pub loop-i-preserved : goal.loop-i-preserved
@@ -42,7 +42,7 @@ loop-i-preserved c =
     c.loop-i-test.true
     c.if-c-eq0.false
     c.if-c-lt48.false
-    c.if-c-gt57.false
+    c.if-c-gt-NINE.false
     c.if-v-gt4294967294.false
 
 pub returns : goal.returns
