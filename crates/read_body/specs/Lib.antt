@@ -1,2 +1,3 @@
 pub mod Reply
 pub mod Body
+pub use Rattle.read_run.specs as read_run

@@ -12,6 +12,7 @@ ghost use Rattle.read_body.specs.Body.{PaddingPre, RunPost, BodyPost};
 
 use grammar_open::State;
 use read_field::Field;
+pub use read_run as the_read_run;
 use refusal::TAIL;
 use settings::Settings;
 

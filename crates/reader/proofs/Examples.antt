@@ -22,10 +22,10 @@ use Rattle.mem_initial.specs.Initial.{zeroed, with_text, with_rows, start_at, st
 use Rattle.mem_initial.proofs.Initial.{store-sourced, counts_zero, zeroed-size, start-represents}
 use Rattle.mem_initial.proofs.Initial.{start-topped, BoundsOf, start-means}
 use Rattle.grammar_open.specs.Opened.{last_first, none_open, opened_in}
-use Rattle.read_run.specs.declared.Advanced.{Advanced}
-use Rattle.read_run.specs.Events.{Steps, none_read, one-read}
-use Rattle.read_run.specs.Run.{Running, AdvancePost}
-use Rattle.read_run.proofs.Answers.{Answers, running-answers}
+use Rattle.read_body.specs.read_run.declared.Advanced.{Advanced}
+use Rattle.read_body.specs.read_run.Events.{Steps, none_read, one-read}
+use Rattle.read_body.specs.read_run.Run.{Running, AdvancePost}
+use Rattle.read_body.proofs.read_run.Answers.{Answers, running-answers}
 use Rattle.reader.specs.Read.{ReadStreamPre}
 use Rattle.reader.specs.Examples.{first_reading, first_events, as_octets, Stands, FirstReading}
 use Rattle.reader.proofs.Start.{text-asks}

@@ -19,7 +19,7 @@ use Rattle.mem_initial.proofs.Initial.{start-bounded, BoundsOf, start-means}
 use Rattle.read_literal.specs.Literal.{ZeroFrom}
 use Rattle.grammar_open.specs.declared.State.{State}
 use Rattle.grammar_open.specs.Opened.{last_first, none_open}
-use Rattle.read_run.specs.Run.{AdvancePre}
+use Rattle.read_body.specs.read_run.Run.{AdvancePre}
 use Rattle.read_body.specs.Body.{BodyReady, answer_from}
 use Rattle.reader.specs.Read.{ReadStreamPre}
 

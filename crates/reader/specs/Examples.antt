@@ -9,8 +9,8 @@ use Rattle.mem_rows.specs.Rows.{Rows}
 use Rattle.mem_state.specs.Holds.{in_store, Represents, context_at}
 use Rattle.mem_initial.specs.Initial.{zeroed, with_text, with_rows, start_at}
 use Rattle.grammar_open.specs.Opened.{none_open, opened_in}
-use Rattle.read_run.specs.declared.Advanced.{Advanced}
-use Rattle.read_run.specs.Run.{AdvancePost}
+use Rattle.read_body.specs.read_run.declared.Advanced.{Advanced}
+use Rattle.read_body.specs.read_run.Run.{AdvancePost}
 use Rattle.reader.specs.Read.{ReadStreamPre}
 
 -- K7 (scope, "Streams to check") up to the end tag of its first reading, and the events there.

@@ -10,7 +10,9 @@ ghost use Rattle.settings.specs.Meant.{settings_from};
 ghost use Rattle.read_body.specs.Reply.{Filled};
 ghost use Rattle.reader.specs.Read.{ReadPost, lent, answer_of, Cleared, ReadStreamPre};
 
+pub use read_body as the_read_body;
 use read_body::BodyReply;
+pub use read_body::the_read_run as the_read_run;
 use refusal::{LONG, ROOM, SETTINGS};
 use settings::{SettingNumbers, Settings};
 use sizes::{EVENT_CELLS, MAX_STORE, MAX_STREAM, READER_WORK};

@@ -14,7 +14,7 @@ use Rattle.mem_initial.specs.Initial.{zeroed, with_text, with_rows, start_rows, 
 use Rattle.mem_initial.proofs.Initial.{BoundsOf, start-means}
 use Rattle.grammar_open.specs.declared.State.{State}
 use Rattle.grammar_open.specs.Opened.{last_first, none_open, opened_in}
-use Rattle.read_body.specs.Body.{BodyReady}
+use Rattle.reader.specs.read_body.Body.{BodyReady}
 use Rattle.reader.specs.Read.{ReadStreamPre}
 use Rattle.reader.proofs.Start.{body-ready}
 use Rattle.receiver_read.specs.On.{BeginPre, BeginPost, before-it, Underway}

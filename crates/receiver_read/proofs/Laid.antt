@@ -6,7 +6,7 @@ use native.Mathlib.Omega.{arith}
 use lib.ListN.{length, get_or, take, drop, replicate, length-append}
 use lib.Seq.{get_or-append-add, take_at, drop_at, drop-drop}
 use Rattle.read_literal.specs.Literal.{laid_at, ZeroFrom}
-use Rattle.read_body.proofs.Cells.{drop-zeros}
+use Rattle.reader.proofs.read_body.Cells.{drop-zeros}
 use Rattle.reader.proofs.Start.{zeros-at}
 
 -- Cells b are laid after a, over zeros.

@@ -19,8 +19,8 @@ use Rattle.spec_exi.proofs.Steady.{steady-header}
 use Rattle.spec_exi.proofs.Step.{step-reads}
 use Rattle.spec_exi.proofs.Stream.{header-reads, header-octets}
 use Rattle.grammar_open.specs.declared.State.{State}
-use Rattle.read_run.specs.Events.{Steps, none_read, one-read}
-use Rattle.read_run.proofs.Events.{steps-longer}
+use Rattle.reader.specs.read_run.Events.{Steps, none_read, one-read}
+use Rattle.reader.proofs.read_run.Events.{steps-longer}
 use Rattle.receiver_read.specs.On.{Headed, before-it, after-it, Underway}
 
 -- ---- positions

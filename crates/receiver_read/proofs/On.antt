@@ -28,14 +28,14 @@ use Rattle.read_literal.proofs.Store.{laid-size}
 use Rattle.grammar_open.specs.declared.State.{State}
 use Rattle.grammar_open.specs.Opened.{opened_in}
 use Rattle.read_header.specs.declared.Passed.{Passed}
-use Rattle.read_run.specs.declared.Advanced.{Advanced}
-use Rattle.read_run.specs.Events.{Steps, none_read}
-use Rattle.read_run.specs.Run.{Running, AdvancePre, AdvancePost}
-use Rattle.read_run.proofs.Laid.{text_same}
-use Rattle.read_run.proofs.Events.{steps_then, shifted}
-use Rattle.read_run.proofs.Answers.{Answers, running-answers}
-use Rattle.read_body.specs.Body.{PaddingPre}
-use Rattle.read_body.proofs.Cells.{laid-store}
+use Rattle.reader.specs.read_run.declared.Advanced.{Advanced}
+use Rattle.reader.specs.read_run.Events.{Steps, none_read}
+use Rattle.reader.specs.read_run.Run.{Running, AdvancePre, AdvancePost}
+use Rattle.reader.proofs.read_run.Laid.{text_same}
+use Rattle.reader.proofs.read_run.Events.{steps_then, shifted}
+use Rattle.reader.proofs.read_run.Answers.{Answers, running-answers}
+use Rattle.reader.specs.read_body.Body.{PaddingPre}
+use Rattle.reader.proofs.read_body.Cells.{laid-store}
 use Rattle.receiver_read.specs.On.{Headed, before-it, after-it, Underway, Stands, HeaderPost}
 use Rattle.receiver_read.specs.On.{Onward, OnPost, Ends}
 use Rattle.receiver_read.proofs.Laid.{laid_next, zero-after}

@@ -1,2 +1,2 @@
 pub mod On
-pub use Rattle.read_run.specs as read_run
+pub use Rattle.reader.specs.read_run as read_run

@@ -22,8 +22,8 @@ use Rattle.grammar_open.specs.declared.State.{State}
 use Rattle.grammar_open.specs.Opened.{opened_in}
 use Rattle.read_header.specs.declared.Passed.{Passed}
 use Rattle.read_header.specs.Header.{Passes}
-use Rattle.read_run.specs.declared.Advanced.{Advanced}
-use Rattle.read_run.specs.Events.{Steps}
+use Rattle.reader.specs.read_run.declared.Advanced.{Advanced}
+use Rattle.reader.specs.read_run.Events.{Steps}
 
 -- ---- before the first event
 

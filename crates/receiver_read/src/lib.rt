@@ -5,14 +5,14 @@
 ghost use Rattle.std.specs.Prelude.{◌≡◌, ◌≤◌, length, take};
 ghost use Rattle.spec_exi.specs.Sizes.{max_stream};
 ghost use Rattle.settings.specs.Meant.{settings_from};
-ghost use Rattle.read_run.specs.Run.{AdvancePre};
+ghost use Rattle.reader.specs.read_run.Run.{AdvancePre};
 ghost use Rattle.receiver_read.specs.On.{BeginPre, BeginPost, OutermostPost, HeaderPost};
 ghost use Rattle.receiver_read.specs.On.{OnPost};
 
 use grammar_open::State;
 use read_header::Passed;
 pub use read_run as the_read_run;
-use read_run::Advanced;
+use reader::the_read_run::Advanced;
 use refusal::TAIL;
 use settings::Settings;
 
@@ -75,11 +75,11 @@ pub fn read_on(
     }
     let mut t = st;
     t.core.at = h.at;
-    let r = read_run::advance(o, stream, t, first, events, text, work);
+    let r = reader::the_read_run::advance(o, stream, t, first, events, text, work);
     if r.number != 0 {
         return r;
     }
-    if read_body::is_padding(stream, r.state.core.at) {
+    if reader::the_read_body::is_padding(stream, r.state.core.at) {
         return r;
     }
     let mut y = r;
