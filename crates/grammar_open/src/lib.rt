@@ -14,7 +14,7 @@ use sizes::MAX_OPEN;
 
 // The numbers, and the open elements by the rows of their names, the innermost last.
 #[repr(C)]
-#[derive(Drop)]
+#[derive(Clone, Copy)]
 pub struct State {
     pub core: Core,
     pub opened: [u16; MAX_OPEN],

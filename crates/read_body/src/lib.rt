@@ -18,7 +18,7 @@ use settings::Settings;
 
 // The number of the refusal or 0, the index of the event concerned, and the counts of events and
 // code points.
-#[derive(Drop)]
+#[derive(Clone, Copy)]
 pub struct BodyReply {
     pub number: u32,
     pub index: u32,

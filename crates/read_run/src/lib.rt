@@ -14,7 +14,7 @@ use settings::Settings;
 use sizes::{CELLS_PER_EVENT, MAX_EVENTS, MAX_OPEN};
 
 // The number of the refusal or 0, how many events are read, and the state after them.
-#[derive(Drop)]
+#[derive(Clone, Copy)]
 pub struct Advanced {
     pub number: u32,
     pub index: usize,

@@ -23,7 +23,7 @@ use sizes::{
 
 // A closed receiver repeats its answer; a refused one keeps its reply, as does one that is refused
 // now; the octets of any other are read.
-#[derive(Drop)]
+#[derive(Clone, Copy)]
 pub enum Course {
     Repeats,
     Refused(ReadReply),

@@ -11,7 +11,7 @@ ghost use Rattle.receiver_read.specs.On.{OnPost};
 
 use grammar_open::State;
 use read_header::Passed;
-pub use read_run as the_read_run;
+pub use reader::the_read_run as the_read_run;
 use reader::the_read_run::Advanced;
 use refusal::TAIL;
 use settings::Settings;

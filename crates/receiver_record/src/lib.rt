@@ -22,7 +22,7 @@ pub const CLOSED: u32 = 3;
 // A literal that is cut: the position of its next code point, and how many are to come; none where
 // no literal is.
 #[repr(C)]
-#[derive(Drop)]
+#[derive(Clone, Copy)]
 pub struct Wait {
     pub at: usize,
     pub left: usize,
@@ -31,7 +31,7 @@ pub struct Wait {
 // The settings; the phase; how many octets were handed over, or one more than a stream may have;
 // the newest reply; the state after the complete events, at position 0 before the header is read.
 #[repr(C)]
-#[derive(Drop)]
+#[derive(Clone, Copy)]
 pub struct Receiver {
     pub settings: SettingNumbers,
     pub phase: u32,
@@ -43,7 +43,7 @@ pub struct Receiver {
 
 // What a call answers: the record for the next one, and the reply.
 #[repr(C)]
-#[derive(Drop)]
+#[derive(Clone, Copy)]
 pub struct Handed {
     pub receiver: Receiver,
     pub reply: ReadReply,

@@ -10,7 +10,7 @@ use refusal::CHARACTER;
 use sizes::MAX_STRING;
 
 // The number of a refusal or 0, and the position after the code point.
-#[derive(Drop)]
+#[derive(Clone, Copy)]
 struct Point {
     number: u32,
     next: usize,
@@ -18,7 +18,7 @@ struct Point {
 
 // The number of a refusal or 0; the position after the code points, or that of the first that is
 // refused; how many are left with it.
-#[derive(Drop)]
+#[derive(Clone, Copy)]
 pub struct Skipped {
     pub number: u32,
     pub at: usize,
@@ -27,7 +27,7 @@ pub struct Skipped {
 
 // Whether a string, or all strings so far, are passed, and the position after them; or where code
 // points are left the position of the first of these, and how many they are.
-#[derive(Drop)]
+#[derive(Clone, Copy)]
 pub struct Looked {
     pub past: bool,
     pub at: usize,

@@ -16,7 +16,7 @@ use write_run::Run;
 
 // The number of the refusal or 0, the index of the event concerned, and the count of octets.
 #[repr(C)]
-#[derive(Drop)]
+#[derive(Clone, Copy)]
 pub struct WriteReply {
     pub number: u32,
     pub index: u32,
