@@ -7,7 +7,6 @@ use lib.ListN.{get_or}
 use borrow.Author.Tests.{le-leb, lt-leb, eq-eqb, ne_eqb}
 use Rattle.text.specs.Text.{Text}
 use Rattle.exi_words.specs.Words.{limited_to, number_at, number_of}
-use Rattle.exi_words.specs.declared.Number.{Number}
 use Rattle.exi_words.specs.declared.Number.TheVariants.{None}
 
 -- The first i digits mean v, and the others are to come.
