@@ -1,0 +1,8 @@
+use Rattle.receiver_phases.proofs.Phases.{closes}
+use borrow.Author.Rules.{rules}
+use Rattle.receiver_phases.proofs.close_refused.Goals as goal
+
+-- `close_refused` meets its contract.
+pub returns : goal.returns
+returns c =
+    closes _ _ c.clear_all.ensures
