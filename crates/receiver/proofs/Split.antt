@@ -203,7 +203,7 @@ module _ (s : SettingNumbers) (m : Lent) where
         ap (λ x. (read_reply x).number) q in
         let no_room : number_of k ≡ 1 → ⊥ =
         λ z. replies.contrary (enough_to_read sizes (room_of m)) (is_t _ (enough true e))
-        ((replies.no_room out).0 (n ∙ z)) in
+        ((replies.no_room_lem out).0 (n ∙ z)) in
         let no-meaning : number_of k ≡ 2 → ⊥ =
         λ z. replies.contrary (meaningful o) (is_t _ f) ((replies.no-meaning out).0 (n ∙ z)).1 in
         rw (ne_eqb (number_of k) 1 no_room, ne_eqb (number_of k) 2 no-meaning)

@@ -39,9 +39,9 @@ theorems =
     record {
       demand-1-reader = λ r o stream. record {
         numbers = reader.numbers (reader.outcome r o stream);
-        no_room = reader.no_room (reader.outcome r o stream);
+        no_room = reader.no_room_lem (reader.outcome r o stream);
         no-meaning = reader.no-meaning (reader.outcome r o stream);
-        too_long = reader.too_long (reader.outcome r o stream);
+        too_long = reader.too_long_lem (reader.outcome r o stream);
         index = packets.index-counts r o stream;
         no_index = reader.no_index (reader.outcome r o stream);
         counts = reader.counts (read r o stream);
@@ -50,9 +50,9 @@ theorems =
       };
       demand-1-writer = λ r o xs store. record {
         numbers = writer.numbers (writer.outcome r o xs store);
-        no_room = writer.no_room (writer.outcome r o xs store);
+        no_room = writer.no_room_lem (writer.outcome r o xs store);
         no-meaning = writer.no-meaning (writer.outcome r o xs store);
-        too_long = writer.too_long r o xs store;
+        too_long = writer.too_long_lem r o xs store;
         index = writer.index (writer.outcome r o xs store);
         no_index = writer.no_index (writer.outcome r o xs store);
         counts = writer.counts (write r o xs store);
