@@ -1,7 +1,8 @@
 -- Contexts that differ at most in where their strings lie: same state, grammars and start tag, same
 -- texts under the same keys in the same order, same bounds of values, same learned productions by
 -- the texts of their names, text stores of the same length.
-use Rattle.spec_fields.specs.Prelude.{◌≡◌, map, Option, none, some, Option·map, length, replicate}
+use Rattle.std.specs.Prelude.{◌≡◌}
+use Rattle.spec_fields.specs.Prelude.{map, Option, none, some, Option·map, length, replicate}
 use Rattle.spec_exi.specs as Exi
 use Exi.{Event.QName, Event.map_name, Tables.Placed, Tables.Entry, Tables.Values, Tables.Tables}
 use Exi.{Grammar.Production, Grammar.Learned, Grammar.Code, Context.Context}

@@ -1,7 +1,8 @@
 -- Everything that the events before leave: state, string tables, learned productions, element
 -- grammars and the start tag that is open. One definition says what an event leaves, for the strict
 -- form, the reader and the writer.
-use Rattle.spec_fields.specs.Prelude.{Bool, true, false, cond, List, [], ◌∷◌, ◌++◌, Option, none}
+use Rattle.std.specs.Prelude.{◌∷◌, ◌++◌}
+use Rattle.spec_fields.specs.Prelude.{Bool, true, false, cond, List, [], Option, none}
 use Rattle.spec_fields.specs.Prelude.{some, Option·map}
 use Rattle.text.specs.Text.{Text, eq_text}
 use Rattle.spec_exi.specs as Exi

@@ -1,8 +1,10 @@
 -- How worked examples are written: streams with what the reader answers for them. Each topic has a
 -- module below, and takes the words of the definitions from here.
+pub use Rattle.std.specs.Prelude.{◌+◌, ◌≡◌, ◌∷◌, ◌++◌}
+use Rattle.std.specs.Prelude.{◌*◌, ◌-◌}
 use Rattle.spec_exi.specs as Exi
-pub use Rattle.spec_fields.specs.Prelude.{ℕ, suc, ◌+◌, String, ◌≡◌, true, false, List, [], ◌∷◌}
-pub use Rattle.spec_fields.specs.Prelude.{◌++◌, map, none, some, replicate, get_or, T}
+pub use Rattle.spec_fields.specs.Prelude.{ℕ, suc, String, true, false, List, []}
+pub use Rattle.spec_fields.specs.Prelude.{map, none, some, replicate, get_or, T}
 pub use Rattle.spec_fields.specs.Refusal.{Refusal, settings, long, header, ended, code, number}
 pub use Rattle.spec_fields.specs.Refusal.{character, reference, loose, name, limit, tail, shape}
 pub use Rattle.spec_fields.specs.Refusal.{place, Numbered, Answer, refused, accepted}
@@ -13,7 +15,7 @@ pub use Exi.{Settings.Settings, Settings.SettingNumbers, Settings.settings_of, S
 pub use Exi.{Sizes.sizes, Tables.span_of, Tables.initial_entries, Tables.name_allowed}
 pub use Exi.Reader.{ReaderRoom, Reading, read_sized, read, list_of, ReadReply, read_reply}
 pub use Exi.Writer.{WriterRoom, Stored, write_list, write, WriteReply, write_reply}
-use Rattle.spec_fields.specs.Prelude.{◌*◌, ◌-◌, cond, ltb}
+use Rattle.spec_fields.specs.Prelude.{cond, ltb}
 use Exi.Sizes.{max_stream, max_store, reader_work, event_cells, writer_work}
 use Exi.Strict.{strict}
 pub mod Scope

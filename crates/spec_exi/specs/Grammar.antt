@@ -1,8 +1,9 @@
 -- The grammars (EXI 8.3, 8.4; scope, "Grammars"; P1): productions, the event codes that they have,
 -- and what is learned.
+use Rattle.std.specs.Prelude.{◌&&◌, ◌||◌, ◌∷◌, ◌++◌}
 use Rattle.spec_fields.specs.{Bits.Bits, Field.Alignment, Field.choice_bits}
-use Rattle.spec_fields.specs.Prelude.{ℕ, suc, Bool, true, false, cond, ◌&&◌, ◌||◌, not, List, []}
-use Rattle.spec_fields.specs.Prelude.{◌∷◌, ◌++◌, map, Option, none, some, Option·map, length, eqb}
+use Rattle.spec_fields.specs.Prelude.{ℕ, suc, Bool, true, false, cond, not, List, []}
+use Rattle.spec_fields.specs.Prelude.{map, Option, none, some, Option·map, length, eqb}
 use Rattle.text.specs.Text.{Text, eq_text}
 use Rattle.spec_exi.specs.{Settings.Settings, Tables.Placed, Tables.name_text}
 use Rattle.spec_exi.specs.Event.{QName, Event, start_document, end_document, end_element}

@@ -1,6 +1,7 @@
 -- Which lists are well-formed and which are inside the limits (scope, "What is bought" and
 -- "Sizes"), by the lists themselves and their strict forms.
-use Rattle.spec_fields.specs.Prelude.{◌-◌, ◌≤◌, ◌≡◌, Bool, true, false, ◌&&◌, List, [], ◌∷◌, ◌++◌}
+use Rattle.std.specs.Prelude.{◌-◌, ◌≤◌, ◌≡◌, ◌&&◌, ◌∷◌, ◌++◌}
+use Rattle.spec_fields.specs.Prelude.{Bool, true, false, List, []}
 use Rattle.spec_fields.specs.Prelude.{Option, none, some, length, leb, T}
 use Rattle.text.specs.Text.{Text, all_chars}
 use Rattle.spec_exi.specs as Exi

@@ -1,6 +1,7 @@
 -- What stored events mean over a text store, and the list that the reader answers (scope, "What is
 -- bought" and "Refusal numbers").
-use Rattle.spec_fields.specs.Prelude.{ℕ, ◌<◌, ◌≡◌, cond, List, [], ◌∷◌, map, Option, none, some}
+use Rattle.std.specs.Prelude.{◌<◌, ◌≡◌, ◌∷◌}
+use Rattle.spec_fields.specs.Prelude.{ℕ, cond, List, [], map, Option, none, some}
 use Rattle.spec_fields.specs.Prelude.{length, T, ltb}
 use Rattle.spec_fields.specs.Refusal.{accepted}
 use Rattle.text.specs.Text.{Text, inside, part}

@@ -1,7 +1,8 @@
 -- A stream that comes in pieces (P8, "The stream in packets"): what is answered to the octets so
 -- far, however they were cut.
+use Rattle.std.specs.Prelude.{◌≡◌, ◌∷◌, ◌++◌}
 use Rattle.spec_fields.specs.{Bits.Bits, Bits.unpack, Parser.Result, Parser.bad, Parser.got}
-use Rattle.spec_fields.specs.Prelude.{ℕ, zero, suc, ◌≡◌, cond, List, [], ◌∷◌, ◌++◌, eqb}
+use Rattle.spec_fields.specs.Prelude.{ℕ, zero, suc, cond, List, [], eqb}
 use Rattle.spec_fields.specs.Refusal.{number_of, ended, Answer, refused, accepted}
 use Rattle.text.specs.Text.{Text}
 use Rattle.spec_exi.specs as Exi

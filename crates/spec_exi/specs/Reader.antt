@@ -1,7 +1,8 @@
 -- The reader's answer for any octets (scope, "Refusal numbers"): what it refuses, in order, or what
 -- it reads.
+use Rattle.std.specs.Prelude.{◌+◌, ◌*◌, ◌-◌, ◌&&◌, ◌∷◌}
 use Rattle.spec_fields.specs as Fields
-use Fields.Prelude.{ℕ, zero, suc, ◌+◌, ◌*◌, ◌-◌, Bool, true, false, cond, ◌&&◌, not, List, [], ◌∷◌}
+use Fields.Prelude.{ℕ, zero, suc, Bool, true, false, cond, not, List, []}
 use Fields.Prelude.{map, Option, none, some, length, get_elem?, leb, eqb}
 use Fields.Bits.{Bits, unpack, is_padding}
 use Fields.Refusal.{number_of, room, settings, long, header, code, character, reference, loose, name}

@@ -1,6 +1,7 @@
 -- What the two sides agree on outside the stream (scope, "What is bought"), and the header that
 -- follows from it.
-use Rattle.spec_fields.specs.Prelude.{ℕ, zero, suc, Bool, cond, ◌&&◌, List, [], ◌∷◌, ◌++◌, Option}
+use Rattle.std.specs.Prelude.{◌&&◌, ◌∷◌, ◌++◌}
+use Rattle.spec_fields.specs.Prelude.{ℕ, zero, suc, Bool, cond, List, [], Option}
 use Rattle.spec_fields.specs.Prelude.{none, some, eqb, leb}
 use Rattle.spec_fields.specs.Field.{Alignment, bit_packed, byte_aligned}
 use Rattle.spec_exi.specs.Sizes.{max_values}

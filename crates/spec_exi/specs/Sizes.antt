@@ -1,6 +1,7 @@
 -- The sizes (scope, "Sizes"), and the lent lengths that follow from them. Code has a constant for
 -- each (crates/sizes).
-use Rattle.spec_fields.specs.Prelude.{ℕ, ◌*◌, ◌≤◌}
+use Rattle.std.specs.Prelude.{◌*◌, ◌≤◌}
+use Rattle.spec_fields.specs.Prelude.{ℕ}
 
 -- octets of a stream (LONG; the others are LIMIT's)
 unfoldable pub max_stream : ℕ

@@ -1,7 +1,8 @@
 -- The strict form of a list (scope, "Grammars"; ours): the header, then each event's code and
 -- content in list order, by the tables and grammars as everything before has left them.
+use Rattle.std.specs.Prelude.{◌∷◌, ◌++◌}
 use Rattle.spec_fields.specs.{Bits.Bits, Bits.unpack, Bits.pack, Field.Alignment}
-use Rattle.spec_fields.specs.Prelude.{cond, List, [], ◌∷◌, ◌++◌, Option, none, some, ℕ}
+use Rattle.spec_fields.specs.Prelude.{cond, List, [], Option, none, some, ℕ}
 use Rattle.text.specs.Text.{Text}
 use Rattle.spec_exi.specs as Exi
 use Exi.{Event.Event, Settings.Settings, Settings.header_of, Tables.Tables, Tables.partitions_of}

@@ -1,8 +1,9 @@
 -- The string tables (EXI 7.3), how a string stands in a stream by them, and what it leaves in them.
+use Rattle.std.specs.Prelude.{◌+◌, ◌-◌, ◌&&◌, ◌||◌, ◌∷◌, ◌++◌}
 use Rattle.spec_fields.specs as Fields
 use Fields.{Bits.Bits, Bits.each, Field.Alignment, Field.choice_bits, Field.unsigned_bits}
-use Fields.Prelude.{ℕ, zero, suc, ◌+◌, ◌-◌, Bool, true, false, cond, ◌&&◌, ◌||◌, not, List, [], ◌∷◌}
-use Fields.Prelude.{◌++◌, map, Option, none, some, Option·map, length, get_or, take, drop, eqb, leb}
+use Fields.Prelude.{ℕ, zero, suc, Bool, true, false, cond, not, List, []}
+use Fields.Prelude.{map, Option, none, some, Option·map, length, get_or, take, drop, eqb, leb}
 use Rattle.text.specs.Text.{Text, Span, text, eq_text, is_empty}
 use Rattle.text.specs.Names.{is_ncname, is_xml, has_pair, ends_in}
 use Rattle.spec_exi.specs.Event.{QName, Event, map_name, map_event, eq_name}

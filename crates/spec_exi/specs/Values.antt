@@ -1,6 +1,7 @@
 -- A value that is added, in EXI 7.3.3's words (P5): Tables.antt has the value partitions by the
 -- list of all values that were ever added, and this is what adding one more comes to.
-use Rattle.spec_fields.specs.Prelude.{ℕ, suc, ◌≡◌, false, cond, List, [], ◌∷◌, ◌++◌, Option, none}
+use Rattle.std.specs.Prelude.{◌≡◌, ◌∷◌, ◌++◌}
+use Rattle.spec_fields.specs.Prelude.{ℕ, suc, false, cond, List, [], Option, none}
 use Rattle.spec_fields.specs.Prelude.{some, length, take, drop, get_or, eqb, T}
 use Rattle.text.specs.Text.{Text}
 use Rattle.spec_exi.specs.Event.{QName, eq_name}

@@ -1,7 +1,8 @@
 -- The writer's answer for any list (scope, "Refusal numbers"): what it refuses, in order, or the
 -- octets.
-use Rattle.spec_fields.specs.Prelude.{ℕ, zero, suc, Bool, false, cond, ◌&&◌, not, List, [], ◌∷◌}
-use Rattle.spec_fields.specs.Prelude.{◌++◌, Option, none, some, length, leb}
+use Rattle.std.specs.Prelude.{◌&&◌, ◌∷◌, ◌++◌}
+use Rattle.spec_fields.specs.Prelude.{ℕ, zero, suc, Bool, false, cond, not, List, []}
+use Rattle.spec_fields.specs.Prelude.{Option, none, some, length, leb}
 use Rattle.spec_fields.specs.Bits.{Bits, unpack, pack}
 use Rattle.spec_fields.specs.Refusal.{Refusal, number_of, room, settings, long, character, name}
 use Rattle.spec_fields.specs.Refusal.{limit, shape, place, Answer, refused, accepted}

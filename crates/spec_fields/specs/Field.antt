@@ -1,6 +1,7 @@
 -- The fields that streams are made of, each as its bits and as its parser.
-use Rattle.spec_fields.specs.Prelude.{ℕ, zero, suc, ◌+◌, ◌*◌, ◌-◌, ◌/◌, ◌%◌, ◌^◌, Bool, true}
-use Rattle.spec_fields.specs.Prelude.{cond, ◌&&◌, List, [], ◌∷◌, length, get_elem?, leb, ltb}
+use Rattle.std.specs.Prelude.{◌+◌, ◌*◌, ◌-◌, ◌/◌, ◌%◌, ◌^◌, ◌&&◌, ◌∷◌}
+use Rattle.spec_fields.specs.Prelude.{ℕ, zero, suc, Bool, true}
+use Rattle.spec_fields.specs.Prelude.{cond, List, [], length, get_elem?, leb, ltb}
 use Rattle.spec_fields.specs.Bits.{Bits, bits_of, value_of, unpack, octets_for}
 use Rattle.spec_fields.specs.Refusal.{Refusal, ended, number}
 use Rattle.spec_fields.specs.Parser.{bad, got, Parser, return, fail, present, need, times}

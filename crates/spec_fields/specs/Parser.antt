@@ -1,8 +1,9 @@
 -- Parsers of bits: a refusal, or a value and the bits that are left. They are how the scope's "goes
 -- by stream order" is said ("Refusal numbers", "Order"): what fails first is answered.
+use Rattle.std.specs.Prelude.{◌∷◌}
 use Rattle.spec_fields.specs as Fields
 use Fields.{Bits.Bits, Refusal.Refusal}
-use Fields.Prelude.{ℕ, zero, suc, Bool, true, false, List, [], ◌∷◌, Option, none, some}
+use Fields.Prelude.{ℕ, zero, suc, Bool, true, false, List, [], Option, none, some}
 
 -- What a parser answers: a refusal, or a value and the bits after it.
 pub data Result (A : Type 0) : Type 0 where

@@ -1,7 +1,8 @@
 -- Worked examples at the scope's own sizes, for the writer: a list that ends early, or LIMIT. (Both
 -- sides of each size, for the reader too, are among spec_exi's by small sizes, and the sizes
 -- pinned.)
-use Rattle.spec_fields.specs.Prelude.{ℕ, zero, suc, ◌+◌, List, [], ◌∷◌, ◌++◌, some, replicate}
+use Rattle.std.specs.Prelude.{◌+◌, ◌∷◌, ◌++◌}
+use Rattle.spec_fields.specs.Prelude.{ℕ, zero, suc, List, [], some, replicate}
 use Rattle.spec_exi.specs.Examples.{limit, shape, refused, Text, start_element, attribute, Stored}
 use Rattle.spec_exi.specs.Examples.{Places.at, Places.in_uri, Places.named, Written.WriteExample}
 use Rattle.spec_exi.specs.Examples.{Written.listed}

@@ -1,6 +1,7 @@
 -- A call of the reader and of the writer, by its contract alone, and what it leaves: of these the
 -- claims in Cells.antt speak.
-use Rattle.spec_fields.specs.Prelude.{ℕ, ◌*◌, ◌-◌, ◌≡◌, List, ◌++◌, some, length, take, replicate}
+use Rattle.std.specs.Prelude.{◌*◌, ◌-◌, ◌≡◌, ◌++◌}
+use Rattle.spec_fields.specs.Prelude.{ℕ, List, some, length, take, replicate}
 use Rattle.spec_fields.specs.Prelude.{T}
 use Rattle.text.specs.Text.{Text}
 use Rattle.spec_exi.specs.Event.{Event}

@@ -1,6 +1,7 @@
 -- What is proved of a stream that comes in pieces, however it is cut: the answer after a piece goes
 -- by the octets so far alone, and only grows; the closing call's is `read`.
-use Rattle.spec_fields.specs.Prelude.{ℕ, ◌≤◌, ◌<◌, ◌≡◌, ◌↔◌, not, List, ◌++◌, length, T}
+use Rattle.std.specs.Prelude.{◌≤◌, ◌<◌, ◌≡◌, ◌↔◌, ◌++◌}
+use Rattle.spec_fields.specs.Prelude.{ℕ, not, List, length, T}
 use Rattle.spec_fields.specs.Refusal.{Refusal, room, settings, long, ended, refused, accepted}
 use Rattle.spec_exi.specs.Settings.{SettingNumbers, meaningful, settings_of}
 use Rattle.spec_exi.specs.Sizes.{sizes, max_stream}

@@ -1,6 +1,7 @@
 -- Calls between lists, streams and readings, by their contracts alone, and what they leave: of
 -- these the claims in ReadingsCells.antt speak.
-use Rattle.spec_fields.specs.Prelude.{ℕ, ◌*◌, ◌≡◌, List, take, T}
+use Rattle.std.specs.Prelude.{◌*◌, ◌≡◌}
+use Rattle.spec_fields.specs.Prelude.{ℕ, List, take, T}
 use Rattle.text.specs.Text.{Text}
 use Rattle.spec_exi.specs.Event.{Event}
 use Rattle.spec_exi.specs.Settings.{meaningful}

@@ -1,7 +1,8 @@
 -- What is proved of a receiver's calls, one after the other: however a stream is cut, each call
 -- answers by the octets so far, and the closing one as the whole reader. `Fed` and `Closed` are the
 -- contracts of the running functions (crates/receiver).
-use Rattle.spec_fields.specs.Prelude.{ℕ, ◌≤◌, ◌<◌, ◌≡◌, cond, List, ◌++◌, length, eqb}
+use Rattle.std.specs.Prelude.{◌≤◌, ◌<◌, ◌≡◌, ◌++◌}
+use Rattle.spec_fields.specs.Prelude.{ℕ, cond, List, length, eqb}
 use Rattle.spec_exi.specs.Sizes.{max_stream}
 use Rattle.spec_exi.specs.Reader.{read}
 use Rattle.spec_exi.specs.Packets.{receive}

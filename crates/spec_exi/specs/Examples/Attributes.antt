@@ -1,7 +1,8 @@
 -- Equal attributes (P3): the second attribute of one name in a start tag is SHAPE, after the checks
 -- of its content and before LOOSE for the production. Each stream and list begins with <a k="x".
+use Rattle.std.specs.Prelude.{◌∷◌, ◌++◌}
 use Rattle.spec_exi.specs.Examples
-use Examples.{ℕ, String, List, [], ◌∷◌, ◌++◌, some, Refusal, ended, number, character, reference}
+use Examples.{ℕ, String, List, [], some, Refusal, ended, number, character, reference}
 use Examples.{loose, limit, shape, place, Answer, refused, Text, text, Event, start_element}
 use Examples.{attribute, Stored, Example, in_octets, two_lines, begin, attr, end, whole, Places.at}
 use Examples.{Places.in_uri, Places.named, Written.WriteExample, Written.listed}

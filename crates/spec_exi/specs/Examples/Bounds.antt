@@ -1,7 +1,8 @@
 -- By small sizes: both sides of each size, for the reader and the writer, and which test comes
 -- first where a size is passed, too.
+use Rattle.std.specs.Prelude.{◌+◌, ◌≡◌, ◌∷◌, ◌++◌}
 use Rattle.spec_exi.specs.Meaning.{stored_of}
-use Rattle.spec_exi.specs.Examples.{ℕ, suc, ◌+◌, String, ◌≡◌, List, [], ◌∷◌, ◌++◌, map, get_or}
+use Rattle.spec_exi.specs.Examples.{ℕ, suc, String, List, [], map, get_or}
 use Rattle.spec_exi.specs.Examples.{replicate, Refusal, long, loose, name, limit, Answer}
 use Rattle.spec_exi.specs.Examples.{refused, accepted, SettingNumbers, settings_of, Sizes}
 use Rattle.spec_exi.specs.Examples.{Reading, read_sized, read, list_of, read_reply, write_list}

@@ -1,6 +1,7 @@
 -- Fragments (EXI 8.4.2; P1): streams and lists.
+use Rattle.std.specs.Prelude.{◌∷◌}
 use Rattle.spec_exi.specs.Examples
-use Examples.{ℕ, List, [], ◌∷◌, some, ended, code, loose, tail, shape, Answer, refused, accepted}
+use Examples.{ℕ, List, [], some, ended, code, loose, tail, shape, Answer, refused, accepted}
 use Examples.{Text, text, end_document, end_element, start_element, attribute, characters}
 use Examples.{SettingNumbers, Stored, Example, numbers, octets, example, begin, remark, instruct}
 use Examples.{end, whole, Places.at, Places.named, Written.WriteExample, Written.listed}

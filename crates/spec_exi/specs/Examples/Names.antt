@@ -1,8 +1,9 @@
 -- Names are names (P6): local names and targets that are NAME, comments and instructions' texts
 -- that are CHARACTER. Lists that end after what is no fault are SHAPE at their length.
+use Rattle.std.specs.Prelude.{◌∷◌, ◌++◌}
 use Rattle.spec_exi.specs.Lists.{every}
 use Rattle.spec_exi.specs.Examples
-use Examples.{ℕ, String, List, [], ◌∷◌, ◌++◌, some, T, replicate, Refusal, ended, character, name}
+use Examples.{ℕ, String, List, [], some, T, replicate, Refusal, ended, character, name}
 use Examples.{limit, shape, Answer, refused, Span, Text, text, Event, start_element, attribute}
 use Examples.{comment, instruction, Settings, Sizes, name_allowed, initial_entries, Example, numbers}
 use Examples.{in_octets, example, two_lines, begin, begin_in, attr, chars, remark, instruct, end}

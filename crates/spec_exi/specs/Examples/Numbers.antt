@@ -1,6 +1,7 @@
 -- The scope's numbers, each written out: refusals, sizes, settings, lent lengths, Chars.
+use Rattle.std.specs.Prelude.{◌≡◌, ◌∷◌, ◌++◌}
 use Rattle.spec_exi.specs.Examples
-use Examples.{ℕ, ◌≡◌, true, false, List, [], ◌∷◌, ◌++◌, map, replicate, Numbered, is_char}
+use Examples.{ℕ, true, false, List, [], map, replicate, Numbered, is_char}
 use Examples.{SettingNumbers, sizes, ReaderRoom, read, read_reply, WriterRoom, write, write_reply}
 use Examples.{full, full_to_write, numbers, Bounds.sizes_as, Bounds.Bounded, Bounds.bounds}
 

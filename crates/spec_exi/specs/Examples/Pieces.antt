@@ -1,6 +1,7 @@
 -- A stream in pieces: what is told after each, byte-aligned.
+use Rattle.std.specs.Prelude.{◌≡◌, ◌∷◌}
 use Rattle.spec_exi.specs.Packets.{receive}
-use Rattle.spec_exi.specs.Examples.{String, ◌≡◌, List, [], ◌∷◌, map, ReadReply, read_reply}
+use Rattle.spec_exi.specs.Examples.{String, List, [], map, ReadReply, read_reply}
 use Rattle.spec_exi.specs.Examples.{full, reply, in_octets, octets}
 
 -- The octets so far, and the reply to them. Each is replied to as it says.

@@ -1,5 +1,6 @@
 -- Where the strings lie: the events as they lie in memory, and the text store.
-use Rattle.spec_exi.specs.Examples.{ℕ, String, ◌≡◌, List, [], ◌∷◌, ◌++◌, map, Answer, refused}
+use Rattle.std.specs.Prelude.{◌≡◌, ◌∷◌, ◌++◌}
+use Rattle.spec_exi.specs.Examples.{ℕ, String, List, [], map, Answer, refused}
 use Rattle.spec_exi.specs.Examples.{accepted, Span, Text, text, QName, Event, map_event}
 use Rattle.spec_exi.specs.Examples.{start_document, end_document, end_element, start_element}
 use Rattle.spec_exi.specs.Examples.{attribute, span_of, Reading, read, full, in_octets, octets}

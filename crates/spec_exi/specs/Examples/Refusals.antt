@@ -1,5 +1,6 @@
 -- What the reader refuses: the order of its tests, and both sides of what no other module has.
-use Rattle.spec_exi.specs.Examples.{String, List, [], ◌∷◌, settings, header, ended, number}
+use Rattle.std.specs.Prelude.{◌∷◌}
+use Rattle.spec_exi.specs.Examples.{String, List, [], settings, header, ended, number}
 use Rattle.spec_exi.specs.Examples.{character, reference, loose, name, limit, tail, Answer}
 use Rattle.spec_exi.specs.Examples.{refused, Text, Event, Example, numbers, in_bits, in_octets}
 use Rattle.spec_exi.specs.Examples.{two_lines, example, begin, chars, end, whole}

@@ -1,5 +1,6 @@
 -- K1 to K12 (scope, "Streams to check"), and the replies to them in numbers.
-use Rattle.spec_exi.specs.Examples.{List, [], ◌∷◌, code, number, reference, loose, tail}
+use Rattle.std.specs.Prelude.{◌∷◌}
+use Rattle.spec_exi.specs.Examples.{List, [], code, number, reference, loose, tail}
 use Rattle.spec_exi.specs.Examples.{refused, ReadReply, Example, reply, in_bits, in_octets}
 use Rattle.spec_exi.specs.Examples.{example, begin, attr, chars, end, whole}
 

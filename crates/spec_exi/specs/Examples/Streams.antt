@@ -1,5 +1,6 @@
 -- Streams for what tables and grammars hold, and for each setting.
-use Rattle.spec_exi.specs.Examples.{List, [], ◌∷◌, loose, refused, Example, numbers, in_bits}
+use Rattle.std.specs.Prelude.{◌∷◌}
+use Rattle.spec_exi.specs.Examples.{List, [], loose, refused, Example, numbers, in_bits}
 use Rattle.spec_exi.specs.Examples.{in_octets, two_lines, example, begin_in, begin, attr_in, attr}
 use Rattle.spec_exi.specs.Examples.{chars, remark, instruct, end, whole}
 

@@ -1,6 +1,7 @@
 -- Bounded value tables (P5): which values join, numbers that go round, and numbers that are gone.
+use Rattle.std.specs.Prelude.{◌+◌, ◌≡◌, ◌∷◌, ◌++◌}
 use Rattle.spec_exi.specs.Examples
-use Examples.{ℕ, ◌+◌, String, ◌≡◌, List, [], ◌∷◌, ◌++◌, map, loose, reference, Answer, refused}
+use Examples.{ℕ, String, List, [], map, loose, reference, Answer, refused}
 use Examples.{Text, text, Event, characters, SettingNumbers, ReadReply, read_sized, read, read_reply}
 use Examples.{WriteReply, write_reply, Example, reply, full, numbers, octets, two_lines, begin, chars}
 use Examples.{end, whole, Bounds.only, Bounds.rewritten, Written.wrote}

@@ -1,6 +1,7 @@
 -- Lists that are lent to the writer, and what it answers.
+use Rattle.std.specs.Prelude.{◌≡◌, ◌∷◌}
 use Rattle.spec_exi.specs.Examples
-use Examples.{ℕ, ◌≡◌, List, [], ◌∷◌, map, none, some, replicate, settings, character, name, limit}
+use Examples.{ℕ, List, [], map, none, some, replicate, settings, character, name, limit}
 use Examples.{shape, place, Answer, refused, accepted, Text, text, start_document, end_document}
 use Examples.{end_element, start_element, attribute, characters, instruction, SettingNumbers}
 use Examples.{settings_of, Sizes, Stored, write_list, write, WriteReply, write_reply, full_to_write}

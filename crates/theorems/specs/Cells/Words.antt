@@ -1,5 +1,6 @@
 -- The words that the claims over cells use, each from the module that defines it.
-pub use Rattle.spec_fields.specs.Prelude.{ℕ, ◌*◌, ◌-◌, ◌<◌, ◌≡◌, ◌↔◌, List, [], ◌∷◌, ◌++◌, map}
+pub use Rattle.std.specs.Prelude.{◌*◌, ◌-◌, ◌<◌, ◌≡◌, ◌↔◌, ◌∷◌, ◌++◌}
+pub use Rattle.spec_fields.specs.Prelude.{ℕ, List, [], map}
 pub use Rattle.spec_fields.specs.Prelude.{length, drop, T}
 pub use Rattle.text.specs.Text.{Text}
 pub use Rattle.spec_fields.specs.Refusal.{Refusal, number_of, refused, accepted}

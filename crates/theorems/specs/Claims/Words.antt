@@ -1,5 +1,6 @@
 -- The words that the claims use, each from the module that defines it.
-pub use Rattle.spec_fields.specs.Prelude.{ℕ, ◌≤◌, ◌<◌, ◌≡◌, ◌↔◌, not, List, [], ◌∷◌, ◌++◌, map}
+pub use Rattle.std.specs.Prelude.{◌≤◌, ◌<◌, ◌≡◌, ◌↔◌, ◌∷◌, ◌++◌}
+pub use Rattle.spec_fields.specs.Prelude.{ℕ, not, List, [], map}
 pub use Rattle.spec_fields.specs.Prelude.{some, length, T}
 pub use Rattle.text.specs.Text.{Text}
 pub use Rattle.spec_fields.specs.Refusal.{number_of, is_zero_or, room, settings, long, header}

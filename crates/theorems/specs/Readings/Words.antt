@@ -1,7 +1,7 @@
 -- The words that the claims of readings use, each from the module that defines it.
-pub use Rattle.spec_fields.specs.Prelude.{ℕ, ◌+◌, ◌*◌, ◌≤◌, ◌<◌, ◌≡◌, ◌↔◌, true, ◌&&◌, not, List}
-pub use Rattle.spec_fields.specs.Prelude.{[], ◌∷◌, map, Option, some, length, T, leb}
-pub use Rattle.std.specs.Prelude.{ℤ, pos}
+pub use Rattle.spec_fields.specs.Prelude.{ℕ, true, not, List}
+pub use Rattle.spec_fields.specs.Prelude.{[], map, Option, some, length, T, leb}
+pub use Rattle.std.specs.Prelude.{ℤ, pos, ◌+◌, ◌*◌, ◌≤◌, ◌<◌, ◌≡◌, ◌↔◌, ◌&&◌, ◌∷◌}
 pub use Rattle.text.specs.Text.{Text, text}
 pub use Rattle.spec_fields.specs.Refusal as fields
 pub use Rattle.spec_exi.specs.Event.{Event}

@@ -1,5 +1,6 @@
 -- The words that the claims of readings over cells use, each from the module that defines it.
-pub use Rattle.spec_fields.specs.Prelude.{ℕ, ◌*◌, ◌-◌, ◌<◌, ◌≡◌, ◌↔◌, List, length, drop}
+pub use Rattle.std.specs.Prelude.{◌*◌, ◌-◌, ◌<◌, ◌≡◌, ◌↔◌}
+pub use Rattle.spec_fields.specs.Prelude.{ℕ, List, length, drop}
 pub use Rattle.text.specs.Text.{Text}
 pub use Rattle.spec_exi.specs.Event.{Event}
 pub use Rattle.spec_exi.specs.Sizes.{cells_per_event}
