@@ -5,27 +5,18 @@ use exi_say::tell;
 use settings::SettingNumbers;
 use std::io::Stderr;
 
-// How many settings are tried: one for each set of the flags for a stream, with both bounds of
-// values as they are asked for, then without the first, without the second, and without either.
-const TRIED: u32 = 128;
+// How many settings are tried: one for each set of the flags for a stream, with the bounds of
+// values that are asked for, then without them.
+const TRIED: u32 = 64;
 
-const FLAG_SETS: u32 = 32;
+const BOUNDED: u32 = 32;
 
-// Whether the settings with this number are without the longest value; without the capacity.
-fn drops_length(k: u32) -> bool {
-    k / FLAG_SETS % 2 == 1
-}
-
-fn drops_capacity(k: u32) -> bool {
-    k / FLAG_SETS / 2 == 1
-}
-
-// A bound, where it is not dropped.
-fn kept(dropped: bool, bound: u32) -> u32 {
-    if dropped {
-        return 0;
+// A bound that is asked for, where the settings with this number have it.
+fn kept(k: u32, bound: u32) -> u32 {
+    if k < BOUNDED {
+        return bound;
     }
-    bound
+    0
 }
 
 // The settings with this number, those without a flag first.
@@ -36,8 +27,8 @@ fn settings_at(k: u32, asked: SettingNumbers) -> SettingNumbers {
         comments: k / 4 % 2,
         instructions: k / 8 % 2,
         fragment: k / 16 % 2,
-        value_length: kept(drops_length(k), asked.value_length),
-        value_capacity: kept(drops_capacity(k), asked.value_capacity),
+        value_length: kept(k, asked.value_length),
+        value_capacity: kept(k, asked.value_capacity),
         loose: 0,
         prefixes: 0,
         grammar_cap: 0,
@@ -74,19 +65,13 @@ fn is_bounded(s: SettingNumbers) -> bool {
 }
 
 fn suggest(err: Stderr, k: u32, s: SettingNumbers) {
-    if (k % FLAG_SETS == 0) & !is_bounded(s) {
+    if (k % BOUNDED == 0) & !is_bounded(s) {
         tell(err, b"  accepted without flags\n");
         return;
     }
     tell(err, b"  accepted with");
     tell_flags(err, s);
     tell(err, b"\n");
-}
-
-// Whether settings with a smaller number are the same: a bound is dropped that is not asked for.
-fn is_again(k: u32, asked: SettingNumbers) -> bool {
-    (drops_length(k) & (asked.value_length == 0))
-        | (drops_capacity(k) & (asked.value_capacity == 0))
 }
 
 // Tries the settings with this number, and says so where they accept the stream. Answers how many
@@ -102,15 +87,22 @@ fn accepted(
 ) -> u32
     ensures { result ≤ 1 }
 {
-    if is_again(k, asked) {
-        return 0;
-    }
     let s = settings_at(k, asked);
     if exi_fault::the_reader::read(s, stream, cells, store, work).number != 0 {
         return 0;
     }
     suggest(err, k, s);
     1
+}
+
+// How many settings differ.
+fn tried(asked: SettingNumbers) -> u32
+    ensures { result ≤ 64 }
+{
+    if is_bounded(asked) {
+        return TRIED;
+    }
+    BOUNDED
 }
 
 // Says of at most two settings that they accept the stream.
@@ -122,9 +114,10 @@ pub(crate) fn suggestions(
     store: &mut [u32],
     work: &mut [u32],
 ) {
+    let most = tried(asked);
     let mut found = 0;
     let mut k = 0;
-    while k < TRIED {
+    while k < most {
         found += accepted(err, k, asked, stream, cells, store, work);
         if found == 2 {
             return;

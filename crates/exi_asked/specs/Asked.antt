@@ -3,7 +3,7 @@ use Rattle.std.specs.Prelude.{ℕ, ◌+◌, ◌%◌, cond, ◌==◌, slice_index
 use Rattle.settings.specs.declared.SettingNumbers.{SettingNumbers}
 use Rattle.exi_asked.specs.declared.Asked.{Asked}
 
--- None where it is not given; else one more than its number, which a word has below 2^32 - 1.
+-- None where it is not given; else one more than its number (a word has at most nine digits).
 abbrev pub bound_of : ℕ → ℕ → ℕ
 bound_of given n = cond (given == 0) 0 ((n + 1) % 4294967296)
 

@@ -3,10 +3,8 @@
 
 use exi_asked::Asked;
 use exi_words::{
-    BIT_PACKED, BYTE_ALIGNED, CAPACITY, CHECK, MAX_LENGTH, MS, PACKETS, READINGS, SHOW, UTF8,
-    WRITE_READINGS,
+    BIT_PACKED, BYTE_ALIGNED, CHECK, MS, PACKETS, READINGS, SHOW, UTF8, WRITE_READINGS,
 };
-use sizes::MAX_VALUES;
 use std::env::Env;
 use std::io::Stderr;
 
@@ -24,23 +22,10 @@ fn misfit(err: Stderr, command: usize, a: Asked) -> bool {
         exi_usage::complain(err, b"--packets goes with exi check alone");
     } else if (flags[PACKETS] == 1) & (numbers[PACKETS] == 0) {
         exi_usage::complain(err, b"a packet has at least 1 octet");
-    } else if MAX_VALUES < numbers[CAPACITY] as usize {
-        exi_usage::complain(err, b"--capacity is at most 2048");
     } else {
         return false;
     }
     true
-}
-
-// A flag that no number follows.
-fn unfinished(err: Stderr, waiting: usize) {
-    if waiting == MAX_LENGTH {
-        exi_usage::complain(err, b"no number follows --max-length");
-    } else if waiting == CAPACITY {
-        exi_usage::complain(err, b"no number follows --capacity");
-    } else {
-        exi_usage::complain(err, b"no number follows --packets");
-    }
 }
 
 // How many files are named, against how many there should be.
@@ -64,7 +49,7 @@ pub fn is_wrong<E: Env>(err: Stderr, env: &E, command: usize, a: Asked) -> bool 
         return true;
     }
     if a.waiting != 0 {
-        unfinished(err, a.waiting);
+        exi_usage::complain(err, b"no number follows the last flag");
         return true;
     }
     if misfit(err, command, a) {

@@ -10,9 +10,9 @@ none_told = record { packets = 0; events = 0; refused = 0; quarters = 0 }
 abbrev pub end_of : ℕ → ℕ → ℕ → ℕ
 end_of at n all = cond (n == 0) (at + 1) (cond (nat_lt (all - at) n) all (at + n))
 
--- How many quarters of all octets are over, where so many were told; the last packet adds none.
-abbrev pub quarters_of : ℕ → ℕ → ℕ → ℕ
-quarters_of told end all = cond (end == all) told (end / (all / 4 + 1))
+-- How many quarters of all octets are over.
+abbrev pub quarters_of : ℕ → ℕ → ℕ
+quarters_of end all = end / (all / 4 + 1)
 
 -- A packet more, which is read.
 abbrev pub read_on : ℕ → ℕ → ℕ → Told
@@ -27,5 +27,5 @@ abbrev pub told_after : Told → ℕ → ℕ → ℕ → ℕ → Told
 told_after t number events end all =
     let k = (t.packets + 1) % 18446744073709551616 in
     cond (t.refused == 0)
-    (cond (number == 0) (read_on k events (quarters_of t.quarters end all)) (refused_at t k))
+    (cond (number == 0) (read_on k events (quarters_of end all)) (refused_at t k))
     t

@@ -42,14 +42,10 @@ pub fn end_of(at: usize, n: usize, all: usize) -> usize
     at + n
 }
 
-// How many quarters of all octets are over, where so many were told; with the last packet none is
-// added, of which `put_last` tells.
-fn quarters(told: usize, end: usize, all: usize) -> usize
-    ensures { result ≡ quarters_of told end all }
+// How many quarters of all octets are over.
+fn quarters(end: usize, all: usize) -> usize
+    ensures { result ≡ quarters_of end all }
 {
-    if end == all {
-        return told;
-    }
     end / (all / 4 + 1)
 }
 
@@ -73,7 +69,7 @@ pub fn after(t: Told, number: u32, events: u32, end: usize, all: usize) -> Told
         packets,
         events,
         refused: 0,
-        quarters: quarters(t.quarters, end, all),
+        quarters: quarters(end, all),
     }
 }
 

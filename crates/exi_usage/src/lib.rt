@@ -92,13 +92,9 @@ fn tell_word<E: Env>(err: Stderr, env: &E, at: usize) {
     }
 }
 
-// What is wrong of a word with this number, before the word itself. A number stands behind its
-// flag.
-fn reason<E: Env>(err: Stderr, env: &E, at: usize, fault: u32) {
+fn reason(err: Stderr, fault: u32) {
     if fault == NO_NUMBER {
-        tell(err, b" is no number from 0 to 4294967294, which ");
-        tell_word(err, env, std::num::wrapping_sub_usize(at, 1));
-        tell(err, b" wants: ");
+        tell(err, b" is no number of 1 to 9 digits: ");
     } else if fault == TOO_MANY {
         tell(err, b" is one word too many: ");
     } else {
@@ -110,7 +106,7 @@ fn reason<E: Env>(err: Stderr, env: &E, at: usize, fault: u32) {
 pub fn wrong_word<E: Env>(err: Stderr, env: &E, at: usize, fault: u32) {
     tell(err, b"exi: word ");
     tell_decimal(err, at as u64);
-    reason(err, env, at, fault);
+    reason(err, fault);
     tell_word(err, env, at);
     tell(err, b"; exi --help tells the words\n");
 }

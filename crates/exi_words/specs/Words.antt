@@ -42,21 +42,17 @@ word_place w = place_among words w
 abbrev pub is_option : Text → Bool
 is_option w = eqb (get_or w 0 0) 45 && not (eqb (get_or w 1 0) 0)
 
--- A number that a bound may be: in the settings it is one more, in 32 bits.
-abbrev pub limited_to : ℕ → Number
-limited_to v = cond (leb v 4294967294) (Is v) None
-
 -- The number of the digits from a place on, at most so many, behind those that mean v. A zero ends
 -- them. (48 is the octet of the digit 0.)
 unfoldable pub number_at : ℕ → Text → ℕ → ℕ → Number
-number_at zero w i v = limited_to v
+number_at zero w i v = Is v
 number_at (suc n) w i v =
     let c = get_or w i 0 in
     let next = number_at n w (suc i) (10 * v + (c - 48)) in
-    cond (eqb c 0) (limited_to v) (cond (leb 48 c && leb c 57 && leb v 4294967294) next None)
+    cond (eqb c 0) (Is v) (cond (leb 48 c && leb c 57 && leb v 99999999) next None)
 
--- The number that a word is: 1 to 15 digits, that mean at most 4294967294.
+-- The number that a word is: 1 to 9 digits.
 unfoldable pub number_of : Text → Number
 number_of w =
-    let digits = cond (eqb (get_or w 0 0) 0) None (number_at 15 w 0 0) in
-    cond (eqb (get_or w 15 0) 0) digits None
+    let digits = cond (eqb (get_or w 0 0) 0) None (number_at 9 w 0 0) in
+    cond (eqb (get_or w 9 0) 0) digits None

@@ -3,7 +3,7 @@
 #![tactic(auto)]
 
 ghost use Rattle.std.specs.Prelude.{◌≡◌, length};
-ghost use Rattle.exi_words.specs.Words.{word_place, is_option, limited_to, number_of};
+ghost use Rattle.exi_words.specs.Words.{word_place, is_option, number_of};
 
 use std::env::{Env, FillError};
 
@@ -130,34 +130,24 @@ pub enum Number {
     None,
 }
 
-// The number that digits mean, where it is one of a bound.
-fn limited(v: u64) -> Number
-    ensures { result ≡ limited_to v }
-{
-    if 4294967294 < v {
-        return Number::None;
-    }
-    Number::Is(v as u32)
-}
-
 const NINE: u8 = b'9';
 
-// The number that a word is: 1 to 15 digits, that mean at most 4294967294.
+// The number that a word is: 1 to 9 digits.
 pub fn number_of(word: Word) -> Number
     ensures { result ≡ number_of word }
 {
-    if word[15] != 0 {
+    if word[9] != 0 {
         return Number::None;
     }
     if word[0] == 0 {
         return Number::None;
     }
-    let mut v: u64 = 0;
+    let mut v: u32 = 0;
     let mut i = 0;
-    while i < 15 {
+    while i < 9 {
         let c = word[i];
         if c == 0 {
-            return limited(v);
+            return Number::Is(v);
         }
         if c < b'0' {
             return Number::None;
@@ -165,11 +155,11 @@ pub fn number_of(word: Word) -> Number
         if NINE < c {
             return Number::None;
         }
-        if 4294967294 < v {
+        if 99999999 < v {
             return Number::None;
         }
-        v = 10 * v + (c - b'0') as u64;
+        v = 10 * v + (c - b'0') as u32;
         i += 1;
     }
-    limited(v)
+    Number::Is(v)
 }

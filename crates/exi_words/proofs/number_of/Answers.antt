@@ -1,5 +1,4 @@
 -- `number_of` meets its contract, digit by digit.
-use Rattle.std.proofs.Common.{◌∙◌}
 use Rattle.exi_words.proofs.Numbers.{too_long, empty, unread, ends, below, above, beyond, one-read, all_read}
 use Rattle.exi_words.proofs.number_of.Goals as goal
 
@@ -14,7 +13,7 @@ loop-i-init c = unread _ c.if-word-ne0.false c.if-word-eq0.false
 
 pub returns-then-c-eq0 : goal.returns-then-c-eq0
 returns-then-c-eq0 c =
-    c.limited.ensures ∙ ends _ c.loop-i.invariant c.loop-i-test.true c.if-c-eq0.true
+    ends _ c.loop-i.invariant c.loop-i-test.true c.if-c-eq0.true
 
 pub returns-then-c-lt48 : goal.returns-then-c-lt48
 returns-then-c-lt48 c = below _ c.loop-i.invariant c.loop-i-test.true c.if-c-eq0.false c.if-c-lt48.true
@@ -23,8 +22,8 @@ pub returns-then-c-gt-NINE : goal.returns-then-c-gt-NINE
 returns-then-c-gt-NINE c =
     above _ c.loop-i.invariant c.loop-i-test.true c.if-c-eq0.false c.if-c-lt48.false c.if-c-gt-NINE.true
 
-pub returns-then-v-gt4294967294 : goal.returns-then-v-gt4294967294
-returns-then-v-gt4294967294 c =
+pub returns-then-v-gt99999999 : goal.returns-then-v-gt99999999
+returns-then-v-gt99999999 c =
     beyond
     _
     c.loop-i.invariant
@@ -32,7 +31,7 @@ returns-then-v-gt4294967294 c =
     c.if-c-eq0.false
     c.if-c-lt48.false
     c.if-c-gt-NINE.false
-    c.if-v-gt4294967294.true
+    c.if-v-gt99999999.true
 
 pub loop-i-preserved : goal.loop-i-preserved
 loop-i-preserved c =
@@ -43,7 +42,7 @@ loop-i-preserved c =
     c.if-c-eq0.false
     c.if-c-lt48.false
     c.if-c-gt-NINE.false
-    c.if-v-gt4294967294.false
+    c.if-v-gt99999999.false
 
 pub returns : goal.returns
-returns c = c.limited-2.ensures ∙ all_read _ c.loop-i.invariant c.loop-i-test.false
+returns c = all_read _ c.loop-i.invariant c.loop-i-test.false
