@@ -104,7 +104,7 @@ fn samples_that_are_refused() {
     refused(words, hyphen_at_the_end, "8 CHARACTER, event 1: ");
 }
 
-/// Numbers out of range are no words, nor are flags that there are none of.
+/// Numbers out of range are SETTINGS, and flags that there are none of no words.
 #[test]
 fn settings_without_a_meaning() {
     for word in ["--loose", "--prefixes", "--grammar-cap", "--cookie=2", "-x"] {
@@ -114,17 +114,11 @@ fn settings_without_a_meaning() {
         assert!(stderr.starts_with(&expected), "{stderr}");
         assert_eq!((status, stdout.as_str()), (Some(2), ""), "{word}");
     }
-    for words in [
+    refused(
         "check --capacity 2049 day-bit-packed.exi",
-        "write-readings day.csv - --capacity 4294967294",
-    ] {
-        let (status, stdout, stderr) = exi(words, b"");
-        assert!(
-            stderr.starts_with("exi: --capacity is at most 2048;"),
-            "{stderr}"
-        );
-        assert_eq!((status, stdout.as_str()), (Some(2), ""), "{words}");
-    }
+        b"",
+        "2 SETTINGS, event 0: ",
+    );
     let (status, _, stderr) = exi("check --bit-packed --byte-aligned -", b"");
     assert!(stderr.contains("exclude each other"), "{stderr}");
     assert_eq!(status, Some(2));
@@ -149,8 +143,6 @@ fn bounded_values() {
     // <a> x x, where the second is found in a table.
     let found = b"\x80\x01\x02a\x03\x03x\x01\x01\x00\x01";
     accepts("", found);
-    accepts("--max-length 4294967294", found);
-    accepts("--max-length 000000000001", found);
     refused("check --byte-aligned -", turning, "10 LOOSE, event 4: ");
     refused(
         "check --byte-aligned --capacity 2 -",
@@ -167,16 +159,9 @@ fn bounded_values() {
         stderr.contains("\n  accepted with --byte-aligned --capacity 1\n"),
         "{stderr}"
     );
-    // one bound is left out, and then both
-    for (words, one) in [
-        ("--max-length 0 --capacity 5", "--capacity 5"),
-        ("--capacity 0 --max-length 5", "--max-length 5"),
-    ] {
-        let (_, _, stderr) = exi(&format!("check {words} -"), found);
-        let says =
-            format!("\n  accepted with --byte-aligned {one}\n  accepted with --byte-aligned\n");
-        assert!(stderr.ends_with(&says), "{words}: {stderr}");
-    }
+    let (status, stdout, stderr) = exi("check --byte-aligned --capacity one -", turning);
+    assert!(stderr.starts_with("exi: word 4 is no number of 1 to 9 digits: one;"));
+    assert_eq!((status, stdout.as_str()), (Some(2), ""));
     let (_, _, stderr) = exi("check --max-length 0 -", found);
     assert!(
         stderr.ends_with("\n  accepted with --byte-aligned\n"),
@@ -197,31 +182,19 @@ fn words_that_do_not_fit() {
         ("check".to_string(), "exi: no FILE is named;"),
         (
             format!("check --packets x {day}"),
-            "exi: word 3 is no number from 0 to 4294967294, which --packets wants: x;",
+            "exi: word 3 is no number of 1 to 9 digits: x;",
         ),
         (
             format!("check --capacity -1 {day}"),
-            "exi: word 3 is no number from 0 to 4294967294, which --capacity wants: -1;",
+            "exi: word 3 is no number of 1 to 9 digits: -1;",
         ),
         (
-            format!("check {day} --max-length 4294967295"),
-            "exi: word 4 is no number from 0 to 4294967294, which --max-length wants: 4294967295;",
-        ),
-        (
-            format!("check {day} --max-length 99999999999999999999"),
-            "exi: word 4 is no number from 0 to 4294967294, which --max-length wants: 99999999999",
+            format!("check {day} --max-length 1234567890"),
+            "exi: word 4 is no number of 1 to 9 digits: 1234567890;",
         ),
         (
             format!("check {day} --packets"),
-            "exi: no number follows --packets;",
-        ),
-        (
-            format!("check {day} --capacity"),
-            "exi: no number follows --capacity;",
-        ),
-        (
-            format!("check {day} --max-length"),
-            "exi: no number follows --max-length;",
+            "exi: no number follows the last flag;",
         ),
         (
             format!("check {day} --packets 0"),
@@ -700,14 +673,6 @@ fn packets() {
     let told = "packets of 24 octets, events complete: 47 after packet 16, 99 after packet 32, \
                 147 after packet 48, 196 after packet 64\n";
     assert!(stdout.starts_with(told), "{stdout}");
-    for (size, told) in [
-        ("4294967294", "196 after packet 1\n"),
-        ("800", "103 after packet 1, 196 after packet 2\n"),
-    ] {
-        let (_, stdout, _) = exi(&format!("check --packets {size} day-bit-packed.exi"), b"");
-        let told = format!("packets of {size} octets, events complete: {told}");
-        assert!(stdout.starts_with(&told), "{stdout}");
-    }
     let (_, stdout, _) = exi("check --packets 24 refused-tail.exi", b"");
     assert!(
         stdout.ends_with(", 147 after packet 48, refused with packet 64\n"),
@@ -905,7 +870,7 @@ fn first_use() {
     assert_eq!(
         said,
         "exi: note: this kit is 'kit 2'; the repository is proved with 'kit 1'\n\
-         exi: proving and building the program, once: 2 crates, an hour or more on two cores\n\
+         exi: proving and building the program, once\n\
          exi: crate 1 of 2: text, unchanged since it was last proved\n\
          exi: crate 2 of 2: "
     );
@@ -1104,10 +1069,7 @@ fn tables_with_many_lines() {
     for (table, says) in [
         (table(607), "3 LONG: "),
         (table(678), "3 LONG: "),
-        (
-            table(679),
-            "12 LIMIT, line 680: with this reading the text ",
-        ),
+        (table(679), "12 LIMIT, line 680: "),
         (table(2_000), "12 LIMIT, line 680: "),
         (table(679) + "x", "12 LIMIT, line 680: "),
         (table(678) + "x", "16 STRUCTURE, line 680: "),
