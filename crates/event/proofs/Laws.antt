@@ -9,6 +9,7 @@ use mathlib.Core.List.{List, [], ◌∷◌, ◌++◌, map, append_assoc}
 use mathlib.Core.Option.{none, some}
 use lib.ListN.{length, set, get_or, take, drop, length-append, length-drop, drop_of_length-le}
 use lib.Seq.{drop-cons, take_at, drop_at, drop-drop, sets-eq}
+use Rattle.std.specs.Prelude.{Some, None}
 use Rattle.text.specs.Text.{Span}
 use Rattle.spec_exi.specs.Event.{Event, map_event, start_document, end_document, end_element}
 use Rattle.spec_exi.specs.Event.{start_element, attribute, characters, comment, instruction}
@@ -17,31 +18,30 @@ use Rattle.spec_exi.specs.Tables.{Placed, span_of}
 use Rattle.spec_exi.specs.Writer.{Stored}
 use Rattle.spec_exi.specs.Meaning.{stored_of}
 use Rattle.event.specs.declared.Event as declared
-use Rattle.event.specs.declared.Loaded.TheVariants.{Whole, Shape}
 use Rattle.event.specs.Cells.{meaning, Judged, judged, judged_as, row, zeros, cells_of, is_zeros}
 use Rattle.event.specs.Cells.{if_zeros, of_row, span_at, loaded_from, events_of, cells_of_all}
 
 -- ---- the values of the code and those of the format
 
 -- What a loaded value says of the stored event.
-pub whole-means : (e : declared.Event) (x : Stored) → judged (Whole e) ≡ judged_as x → x ≡ some (meaning e)
+pub whole-means : (e : declared.Event) (x : Stored) → judged (Some e) ≡ judged_as x → x ≡ some (meaning e)
 unfolding judged judged_as
 whole-means e none h = sym (ap (λ (j : Judged). j.event) h)
 whole-means e (some d) h = sym (ap (λ (j : Judged). j.event) h)
 
-pub shape-means : (x : Stored) → judged Shape ≡ judged_as x → x ≡ none
+pub shape-means : (x : Stored) → judged None ≡ judged_as x → x ≡ none
 unfolding judged judged_as
 shape-means none h = refl
 shape-means (some d) h = sym (ap (λ (j : Judged). j.event) h)
 
 module _ (x y p v : Span) (e : declared.Event) where
   pub zeros-whole : is_zeros x && is_zeros y && is_zeros p && is_zeros v ≡ true
-      → judged (Whole e) ≡ judged_as (if_zeros x y p v (meaning e))
+      → judged (Some e) ≡ judged_as (if_zeros x y p v (meaning e))
   unfolding if_zeros judged judged_as
   zeros-whole h = rw h
 
   pub data-shape : is_zeros x && is_zeros y && is_zeros p && is_zeros v ≡ false
-      → judged Shape ≡ judged_as (if_zeros x y p v (meaning e))
+      → judged None ≡ judged_as (if_zeros x y p v (meaning e))
   unfolding if_zeros judged judged_as
   data-shape h = rw h
 

@@ -1,5 +1,6 @@
 -- How an event lies in 9 cells, and what 9 cells mean (docs/MEMORY.md, "An event in 9 cells").
-use Rattle.std.specs.Prelude.{ℕ, Bool, cond, ◌&&◌, List, [], ◌∷◌, ◌++◌, get_or, eqb}
+use Rattle.std.specs.Prelude.{ℕ, Bool, cond, ◌&&◌, List, [], ◌∷◌, ◌++◌, get_or, eqb, Option}
+use Rattle.std.specs.Prelude.{Some, None}
 use Rattle.std.proofs.Math.Option.{none, some}
 use Rattle.text.specs.Text.{Span}
 use Rattle.spec_fields.specs.Refusal.{number_of, shape}
@@ -13,8 +14,6 @@ use Rattle.event.specs.declared.Event as declared
 use Rattle.event.specs.declared.Event.TheVariants.{StartDocument, EndDocument, StartElement}
 use Rattle.event.specs.declared.Event.TheVariants.{Attribute, EndElement, Characters}
 use Rattle.event.specs.declared.Event.TheVariants.{Comment, Instruction}
-use Rattle.event.specs.declared.Loaded.{Loaded}
-use Rattle.event.specs.declared.Loaded.TheVariants.{Whole, Shape}
 
 -- ---- the values of the code and those of the format, each way
 
@@ -43,11 +42,11 @@ pub record Judged : Type 0 where
   pub number : ℕ
   pub event : Stored
 
--- Of each answer of `load`: this paper's number for each case of an enum (scope, "Which form each
--- place takes").
-unfoldable pub judged : Loaded → Judged
-judged (Whole e) = record { number = 0; event = some (meaning e) }
-judged Shape = record { number = number_of shape; event = none }
+-- Of each answer of `load`: this paper's number for each case (scope, "Which form each place
+-- takes").
+unfoldable pub judged : Option declared.Event → Judged
+judged (Some e) = record { number = 0; event = some (meaning e) }
+judged None = record { number = number_of shape; event = none }
 
 -- Of what is stored.
 unfoldable pub judged_as : Stored → Judged

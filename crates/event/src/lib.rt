@@ -28,13 +28,6 @@ pub enum Event {
     Instruction(Part, Part),
 }
 
-// What stored cells mean: an event, or one that is SHAPE by itself.
-#[derive(Clone, Copy)]
-pub enum Loaded {
-    Whole(Event),
-    Shape,
-}
-
 // The kinds, in an event's first cell (docs/MEMORY.md).
 pub const START_DOCUMENT: u32 = 1;
 
@@ -52,10 +45,12 @@ pub const COMMENT: u32 = 7;
 
 pub const INSTRUCTION: u32 = 8;
 
-// A row of the table: the kind, and four strings.
+// A row of the table: the kind, and four strings. They have no names, since the first is a URI, a
+// value or a text by the kind.
 #[derive(Drop)]
 struct Row(u32, Part, Part, Part, Part);
 
+#[tactic(auto, unfolding(crate::proofs::Definitions::row_definitions))]
 fn row_of(e: Event) -> Row
     ensures { row_cells result ≡ cells_of (meaning e) }
 {
@@ -126,6 +121,7 @@ fn row_at(cells: &[u32], at: usize) -> Row
     Row(cells[at], x, y, p, v)
 }
 
+#[tactic(auto, unfolding(crate::proofs::Definitions::row_definitions))]
 fn unused(p: Part) -> bool
     ensures { result ≡ is_zeros (as_span p) }
 {
@@ -133,18 +129,19 @@ fn unused(p: Part) -> bool
 }
 
 // The event, where the cells that its kind does not use are zero.
-fn given(e: Event, x: Part, y: Part, p: Part, v: Part) -> Loaded
+fn given(e: Event, x: Part, y: Part, p: Part, v: Part) -> Option<Event>
     ensures { judged result
         ≡ judged_as (if_zeros (as_span x) (as_span y) (as_span p) (as_span v) (meaning e)) }
 {
     if unused(x) & unused(y) & unused(p) & unused(v) {
-        Loaded::Whole(e)
+        Some(e)
     } else {
-        Loaded::Shape
+        None
     }
 }
 
-fn read_row(row: Row) -> Loaded
+#[tactic(auto, unfolding(crate::proofs::Definitions::row_definitions))]
+fn read_row(row: Row) -> Option<Event>
     ensures { judged result ≡ judged_as (loaded_from (row_cells row)) }
 {
     let kind = row.0;
@@ -162,12 +159,12 @@ fn read_row(row: Row) -> Loaded
         CHARACTERS => given(Event::Characters(x), none, y, p, v),
         COMMENT => given(Event::Comment(x), none, y, p, v),
         INSTRUCTION => given(Event::Instruction(x, y), none, none, p, v),
-        _ => Loaded::Shape,
+        _ => None,
     }
 }
 
-// What the 9 cells from `at` on mean.
-pub fn load(cells: &[u32], at: usize) -> Loaded
+// What the 9 cells from `at` on mean; none where they are SHAPE by themselves.
+pub fn load(cells: &[u32], at: usize) -> Option<Event>
     requires { at + cells_per_event ≤ length cells.now }
     ensures { judged result ≡ judged_as (loaded_from (take cells_per_event (drop at cells.now))) }
 {

@@ -5,6 +5,9 @@
 ghost use Rattle.std.specs.Prelude.{◌≡◌};
 ghost use Rattle.event_code.specs.Numbers.{teaches_in};
 
+// Kinds and states are numbers, since they lie in lent memory: a kind in the key of a learned
+// production, the state in a receiver's record (docs/MEMORY.md).
+
 // The kinds of event.
 pub const SD: u32 = 0;
 
@@ -39,6 +42,7 @@ pub const IN_TAG: u32 = 5;
 pub const IN_ELEMENT: u32 = 6;
 
 // Whether an event of this kind, with a code that is not learned, teaches a production.
+#[tactic(auto, unfolding(crate::specs::Numbers::teaches_in))]
 pub fn teaches(mode: u32, kind: u32) -> bool
     ensures { result ≡ teaches_in mode kind }
 {

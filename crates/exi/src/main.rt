@@ -13,33 +13,38 @@ mod stream;
 mod tries;
 mod write;
 
-use exi_asked::Asked;
-use exi_words::{H, HELP, HELP_WORD, SHOW, WRITE_READINGS};
+use exi_asked::Fault;
+use exi_words::Word;
+use std::io::{Stderr, Stdout};
 
-// Whether the words ask for help.
-fn asks_help(command: usize, a: Asked) -> bool {
-    let flags = a.flags;
-    (command == HELP)
-        | (command == H)
-        | (command == HELP_WORD)
-        | (flags[HELP] == 1)
-        | (flags[H] == 1)
+// The command on the words after it, unless they ask for help.
+fn answer(rt: &HostRuntime, out: Stdout, err: Stderr, command: Option<Word>, count: usize) {
+    let asked = exi_asked::read_words(rt, rt.alloc(), count);
+    let asks_help = match &asked {
+        Ok(asked) => asked.help,
+        Err(_) => false,
+    };
+    match command {
+        _ if asks_help => exi_usage::usage(out, err),
+        Some(Word::Help | Word::H | Word::HelpWord) => exi_usage::usage(out, err),
+        Some(word @ (Word::Show | Word::Check | Word::Readings | Word::WriteReadings)) =>
+            match asked {
+                Ok(asked) => run::ask(rt, out, err, word, &asked),
+                Err(wrong) => exi_usage::wrong(err, rt, wrong),
+            },
+        _ => exi_usage::wrong_word(err, rt, 1, Fault::Unknown),
+    }
 }
 
 fn main(rt: HostRuntime) {
     let out = rt.stdout();
     let err = rt.stderr();
     let count = exi_words::count(&rt);
-    let command = exi_words::place_at(&rt, 1);
-    let mut marks = io::large_buffer();
-    let a = exi_asked::read_words(&rt, count, &mut marks);
     if count < 2 {
         exi_usage::hint(err);
-    } else if asks_help(command, a) {
-        exi_usage::usage(out, err);
-    } else if (SHOW <= command) & (command <= WRITE_READINGS) {
-        run::ask(&rt, out, err, command, a, &marks);
-    } else {
-        exi_usage::wrong_word(err, &rt, 1, exi_asked::UNKNOWN);
+        return;
     }
+    let mut room = io::buffer();
+    let command = Word::named(exi_words::word_at(&rt, 1, &mut room));
+    answer(&rt, out, err, command, count);
 }

@@ -1,44 +1,19 @@
 // A command on what the words after it ask for.
-use crate::{stream, write};
+use crate::stream::Judge;
+use crate::write::Target;
 use exi_asked::Asked;
 use exi_verdict::Task;
-use exi_words::{MS, PACKETS, READINGS, SHOW, UTF8, WRITE_READINGS};
+use exi_words::Word;
 use sizes::MAX_STREAM;
 use std::env::{Env, FillError};
 use std::fs::Files;
 use std::io::{Error, Input, Stderr, Stdout};
+use std::str;
 
 // The system's numbers of a word that is not there, and of a name that is too long.
 const EINVAL: i32 = 22;
 
 const ENAMETOOLONG: i32 = 36;
-
-// Takes one octet more than a stream may have, so that the reader itself refuses a longer one.
-fn answer_file<R: Files + Input>(
-    rt: &R,
-    out: Stdout,
-    err: Stderr,
-    command: usize,
-    t: Task,
-    in_ms: bool,
-    several: bool,
-    name: &[u8],
-) {
-    let mut octets = [0u8; MAX_STREAM + 1];
-    let got = exi_files::read(rt, name, &mut octets);
-    if let Some(e) = got.failed {
-        exi_usage::unread(err, name, e);
-        return;
-    }
-    let n = got.octets;
-    if command == READINGS {
-        stream::print_readings(out, err, t, in_ms, &octets[..n]);
-    } else if several {
-        stream::judge_stream(out, err, t, name, &octets[..n]);
-    } else {
-        stream::judge_stream(out, err, t, b"", &octets[..n]);
-    }
-}
 
 // Why a word is not read.
 fn reason(e: FillError) -> Error {
@@ -48,97 +23,72 @@ fn reason(e: FillError) -> Error {
     }
 }
 
-// The command on the file that a word names.
-fn answer_word<R: Env + Files + Input>(
-    rt: &R,
+// A command that reads streams.
+#[derive(Clone, Copy)]
+struct Command {
     out: Stdout,
     err: Stderr,
-    command: usize,
-    t: Task,
-    in_ms: bool,
+    task: Task,
+    // readings are printed, with milliseconds or stamps
+    readings: Option<bool>,
     several: bool,
-    at: usize,
-) {
-    let mut name = io::buffer();
-    let n = match rt.arg(at, &mut name) {
-        Ok(n) => n,
-        Err(e) => {
-            exi_usage::unread(err, b"the name of FILE", reason(e));
-            return;
-        }
-    };
-    answer_file(rt, out, err, command, t, in_ms, several, &name[..n]);
 }
 
-// The command on each file.
-fn answer_words<R: Env + Files + Input>(
-    rt: &R,
-    out: Stdout,
-    err: Stderr,
-    command: usize,
-    t: Task,
-    in_ms: bool,
-    several: bool,
-    marks: &[u8],
-) {
-    let mut i = 0;
-    while i < marks.len() {
-        if marks[i] == 1 {
-            answer_word(rt, out, err, command, t, in_ms, several, i);
+impl Command {
+    fn answer_stream(&self, file: Option<&str>, stream: &[u8]) {
+        let mut judge = Judge::new(self.out, self.err, self.task, file, stream);
+        match self.readings {
+            Some(in_ms) => judge.print_readings(in_ms),
+            None => judge.print_verdict(),
         }
-        i += 1;
+    }
+
+    // Takes one octet more than a stream may have, so that the reader itself refuses a longer one.
+    fn answer_file<R: Files + Input>(&self, rt: &R, name: &[u8]) {
+        let mut octets = [0u8; MAX_STREAM + 1];
+        match exi_files::read(rt, name, &mut octets) {
+            Ok(n) => {
+                let file = str::from_utf8(name).ok().filter(|_| self.several);
+                self.answer_stream(file, &octets[..n]);
+            }
+            Err(e) => exi_usage::unread(self.err, name, e),
+        }
+    }
+
+    // The command on the file that a word names.
+    fn answer_word<R: Env + Files + Input>(&self, rt: &R, at: usize) {
+        let mut name = io::buffer();
+        match rt.arg(at, &mut name) {
+            Ok(n) => self.answer_file(rt, &name[..n]),
+            Err(e) => exi_usage::unread(self.err, b"the name of FILE", reason(e)),
+        }
     }
 }
 
-// The first word from a place on that is marked, or the place after the last.
-fn marked(marks: &[u8], from: usize) -> usize {
-    let mut i = from;
-    while i < marks.len() {
-        if marks[i] == 1 {
-            return i;
-        }
-        i += 1;
-    }
-    i
-}
-
-// Whether a word is a file, and stands for standard input.
-fn is_input<E: Env>(env: &E, marks: &[u8], at: usize) -> bool {
-    if marks.len() <= at {
-        return false;
-    }
-    if marks[at] != 1 {
-        return false;
-    }
-    let word = exi_words::word_at(env, at);
-    (word[0] == b'-') & (word[1] == 0)
+// Whether a word stands for standard input.
+fn is_input<E: Env>(env: &E, at: usize) -> bool {
+    let mut room = [0u8; 2];
+    exi_files::is_standard(exi_words::word_at(env, at, &mut room))
 }
 
 // Whether more than one of the files is standard input.
-fn reads_input_twice<E: Env>(env: &E, marks: &[u8]) -> bool {
+fn reads_input_twice<E: Env>(env: &E, files: &[usize]) -> bool {
     let mut seen = false;
-    let mut i = 0;
-    while i < marks.len() {
-        if is_input(env, marks, i) {
+    for at in files {
+        if is_input(env, *at) {
             if seen {
                 return true;
             }
             seen = true;
         }
-        i += 1;
     }
     false
 }
 
-fn write_readings<R: Env + Files + Input>(
-    rt: &R,
-    out: Stdout,
-    err: Stderr,
-    a: Asked,
-    marks: &[u8],
-) {
-    let first = marked(marks, 0);
-    let second = marked(marks, std::num::wrapping_add_usize(first, 1));
+fn write_readings<R: Env + Files + Input>(rt: &R, out: Stdout, err: Stderr, a: &Asked) {
+    let [first, second] = *a.files.as_slice() else {
+        return;
+    };
     let mut csv = io::buffer();
     let n = match rt.arg(first, &mut csv) {
         Ok(n) => n,
@@ -155,56 +105,49 @@ fn write_readings<R: Env + Files + Input>(
             return;
         }
     };
-    write::write_file(
-        rt,
+    let target = Target {
         out,
         err,
-        exi_asked::settings_of(a),
-        &csv[..n],
-        &name[..m],
-    );
-}
-
-fn task(command: usize, a: Asked) -> Task {
-    let flags = a.flags;
-    let numbers = a.numbers;
-    Task {
         settings: exi_asked::settings_of(a),
-        shows: command == SHOW,
-        utf8: flags[UTF8] == 1,
-        packet: numbers[PACKETS] as usize,
-    }
+        name: &name[..m],
+    };
+    target.write_file(rt, &csv[..n]);
 }
 
 // The command, where its words fit.
-pub(crate) fn ask<R: Env + Files + Input>(
-    rt: &R,
-    out: Stdout,
-    err: Stderr,
-    command: usize,
-    a: Asked,
-    marks: &[u8],
-) {
-    if exi_fit::is_wrong(err, rt, command, a) {
+pub(crate) fn ask<R: Env + Files + Input>(rt: &R, out: Stdout, err: Stderr, word: Word, a: &Asked) {
+    if let Err(what) = exi_fit::check(word, a) {
+        exi_usage::complain(err, what);
         return;
     }
-    if command == WRITE_READINGS {
-        write_readings(rt, out, err, a, marks);
+    if word == Word::WriteReadings {
+        write_readings(rt, out, err, a);
         return;
     }
-    if reads_input_twice(rt, marks) {
-        exi_usage::complain(err, b"FILE is - for standard input once alone");
+    let files = a.files.as_slice();
+    if reads_input_twice(rt, files) {
+        exi_usage::complain(err, "FILE is - for standard input once alone");
         return;
     }
-    let flags = a.flags;
-    answer_words(
-        rt,
+    let task = Task {
+        settings: exi_asked::settings_of(a),
+        shows: word == Word::Show,
+        utf8: a.utf8,
+        packet: a.packets.map(|n| n as usize),
+    };
+    let readings = if word == Word::Readings {
+        Some(a.ms)
+    } else {
+        None
+    };
+    let command = Command {
         out,
         err,
-        command,
-        task(command, a),
-        flags[MS] == 1,
-        a.files != 1,
-        marks,
-    );
+        task,
+        readings,
+        several: files.len() != 1,
+    };
+    for at in files {
+        command.answer_word(rt, *at);
+    }
 }

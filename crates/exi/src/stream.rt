@@ -1,193 +1,124 @@
 // A stream, judged or turned into a table.
 use crate::{pieces, tries};
-use exi_fault::the_reader::ReadReply;
+use exi_fault::Memory;
 use exi_out::Out;
+use exi_table::Table;
 use exi_verdict::{Counts, Task};
 use readings_from::MAX_READINGS;
-use refusal::LONG;
-use sizes::{EVENT_CELLS, MAX_STORE, MAX_STREAM, READER_WORK};
+use refusal::Refusal;
 use std::io::{Stderr, Stdout};
 
-// A stream that is refused for what its octets are: the events before the fault, then the refusal,
-// what can be told of it, and settings that accept the stream.
-fn refuse_octets(
+// A stream that is judged, the name of its file where it is one of several, and what that takes.
+#[derive(Drop)]
+pub(crate) struct Judge<'a> {
     err: Stderr,
-    buffer: &mut [u8],
-    o: Out,
-    t: Task,
-    file: &[u8],
-    r: ReadReply,
-    stream: &[u8],
-    held: &mut [u8],
-    cells: &mut [u32],
-    store: &mut [u32],
-    work: &mut [u32],
-) {
-    let good = exi_fault::good_events(t.settings, stream, r.index, held, cells, store, work);
-    let a = exi_verdict::put_events(buffer, o, t, true, cells, good.events, store);
-    exi_verdict::finish(err, buffer, a);
-    exi_say::refused(err, file, r.number, r.index);
-    exi_verdict::explain(err, t, r.number, r.index, stream, good);
-    tries::suggestions(err, t.settings, stream, cells, store, work);
+    out: Out,
+    task: Task,
+    file: Option<&'a str>,
+    stream: &'a [u8],
+    memory: Memory,
 }
 
-// A stream that is refused.
-fn refuse(
-    err: Stderr,
-    buffer: &mut [u8],
-    o: Out,
-    t: Task,
-    file: &[u8],
-    r: ReadReply,
-    stream: &[u8],
-    held: &mut [u8],
-    cells: &mut [u32],
-    store: &mut [u32],
-    work: &mut [u32],
-) {
-    if r.number <= LONG {
-        exi_verdict::finish(err, buffer, o);
-        exi_say::refused(err, file, r.number, r.index);
-        return;
-    }
-    refuse_octets(err, buffer, o, t, file, r, stream, held, cells, store, work);
-}
-
-// The verdict that was read.
-fn verdict(
-    err: Stderr,
-    buffer: &mut [u8],
-    o: Out,
-    t: Task,
-    file: &[u8],
-    r: ReadReply,
-    stream: &[u8],
-    held: &mut [u8],
-    cells: &mut [u32],
-    store: &mut [u32],
-    work: &mut [u32],
-) {
-    if r.number != 0 {
-        refuse(err, buffer, o, t, file, r, stream, held, cells, store, work);
-        return;
-    }
-    let n = Counts {
-        events: r.events,
-        code_points: r.code_points,
-        octets: stream.len(),
-    };
-    exi_verdict::accept(err, buffer, o, t, file, n, cells, store);
-}
-
-// The verdict, of the stream whole or in packets.
-fn judge(
-    err: Stderr,
-    buffer: &mut [u8],
-    o: Out,
-    t: Task,
-    file: &[u8],
-    stream: &[u8],
-    held: &mut [u8],
-    cells: &mut [u32],
-    store: &mut [u32],
-    work: &mut [u32],
-) {
-    if t.packet == 0 {
-        let r = exi_fault::the_reader::read(t.settings, stream, cells, store, work);
-        verdict(err, buffer, o, t, file, r, stream, held, cells, store, work);
-        return;
-    }
-    let e = pieces::read(
-        buffer, o, t.settings, stream, t.packet, held, cells, store, work,
-    );
-    verdict(
-        err, buffer, e.out, t, file, e.reply, stream, held, cells, store, work,
-    );
-}
-
-pub(crate) fn judge_stream(out: Stdout, err: Stderr, t: Task, file: &[u8], stream: &[u8]) {
-    let mut buffer = io::large_buffer();
-    let mut held = [0u8; MAX_STREAM];
-    let mut cells = [0u32; EVENT_CELLS];
-    let mut store = [0u32; MAX_STORE];
-    let mut work = [0u32; READER_WORK];
-    judge(
-        err,
-        &mut buffer,
-        exi_out::none(out),
-        t,
-        file,
-        stream,
-        &mut held,
-        &mut cells,
-        &mut store,
-        &mut work,
-    );
-}
-
-// The refusal of a stream that has no readings.
-fn refuse_readings(
-    out: Stdout,
-    err: Stderr,
-    buffer: &mut [u8],
-    t: Task,
-    number: u32,
-    index: u32,
-    stream: &[u8],
-    cells: &mut [u32],
-    store: &mut [u32],
-    work: &mut [u32],
-) {
-    if refusal::STRUCTURE <= number {
-        exi_say::refused(err, b"", number, index);
-        return;
-    }
-    let r = ReadReply {
-        number,
-        index,
-        events: 0,
-        code_points: 0,
-    };
-    let mut held = [0u8; MAX_STREAM];
-    let o = exi_out::none(out);
-    refuse(
-        err, buffer, o, t, b"", r, stream, &mut held, cells, store, work,
-    );
-}
-
-// The readings of a stream, as a table.
-pub(crate) fn print_readings(out: Stdout, err: Stderr, t: Task, in_ms: bool, stream: &[u8]) {
-    let mut stamps = [0u64; MAX_READINGS];
-    let mut movements = [0u32; MAX_READINGS];
-    let mut buffer = io::large_buffer();
-    let mut cells = [0u32; EVENT_CELLS];
-    let mut store = [0u32; MAX_STORE];
-    let mut work = [0u32; READER_WORK];
-    let r = readings::from_stream(
-        t.settings,
-        stream,
-        &mut stamps,
-        &mut movements,
-        &mut cells,
-        &mut store,
-        &mut work,
-    );
-    if r.number != 0 {
-        refuse_readings(
-            out,
+impl<'a> Judge<'a> {
+    pub(crate) fn new(
+        out: Stdout,
+        err: Stderr,
+        task: Task,
+        file: Option<&'a str>,
+        stream: &'a [u8],
+    ) -> Judge<'a> {
+        Judge {
             err,
-            &mut buffer,
-            t,
-            r.number,
-            r.index,
+            out: Out::new(out),
+            task,
+            file,
             stream,
-            &mut cells,
-            &mut store,
-            &mut work,
-        );
-        return;
+            memory: Memory::new(),
+        }
     }
-    let o = exi_out::none(out);
-    let a = exi_table::put_table(&mut buffer, o, in_ms, &stamps, &movements, r.readings);
-    exi_verdict::finish(err, &buffer, a);
+
+    // The first n events, where they are shown.
+    fn put_events(&mut self, indexes: bool, n: u32) {
+        exi_verdict::put_events(
+            &mut self.out,
+            self.task,
+            indexes,
+            &self.memory.cells,
+            n,
+            &self.memory.store,
+        );
+    }
+
+    // A stream that is refused for what its octets are: the events before the fault, then the
+    // refusal, what can be told of it, and settings that accept the stream.
+    fn refuse_octets(&mut self, refusal: Refusal, index: u32) {
+        let (err, task, stream) = (self.err, self.task, self.stream);
+        let good = self.memory.good_events(task.settings, stream, index);
+        self.put_events(true, good.events);
+        exi_verdict::finish(err, &mut self.out);
+        exi_say::refused(err, self.file, refusal, index);
+        exi_verdict::explain(err, task, refusal, index, stream, &good);
+        tries::suggestions(err, task.settings, stream, &mut self.memory);
+    }
+
+    fn refuse(&mut self, refusal: Refusal, index: u32) {
+        match refusal {
+            Refusal::Room | Refusal::Settings | Refusal::Long => {
+                exi_verdict::finish(self.err, &mut self.out);
+                exi_say::refused(self.err, self.file, refusal, index);
+            }
+            _ => self.refuse_octets(refusal, index),
+        }
+    }
+
+    // Prints the verdict on the stream, read whole or in packets.
+    pub(crate) fn print_verdict(&mut self) {
+        let settings = self.task.settings;
+        let reply = match self.task.packet {
+            None => self.memory.read(settings, self.stream),
+            Some(n) => pieces::read(&mut self.out, settings, self.stream, n, &mut self.memory),
+        };
+        if let Some(refusal) = exi_say::refusal_of(reply.number) {
+            self.refuse(refusal, reply.index);
+            return;
+        }
+        self.put_events(false, reply.events);
+        let counts = Counts {
+            events: reply.events,
+            code_points: reply.code_points,
+            octets: self.stream.len(),
+        };
+        exi_verdict::accept(&mut self.out, self.file, counts);
+        exi_verdict::finish(self.err, &mut self.out);
+    }
+
+    // Prints the readings of the stream as a table.
+    pub(crate) fn print_readings(&mut self, in_ms: bool) {
+        let mut stamps = [0u64; MAX_READINGS];
+        let mut movements = [0u32; MAX_READINGS];
+        let reply = readings::from_stream(
+            self.task.settings,
+            self.stream,
+            &mut stamps,
+            &mut movements,
+            &mut self.memory.cells,
+            &mut self.memory.store,
+            &mut self.memory.work,
+        );
+        match exi_say::refusal_of(reply.number) {
+            None => {
+                let n = reply.readings as usize;
+                self.out.put(Table {
+                    stamps: stamps.get(..n).unwrap_or(&stamps),
+                    movements: movements.get(..n).unwrap_or(&movements),
+                    in_ms,
+                });
+                exi_verdict::finish(self.err, &mut self.out);
+            }
+            Some(refusal) if refusal.number() < refusal::STRUCTURE => {
+                self.refuse(refusal, reply.index);
+            }
+            Some(refusal) => exi_say::refused(self.err, None, refusal, reply.index),
+        }
+    }
 }

@@ -1,8 +1,8 @@
 // Other settings under which a stream that is refused would be accepted.
-ghost use Rattle.std.specs.Prelude.{◌≤◌};
-
+use exi_fault::Memory;
 use exi_say::tell;
 use settings::SettingNumbers;
+use std::fmt;
 use std::io::Stderr;
 
 // How many settings are tried: one for each set of the flags for a stream, with the bounds of
@@ -13,10 +13,7 @@ const BOUNDED: u32 = 32;
 
 // A bound that is asked for, where the settings with this number have it.
 fn kept(k: u32, bound: u32) -> u32 {
-    if k < BOUNDED {
-        return bound;
-    }
-    0
+    if k < BOUNDED { bound } else { 0 }
 }
 
 // The settings with this number, those without a flag first.
@@ -35,93 +32,62 @@ fn settings_at(k: u32, asked: SettingNumbers) -> SettingNumbers {
     }
 }
 
-fn flag(err: Stderr, given: u32, x: &[u8]) {
-    if given == 1 {
-        tell(err, x);
+// A flag that is given or not.
+fn flag(given: u32, name: &'static str) -> &'static str {
+    if given == 1 { name } else { "" }
+}
+
+// A flag and its bound; a bound n is n + 1 in the settings.
+#[derive(Clone, Copy)]
+struct Bound(&'static str, u32);
+
+impl fmt::Display for Bound {
+    fn fmt<W: fmt::Write>(&self, f: &mut fmt::Formatter<W>) -> fmt::Result {
+        let Bound(name, given) = *self;
+        match given.checked_sub(1) {
+            Some(n) => write!(f, " {name} {n}"),
+            None => Ok(()),
+        }
     }
 }
 
-// A bound n is n + 1 in the settings.
-fn bound(err: Stderr, given: u32, x: &[u8]) {
-    if given != 0 {
-        tell(err, x);
-        exi_say::tell_decimal(err, (given - 1) as u64);
-    }
-}
-
-// The flags of settings.
+// Says the flags of settings.
 fn tell_flags(err: Stderr, s: SettingNumbers) {
-    flag(err, s.alignment, b" --byte-aligned");
-    flag(err, s.cookie, b" --cookie");
-    flag(err, s.comments, b" --comments");
-    flag(err, s.instructions, b" --instructions");
-    flag(err, s.fragment, b" --fragment");
-    bound(err, s.value_length, b" --max-length ");
-    bound(err, s.value_capacity, b" --capacity ");
+    tell(err, "  accepted with");
+    tell(err, flag(s.alignment, " --byte-aligned"));
+    tell(err, flag(s.cookie, " --cookie"));
+    tell(err, flag(s.comments, " --comments"));
+    tell(err, flag(s.instructions, " --instructions"));
+    tell(err, flag(s.fragment, " --fragment"));
+    tell(err, Bound("--max-length", s.value_length));
+    tell(err, Bound("--capacity", s.value_capacity));
+    tell(err, "\n");
 }
 
 fn is_bounded(s: SettingNumbers) -> bool {
-    (s.value_length != 0) | (s.value_capacity != 0)
+    s.value_length != 0 || s.value_capacity != 0
 }
 
 fn suggest(err: Stderr, k: u32, s: SettingNumbers) {
-    if (k % BOUNDED == 0) & !is_bounded(s) {
-        tell(err, b"  accepted without flags\n");
-        return;
+    if k % BOUNDED == 0 && !is_bounded(s) {
+        tell(err, "  accepted without flags\n");
+    } else {
+        tell_flags(err, s);
     }
-    tell(err, b"  accepted with");
-    tell_flags(err, s);
-    tell(err, b"\n");
-}
-
-// Tries the settings with this number, and says so where they accept the stream. Answers how many
-// do: 1 or none.
-fn accepted(
-    err: Stderr,
-    k: u32,
-    asked: SettingNumbers,
-    stream: &[u8],
-    cells: &mut [u32],
-    store: &mut [u32],
-    work: &mut [u32],
-) -> u32
-    ensures { result ≤ 1 }
-{
-    let s = settings_at(k, asked);
-    if exi_fault::the_reader::read(s, stream, cells, store, work).number != 0 {
-        return 0;
-    }
-    suggest(err, k, s);
-    1
-}
-
-// How many settings differ.
-fn tried(asked: SettingNumbers) -> u32
-    ensures { result ≤ 64 }
-{
-    if is_bounded(asked) {
-        return TRIED;
-    }
-    BOUNDED
 }
 
 // Says of at most two settings that they accept the stream.
-pub(crate) fn suggestions(
-    err: Stderr,
-    asked: SettingNumbers,
-    stream: &[u8],
-    cells: &mut [u32],
-    store: &mut [u32],
-    work: &mut [u32],
-) {
-    let most = tried(asked);
-    let mut found = 0;
-    let mut k = 0;
-    while k < most {
-        found += accepted(err, k, asked, stream, cells, store, work);
-        if found == 2 {
-            return;
+pub(crate) fn suggestions(err: Stderr, asked: SettingNumbers, stream: &[u8], memory: &mut Memory) {
+    let most = if is_bounded(asked) { TRIED } else { BOUNDED };
+    let mut found = false;
+    for k in 0..most {
+        let s = settings_at(k, asked);
+        if memory.read(s, stream).number == 0 {
+            suggest(err, k, s);
+            if found {
+                return;
+            }
+            found = true;
         }
-        k += 1;
     }
 }

@@ -4,153 +4,265 @@
 ghost use Rattle.std.specs.Prelude.{◌≡◌};
 ghost use Rattle.exi_asked.specs.Asked.{bound_of, numbers_of};
 
-use exi_words::{
-    BYTE_ALIGNED, CAPACITY, COMMENTS, COOKIE, END, FLAGS, FRAGMENT, INSTRUCTIONS, MAX_LENGTH,
-    Number, PACKETS, Word,
-};
+use exi_words::Word;
 use settings::SettingNumbers;
+use std::alloc::{AllocFailed, Global};
 use std::env::Env;
 
-// Which flags are given, and with which numbers, by their places in the table; how many files are
-// named; the flag that a number has to follow, 0 for none; whether only files follow; and the first
-// word that is wrong, 0 for none, with what is wrong of it.
-#[derive(Clone, Copy)]
+// The flags that are given, with their numbers, and the places of the words that name files.
+#[derive(Drop)]
 pub struct Asked {
-    pub flags: [u32; FLAGS],
-    pub numbers: [u32; FLAGS],
-    pub files: usize,
-    pub waiting: usize,
-    pub only_files: bool,
-    pub wrong: usize,
-    pub fault: u32,
+    pub bit_packed: bool,
+    pub byte_aligned: bool,
+    pub cookie: bool,
+    pub comments: bool,
+    pub instructions: bool,
+    pub fragment: bool,
+    pub max_length: Option<u32>,
+    pub capacity: Option<u32>,
+    pub packets: Option<u32>,
+    pub ms: bool,
+    pub utf8: bool,
+    pub help: bool,
+    pub files: Vec<usize>,
 }
 
 // What is wrong of a word.
-pub const UNKNOWN: u32 = 1;
-
-pub const NO_NUMBER: u32 = 2;
-
-pub const TOO_MANY: u32 = 3;
-
-// What is asked for where a word is wrong.
-fn wrong(a: Asked, at: usize, fault: u32) -> Asked {
-    let mut b = a;
-    b.wrong = at;
-    b.fault = fault;
-    b
+#[derive(Clone, Copy, Debug, PartialEq, Eq)]
+pub enum Fault {
+    Unknown,
+    NoNumber,
+    TooMany,
 }
 
-// With the number of the flag before.
-fn with_number(a: Asked, word: Word, at: usize) -> Asked {
-    let Number::Is(n) = exi_words::number_of(word) else {
-        return wrong(a, at, NO_NUMBER);
-    };
-    let mut b = a;
-    let place = a.waiting;
-    if place < FLAGS {
-        b.numbers[place] = n;
-    }
-    b.waiting = 0;
-    b
+// Why words are not understood.
+#[derive(Clone, Copy, Debug, PartialEq, Eq)]
+pub enum Wrong {
+    // The word with this number; the command has 1.
+    Word(usize, Fault),
+    // A number has to follow the last flag.
+    Unfinished,
+    OutOfMemory,
 }
 
-// Whether a number has to follow a flag.
-fn takes_number(place: usize) -> bool {
-    (place == MAX_LENGTH) | (place == CAPACITY) | (place == PACKETS)
+impl From<AllocFailed<usize>> for Wrong {
+    fn from(_error: AllocFailed<usize>) -> Wrong {
+        Wrong::OutOfMemory
+    }
 }
 
-// With a flag more.
-fn with_flag(a: Asked, place: usize) -> Asked {
-    let mut b = a;
-    if place < FLAGS {
-        b.flags[place] = 1;
-    }
-    if place == END {
-        b.only_files = true;
-    }
-    if takes_number(place) {
-        b.waiting = place;
-    }
-    b
+// A file is the word with a number below this one.
+const MOST_WORDS: usize = 65536;
+
+// A flag that a number has to follow.
+#[derive(Clone, Copy)]
+enum Numbered {
+    MaxLength,
+    Capacity,
+    Packets,
 }
 
-// With a file more, which is marked.
-fn with_file(a: Asked, at: usize, marks: &mut [u8]) -> Asked {
-    if marks.len() <= at {
-        return wrong(a, at, TOO_MANY);
-    }
-    marks[at] = 1;
-    let mut b = a;
-    b.files = std::num::wrapping_add_usize(a.files, 1);
-    b
+// What is asked for so far, and what the next word has to be.
+#[derive(Drop)]
+struct Reading {
+    asked: Asked,
+    waiting: Option<Numbered>,
+    only_files: bool,
 }
 
-// With one word more.
-fn with_word(a: Asked, word: Word, at: usize, marks: &mut [u8]) -> Asked {
-    if a.waiting != 0 {
-        return with_number(a, word, at);
-    }
-    if a.only_files {
-        return with_file(a, at, marks);
-    }
-    let place = exi_words::place_of(word);
-    if place < FLAGS {
-        return with_flag(a, place);
-    }
-    if exi_words::is_option(word) {
-        return wrong(a, at, UNKNOWN);
-    }
-    with_file(a, at, marks)
-}
-
-// What the words from the second on ask for, up to the first that is wrong. Files are marked.
-pub fn read_words<E: Env>(env: &E, count: usize, marks: &mut [u8]) -> Asked {
-    let mut a = Asked {
-        flags: [0; FLAGS],
-        numbers: [0; FLAGS],
-        files: 0,
-        waiting: 0,
-        only_files: false,
-        wrong: 0,
-        fault: 0,
-    };
-    let mut i = 2;
-    while i < count {
-        if a.wrong != 0 {
-            return a;
+impl Reading {
+    fn put_number(&mut self, flag: Numbered, n: u32) {
+        self.waiting = None;
+        match flag {
+            Numbered::MaxLength => self.asked.max_length = Some(n),
+            Numbered::Capacity => self.asked.capacity = Some(n),
+            Numbered::Packets => self.asked.packets = Some(n),
         }
-        a = with_word(a, exi_words::word_at(env, i), i, marks);
-        i += 1;
     }
-    a
+
+    // Answers whether a word that has a meaning is a flag.
+    fn put_flag(&mut self, flag: Word) -> bool {
+        match flag {
+            Word::BitPacked => self.asked.bit_packed = true,
+            Word::ByteAligned => self.asked.byte_aligned = true,
+            Word::Cookie => self.asked.cookie = true,
+            Word::Comments => self.asked.comments = true,
+            Word::Instructions => self.asked.instructions = true,
+            Word::Fragment => self.asked.fragment = true,
+            Word::MaxLength => self.waiting = Some(Numbered::MaxLength),
+            Word::Capacity => self.waiting = Some(Numbered::Capacity),
+            Word::Packets => self.waiting = Some(Numbered::Packets),
+            Word::Ms => self.asked.ms = true,
+            Word::Utf8 => self.asked.utf8 = true,
+            Word::Help | Word::H => self.asked.help = true,
+            Word::End => self.only_files = true,
+            Word::Show | Word::Check | Word::Readings | Word::WriteReadings | Word::HelpWord => {
+                return false;
+            }
+        }
+        true
+    }
+
+    fn put_file(&mut self, at: usize) -> Result<(), Wrong> {
+        if MOST_WORDS <= at {
+            return Err(Wrong::Word(at, Fault::TooMany));
+        }
+        self.asked.files.push(at)?;
+        Ok(())
+    }
+
+    fn put_word(&mut self, word: &[u8], at: usize) -> Result<(), Wrong> {
+        if let Some(flag) = self.waiting {
+            let n = exi_words::number_of(word).ok_or(Wrong::Word(at, Fault::NoNumber))?;
+            self.put_number(flag, n);
+            return Ok(());
+        }
+        if self.only_files {
+            return self.put_file(at);
+        }
+        if let Some(flag) = Word::named(word) {
+            if self.put_flag(flag) {
+                return Ok(());
+            }
+        }
+        if exi_words::is_option(word) {
+            return Err(Wrong::Word(at, Fault::Unknown));
+        }
+        self.put_file(at)
+    }
+}
+
+fn nothing(alloc: Global) -> Asked {
+    Asked {
+        bit_packed: false,
+        byte_aligned: false,
+        cookie: false,
+        comments: false,
+        instructions: false,
+        fragment: false,
+        max_length: None,
+        capacity: None,
+        packets: None,
+        ms: false,
+        utf8: false,
+        help: false,
+        files: Vec::new(alloc),
+    }
+}
+
+// What the words from the second on ask for, up to the first that is wrong or asks for help.
+pub fn read_words<E: Env>(env: &E, alloc: Global, count: usize) -> Result<Asked, Wrong> {
+    let mut reading = Reading {
+        asked: nothing(alloc),
+        waiting: None,
+        only_files: false,
+    };
+    let mut room = io::buffer();
+    for at in 2..count {
+        reading.put_word(exi_words::word_at(env, at, &mut room), at)?;
+        if reading.asked.help {
+            return Ok(reading.asked);
+        }
+    }
+    match reading.waiting {
+        Some(_) => Err(Wrong::Unfinished),
+        None => Ok(reading.asked),
+    }
 }
 
 // A bound as the settings have it: 0 for none, else one more than it.
-fn bound(given: u32, n: u32) -> u32
-    ensures { result ≡ bound_of given n }
+fn bound(n: Option<u32>) -> u32
+    ensures { result ≡ bound_of n }
 {
-    if given == 0 {
-        return 0;
+    match n {
+        None => 0,
+        Some(n) => n.wrapping_add(1),
     }
-    std::num::wrapping_add_u32(n, 1)
 }
 
 // The settings that the flags mean. What has no flag is at its base.
-pub fn settings_of(a: Asked) -> SettingNumbers
-    ensures { result ≡ numbers_of a }
+pub fn settings_of(a: &Asked) -> SettingNumbers
+    ensures { result ≡ numbers_of a.now }
 {
-    let flags = a.flags;
-    let numbers = a.numbers;
     SettingNumbers {
-        alignment: flags[BYTE_ALIGNED],
-        cookie: flags[COOKIE],
-        comments: flags[COMMENTS],
-        instructions: flags[INSTRUCTIONS],
-        fragment: flags[FRAGMENT],
-        value_length: bound(flags[MAX_LENGTH], numbers[MAX_LENGTH]),
-        value_capacity: bound(flags[CAPACITY], numbers[CAPACITY]),
+        alignment: u32::from(a.byte_aligned),
+        cookie: u32::from(a.cookie),
+        comments: u32::from(a.comments),
+        instructions: u32::from(a.instructions),
+        fragment: u32::from(a.fragment),
+        value_length: bound(a.max_length),
+        value_capacity: bound(a.capacity),
         loose: 0,
         prefixes: 0,
         grammar_cap: 0,
+    }
+}
+
+#[cfg(test)]
+mod tests {
+    use super::*;
+    use std::env::FillError;
+    use std::test::Fail;
+
+    #[derive(Clone, Copy)]
+    struct Line(&'static [&'static str]);
+
+    impl Env for Line {
+        fn arg(&self, i: usize, buf: &mut [u8]) -> Result<usize, FillError> {
+            let word = self.0.get(i).ok_or(FillError::NotPresent)?.as_bytes();
+            if buf.len() < word.len() {
+                return Err(FillError::TooLong);
+            }
+            buf[..word.len()].copy_from_slice(word);
+            Ok(word.len())
+        }
+
+        fn var(&self, _name: &str, _buf: &mut [u8]) -> Result<usize, FillError> {
+            Err(FillError::NotPresent)
+        }
+
+        fn var_at(&self, _i: usize, _buf: &mut [u8]) -> Result<usize, FillError> {
+            Err(FillError::NotPresent)
+        }
+    }
+
+    #[test]
+    fn words_after_a_command(rt: HostRuntime) -> Result<(), Fail> {
+        let line = Line(&[
+            "exi",
+            "check",
+            "a",
+            "--capacity",
+            "7",
+            "--cookie",
+            "--",
+            "--utf8",
+        ]);
+        let Ok(asked) = read_words(&line, rt.alloc(), 8) else {
+            return Err(Fail::from("not understood"));
+        };
+        assert_eq!(rt; asked.files.as_slice(), [2, 7].as_slice());
+        let settings = settings_of(&asked);
+        assert_eq!(rt; (settings.cookie, settings.value_capacity), (1, 8));
+        assert_eq!(rt; (settings.alignment, settings.value_length), (0, 0));
+        Ok(())
+    }
+
+    #[test]
+    fn words_that_are_wrong(rt: HostRuntime) {
+        for (line, wrong) in [
+            (
+                Line(&["exi", "check", "-x"]),
+                Wrong::Word(2, Fault::Unknown),
+            ),
+            (
+                Line(&["exi", "check", "--packets", "x"]),
+                Wrong::Word(3, Fault::NoNumber),
+            ),
+            (Line(&["exi", "check", "a", "--packets"]), Wrong::Unfinished),
+        ] {
+            let count = exi_words::count(&line);
+            assert_eq!(rt; read_words(&line, rt.alloc(), count).err(), Some(wrong));
+        }
     }
 }

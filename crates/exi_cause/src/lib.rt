@@ -1,114 +1,91 @@
 // Says which name is refused, and why: a line on standard error that begins with two spaces.
 #![tactic(auto)]
 
-use exi_say::{tell, tell_hex};
+use exi_say::tell;
 use sizes::MAX_STRING;
+use std::fmt;
 use std::io::Stderr;
 
-fn tell_number(err: Stderr, p: u32) {
-    tell(err, b"\\u{");
-    tell_hex(err, p as u64);
-    tell(err, b"}");
-}
+// Code points, each as it is where it is printable ASCII and no space.
+#[derive(Clone, Copy)]
+struct Shown<'a>(&'a [u32]);
 
-// As it is where it is printable ASCII and no space.
-fn tell_code_point(err: Stderr, p: u32) {
-    if p < 33 {
-        tell_number(err, p);
-    } else if 126 < p {
-        tell_number(err, p);
-    } else {
-        tell(err, &[p as u8]);
-    }
-}
-
-fn tell_code_points(err: Stderr, x: &[u32]) {
-    let mut i = 0;
-    while i < x.len() {
-        tell_code_point(err, x[i]);
-        i += 1;
-    }
-}
-
-fn has(x: &[u32], p: u32) -> bool {
-    let mut i = 0;
-    while i < x.len() {
-        if x[i] == p {
-            return true;
+impl fmt::Display for Shown<'_> {
+    fn fmt<W: fmt::Write>(&self, f: &mut fmt::Formatter<W>) -> fmt::Result {
+        for p in self.0 {
+            let p = *p;
+            match p {
+                33..=126 => f.write_char(char::from(p as u8))?,
+                _ => write!(f, "\\u{{{p:x}}}")?,
+            }
         }
-        i += 1;
+        Ok(())
     }
-    false
 }
+
+const COLON: u32 = 58;
 
 // Why a text is no name.
-fn tell_cause(err: Stderr, x: &[u32]) {
-    if name_chars::is_xml(x) {
-        tell(err, b"; no target is xml, in any case\n");
-    } else if has(x, 58) {
-        tell(err, b"; it has a colon\n");
+fn cause(name: &[u32]) -> &'static str {
+    if name_chars::is_xml(name) {
+        "no target is xml, in any case"
+    } else if name.contains(&COLON) {
+        "it has a colon"
     } else {
-        tell(err, b"; it is no XML name\n");
+        "it is no XML name"
     }
-}
-
-fn tell_refused(err: Stderr, name: &[u32], n: usize) {
-    if name.len() < n {
-        return;
-    }
-    tell(err, b"  the name, by its octets: ");
-    tell_code_points(err, &name[0..n]);
-    tell_cause(err, &name[0..n]);
 }
 
 // Whether the event's octets up to that of the fault are too few for a new URI's text, which bit by
 // bit a name is not sought behind.
 fn is_known(aligned: bool, bit: usize, octet: usize) -> bool {
-    aligned | (std::num::wrapping_sub_usize(octet, bit / 8) < 4)
+    aligned || octet.wrapping_sub(bit / 8) < 4
 }
 
 // Whether the octets up to this one, of a byte-aligned stream, are hits of the third URI and of its
 // first or second name. (A text that ends so has no code point 0, and no event code of a target
 // ends in 0.)
 fn is_hit(stream: &[u8], octet: usize) -> bool {
-    if octet < 2 {
-        return false;
+    match stream.get(..=octet) {
+        Some([.., 3, 0, last]) => *last < 2,
+        _ => false,
     }
-    if stream.len() <= octet {
-        return false;
-    }
-    (stream[octet - 2] == 3) & (stream[octet - 1] == 0) & (stream[octet] < 2)
 }
 
 // A name that no literal with a code point is: empty, or one of the initial entries.
 fn tell_other(err: Stderr, stream: &[u8], aligned: bool, bit: usize, octet: usize) {
     let hit = is_hit(stream, octet);
-    tell(err, b"  the name is ");
-    if !(aligned & hit) {
-        tell(err, b"empty");
+    tell(err, "  the name is ");
+    if !(aligned && hit) {
+        tell(err, "empty");
     }
     if !aligned {
-        tell(err, b", or ");
+        tell(err, ", or ");
     }
-    if hit | !aligned {
+    if hit || !aligned {
         tell(
             err,
-            b"nil or type of XMLSchema-instance, which no attribute may have",
+            "nil or type of XMLSchema-instance, which no attribute may have",
         );
     }
     if !is_known(aligned, bit, octet) {
-        tell(err, b", or stands behind a new URI");
+        tell(err, ", or stands behind a new URI");
     }
-    tell(err, b"\n");
+    tell(err, "\n");
 }
 
 // Says it of an event that begins at a bit, where the fault shows at an octet.
 pub fn name(err: Stderr, stream: &[u8], aligned: bool, bit: usize, octet: usize) {
-    let mut name = [0u32; MAX_STRING];
-    let n = exi_name::refused(stream, aligned, bit, octet, &mut name);
-    if n == 0 {
-        tell_other(err, stream, aligned, bit, octet);
-        return;
+    let mut room = [0u32; MAX_STRING];
+    let found = exi_name::refused(stream, aligned, bit, octet, &mut room);
+    match found.and_then(|n| room.get(..n)) {
+        Some(name) => {
+            let (shown, cause) = (Shown(name), cause(name));
+            tell(
+                err,
+                format_args!("  the name, by its octets: {shown}; {cause}\n"),
+            );
+        }
+        None => tell_other(err, stream, aligned, bit, octet),
     }
-    tell_refused(err, &name, n);
 }

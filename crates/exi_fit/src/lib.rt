@@ -1,59 +1,41 @@
-// Words that are wrong, or do not fit each other: what is said of them.
+// Words that do not fit each other: what is said of them.
 #![tactic(auto)]
 
 use exi_asked::Asked;
-use exi_words::{
-    BIT_PACKED, BYTE_ALIGNED, CHECK, MS, PACKETS, READINGS, SHOW, UTF8, WRITE_READINGS,
-};
-use std::env::Env;
-use std::io::Stderr;
+use exi_words::Word;
 
-// What is wrong of words that are understood one by one, and answers whether anything is.
-fn misfit(err: Stderr, command: usize, a: Asked) -> bool {
-    let flags = a.flags;
-    let numbers = a.numbers;
-    if (flags[BIT_PACKED] == 1) & (flags[BYTE_ALIGNED] == 1) {
-        exi_usage::complain(err, b"--bit-packed and --byte-aligned exclude each other");
-    } else if (flags[MS] == 1) & (command != READINGS) {
-        exi_usage::complain(err, b"--ms goes with exi readings alone");
-    } else if (flags[UTF8] == 1) & (command != SHOW) {
-        exi_usage::complain(err, b"--utf8 goes with exi show alone");
-    } else if (flags[PACKETS] == 1) & (command != CHECK) {
-        exi_usage::complain(err, b"--packets goes with exi check alone");
-    } else if (flags[PACKETS] == 1) & (numbers[PACKETS] == 0) {
-        exi_usage::complain(err, b"a packet has at least 1 octet");
-    } else {
-        return false;
+// What is wrong of flags that are understood one by one.
+fn misfit(command: Word, a: &Asked) -> Result<(), &'static str> {
+    if a.bit_packed && a.byte_aligned {
+        return Err("--bit-packed and --byte-aligned exclude each other");
     }
-    true
+    if a.ms && command != Word::Readings {
+        return Err("--ms goes with exi readings alone");
+    }
+    if a.utf8 && command != Word::Show {
+        return Err("--utf8 goes with exi show alone");
+    }
+    match a.packets {
+        Some(_) if command != Word::Check => Err("--packets goes with exi check alone"),
+        Some(0) => Err("a packet has at least 1 octet"),
+        _ => Ok(()),
+    }
 }
 
 // How many files are named, against how many there should be.
-fn miscount(err: Stderr, command: usize, files: usize) -> bool {
-    if (command == WRITE_READINGS) & (files != 2) {
-        exi_usage::complain(err, b"write-readings wants CSV and OUT");
-    } else if files == 0 {
-        exi_usage::complain(err, b"no FILE is named");
-    } else if (command == READINGS) & (files != 1) {
-        exi_usage::complain(err, b"readings wants one FILE");
-    } else {
-        return false;
+fn miscount(command: Word, files: usize) -> Result<(), &'static str> {
+    match (command, files) {
+        (Word::WriteReadings, 2) => Ok(()),
+        (Word::WriteReadings, _) => Err("write-readings wants CSV and OUT"),
+        (_, 0) => Err("no FILE is named"),
+        (Word::Readings, 1) => Ok(()),
+        (Word::Readings, _) => Err("readings wants one FILE"),
+        _ => Ok(()),
     }
-    true
 }
 
-// Says what is wrong of the words after a command, and answers whether anything is.
-pub fn is_wrong<E: Env>(err: Stderr, env: &E, command: usize, a: Asked) -> bool {
-    if a.wrong != 0 {
-        exi_usage::wrong_word(err, env, a.wrong, a.fault);
-        return true;
-    }
-    if a.waiting != 0 {
-        exi_usage::complain(err, b"no number follows the last flag");
-        return true;
-    }
-    if misfit(err, command, a) {
-        return true;
-    }
-    miscount(err, command, a.files)
+// An error says what is wrong of the words after a command.
+pub fn check(command: Word, a: &Asked) -> Result<(), &'static str> {
+    misfit(command, a)?;
+    miscount(command, a.files.len())
 }

@@ -1,15 +1,13 @@
 -- Output that waits in a buffer.
-use Rattle.std.specs.Prelude.{ℕ, ◌+◌, cond, List, ltb, length, set, None}
-use Rattle.std.specs.declared.io.Stdout.{Stdout}
-use Rattle.exi_out.specs.declared.Out.{Out}
+use Rattle.std.specs.Prelude.{ℕ, ◌+◌, cond, List, ltb, length, set}
 
--- Nothing waits, and no write failed.
-abbrev pub none_waits : Stdout → Out
-none_waits to = record { to = to; at = 0; failed = None }
+-- How many octets may wait.
+abbrev pub room : ℕ
+room = 65536
 
 -- Where the next octet goes, in a buffer of n: behind those that wait, or to the start once they
 -- went out.
-unfoldable pub place_in : ℕ → ℕ → ℕ
+abbrev pub place_in : ℕ → ℕ → ℕ
 place_in n at = cond (ltb at n) at 0
 
 -- How many octets wait with one more: none in a buffer that holds none.

@@ -7,13 +7,13 @@ ghost use Rattle.exi_progress.specs.Told.{none_told, end_of, quarters_of, told_a
 
 use exi_out::Out;
 
-// How many packets were taken, and how many events were complete; the packet that was refused, 0
-// for none; and how many quarters are told.
+// How many packets were taken, and how many events were complete; the packet that was refused; and
+// how many quarters are told.
 #[derive(Clone, Copy)]
 pub struct Told {
     pub packets: usize,
     pub events: u32,
-    pub refused: usize,
+    pub refused: Option<usize>,
     pub quarters: usize,
 }
 
@@ -23,7 +23,7 @@ pub fn nothing() -> Told
     Told {
         packets: 0,
         events: 0,
-        refused: 0,
+        refused: None,
         quarters: 0,
     }
 }
@@ -49,59 +49,53 @@ fn quarters(end: usize, all: usize) -> usize
     end / (all / 4 + 1)
 }
 
-// With one packet more, after which so many octets are over, and what its reply has.
-pub fn after(t: Told, number: u32, events: u32, end: usize, all: usize) -> Told
-    ensures { result ≡ told_after t number events end all }
+// With one packet more, after which so many octets are over, and so many events are complete, none
+// where it is refused.
+pub fn after(t: Told, events: Option<u32>, end: usize, all: usize) -> Told
+    ensures { result ≡ told_after t events end all }
 {
-    let packets = std::num::wrapping_add_usize(t.packets, 1);
-    if t.refused != 0 {
+    if t.refused.is_some() {
         return t;
     }
-    if number != 0 {
-        return Told {
+    let packets = t.packets.wrapping_add(1);
+    match events {
+        Some(events) => Told {
+            packets,
+            events,
+            refused: None,
+            quarters: quarters(end, all),
+        },
+        None => Told {
             packets,
             events: t.events,
-            refused: packets,
+            refused: Some(packets),
             quarters: t.quarters,
-        };
-    }
-    Told {
-        packets,
-        events,
-        refused: 0,
-        quarters: quarters(end, all),
+        },
     }
 }
 
-fn put_gap(buffer: &mut [u8], o: Out, first: bool) -> Out {
-    if first {
-        return exi_out::put(buffer, o, b" ");
-    }
-    exi_out::put(buffer, o, b", ")
+fn gap(told: Told) -> &'static str {
+    if told.quarters == 0 { " " } else { ", " }
 }
 
-// How many events were complete after how many packets.
-fn put_events(buffer: &mut [u8], o: Out, first: bool, t: Told) -> Out {
-    let a = put_gap(buffer, o, first);
-    let b = exi_out::put_decimal(buffer, a, t.events as u64);
-    let c = exi_out::put(buffer, b, b" after packet ");
-    exi_out::put_decimal(buffer, c, t.packets as u64)
+// Tells how many events were complete after how many packets.
+fn put_events(out: &mut Out, gap: &str, t: Told) {
+    let (events, packets) = (t.events, t.packets);
+    out.put(format_args!("{gap}{events} after packet {packets}"));
 }
 
 // Tells of another quarter, if it is one.
-pub fn put_packet(buffer: &mut [u8], o: Out, before: Told, t: Told) -> Out {
-    if before.quarters == t.quarters {
-        return o;
+pub fn put_packet(out: &mut Out, before: Told, t: Told) {
+    if before.quarters != t.quarters {
+        put_events(out, gap(before), t);
     }
-    put_events(buffer, o, before.quarters == 0, t)
 }
 
 // Tells of the last packet, or of the one that was refused.
-pub fn put_last(buffer: &mut [u8], o: Out, t: Told) -> Out {
-    if t.refused == 0 {
-        return put_events(buffer, o, t.quarters == 0, t);
+pub fn put_last(out: &mut Out, t: Told) {
+    let gap = gap(t);
+    match t.refused {
+        None => put_events(out, gap, t),
+        Some(packet) => out.put(format_args!("{gap}refused with packet {packet}")),
     }
-    let a = put_gap(buffer, o, t.quarters == 0);
-    let b = exi_out::put(buffer, a, b"refused with packet ");
-    exi_out::put_decimal(buffer, b, t.refused as u64)
 }

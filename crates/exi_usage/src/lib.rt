@@ -2,120 +2,84 @@
 // error that begin with `exi:` and not with `exi: refused:`.
 #![tactic(auto)]
 
-use exi_asked::{NO_NUMBER, TOO_MANY};
+use arrayvec::ArrayString;
+use exi_asked::{Fault, Wrong};
+use exi_say::tell;
 use std::env::Env;
+use std::fmt;
 use std::fmt::Write;
 use std::io::{Error, Print, Stderr, Stdout};
-use std::{fmt, str};
-
-// What cannot be told is left out.
-fn tell(err: Stderr, x: &[u8]) {
-    let _ = err.write_all(x);
-}
-
-fn tell_decimal(err: Stderr, n: u64) {
-    let mut digits = [0u8; 20];
-    let k = io::decimal(n, &mut digits);
-    tell(err, &digits[..k]);
-}
-
-// The first octets of a text, and how many there are.
-#[derive(Drop)]
-struct Text {
-    octets: [u8; 256],
-    size: usize,
-}
-
-impl Write for Text {
-    fn write_str(&mut self, s: &str) -> fmt::Result {
-        for x in s.as_bytes() {
-            if self.size < 256 {
-                self.octets[self.size] = *x;
-                self.size += 1;
-            }
-        }
-        Ok(())
-    }
-}
 
 // The system's text for a reason, without the number that the library puts behind it.
-fn without_number(text: &str) -> &str {
-    match text.split_once(" (os error ") {
-        Some((before, _)) => before,
-        None => text,
+#[derive(Drop)]
+struct Reason(Error);
+
+impl fmt::Display for Reason {
+    fn fmt<W: fmt::Write>(&self, f: &mut fmt::Formatter<W>) -> fmt::Result {
+        let reason = self.0;
+        let mut text = ArrayString::<512>::new();
+        write!(text, "{reason}")?;
+        match text.as_str().split_once(" (os error ") {
+            Some((before, _)) => f.write_str(before),
+            None => f.write_str(text.as_str()),
+        }
     }
 }
 
+// A name or a word as it is; it need not be text.
 fn tell_octets(err: Stderr, octets: &[u8]) {
-    if let Ok(text) = str::from_utf8(octets) {
-        tell(err, without_number(text).as_bytes());
-    }
-}
-
-// What was not read or written, and why.
-fn fail(err: Stderr, what: &[u8], reason: Error) {
-    let mut text = Text {
-        octets: [0; 256],
-        size: 0,
-    };
-    let _ = write!(text, "{reason}");
-    tell(err, what);
-    tell(err, b": ");
-    if text.size <= 256 {
-        tell_octets(err, &text.octets[..text.size]);
-    }
-    tell(err, b"\n");
+    let _ = err.write_all(octets);
 }
 
 pub fn unwritten(err: Stderr, what: &[u8], reason: Error) {
-    tell(err, b"exi: cannot write ");
-    fail(err, what, reason);
+    tell(err, "exi: cannot write ");
+    tell_octets(err, what);
+    tell(err, format_args!(": {}\n", Reason(reason)));
 }
 
 pub fn unread(err: Stderr, what: &[u8], reason: Error) {
-    tell(err, b"exi: cannot read ");
-    fail(err, what, reason);
+    tell(err, "exi: cannot read ");
+    tell_octets(err, what);
+    tell(err, format_args!(": {}\n", Reason(reason)));
 }
 
 // A complaint, and where help is.
-pub fn complain(err: Stderr, what: &[u8]) {
-    tell(err, b"exi: ");
-    tell(err, what);
-    tell(err, b"; exi --help tells the words\n");
+pub fn complain(err: Stderr, what: &str) {
+    tell(
+        err,
+        format_args!("exi: {what}; exi --help tells the words\n"),
+    );
 }
 
-// One of more than 4096 octets is left out.
-fn tell_word<E: Env>(err: Stderr, env: &E, at: usize) {
+// The word with this number, the command being 1. One of more than 4096 octets is left out.
+pub fn wrong_word<E: Env>(err: Stderr, env: &E, at: usize, fault: Fault) {
+    let is = match fault {
+        Fault::Unknown => "is not understood",
+        Fault::NoNumber => "is no number of 1 to 9 digits",
+        Fault::TooMany => "is one word too many",
+    };
+    tell(err, format_args!("exi: word {at} {is}: "));
     let mut word = io::buffer();
     if let Ok(n) = env.arg(at, &mut word) {
-        tell(err, &word[..n]);
+        tell_octets(err, &word[..n]);
     }
+    tell(err, "; exi --help tells the words\n");
 }
 
-fn reason(err: Stderr, fault: u32) {
-    if fault == NO_NUMBER {
-        tell(err, b" is no number of 1 to 9 digits: ");
-    } else if fault == TOO_MANY {
-        tell(err, b" is one word too many: ");
-    } else {
-        tell(err, b" is not understood: ");
+// Why words are not understood.
+pub fn wrong<E: Env>(err: Stderr, env: &E, wrong: Wrong) {
+    match wrong {
+        Wrong::Word(at, fault) => wrong_word(err, env, at, fault),
+        Wrong::Unfinished => complain(err, "no number follows the last flag"),
+        Wrong::OutOfMemory => tell(err, "exi: there is no memory for the words\n"),
     }
-}
-
-// The word with this number, the command being 1.
-pub fn wrong_word<E: Env>(err: Stderr, env: &E, at: usize, fault: u32) {
-    tell(err, b"exi: word ");
-    tell_decimal(err, at as u64);
-    reason(err, fault);
-    tell_word(err, env, at);
-    tell(err, b"; exi --help tells the words\n");
 }
 
 // What a call without words gets.
 pub fn hint(err: Stderr) {
     tell(
         err,
-        b"exi: no command: it is show, check, readings, write-readings or plot
+        "exi: no command: it is show, check, readings, write-readings or plot
   exi show FILE prints the events of a stream, exi check FILE whether it is accepted
   exi --help tells the rest
 ",

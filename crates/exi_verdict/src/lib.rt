@@ -1,21 +1,23 @@
 // The verdict on a stream: what it has, or why it is refused, with all that can be told of it.
 #![tactic(auto)]
 
-use exi_out::Out;
-use exi_show::Manner;
+use exi_out::{Count, Out};
+use exi_show::Events;
+use exi_text::Store;
 use mem_state::Core;
-use refusal::{HEADER, LIMIT, NAME, TAIL};
+use refusal::Refusal;
 use settings::SettingNumbers;
+use sizes::CELLS_PER_EVENT;
 use std::io::Stderr;
 
 // What is asked of a stream: its settings, whether its events are shown, in UTF-8, and in packets
-// of how many octets it is read, 0 for whole.
+// of how many octets it is read, if not whole.
 #[derive(Clone, Copy)]
 pub struct Task {
     pub settings: SettingNumbers,
     pub shows: bool,
     pub utf8: bool,
-    pub packet: usize,
+    pub packet: Option<usize>,
 }
 
 // What a stream has.
@@ -36,100 +38,64 @@ pub struct Good {
 }
 
 // Writes what waits, and says so where that fails.
-pub fn finish(err: Stderr, buffer: &[u8], o: Out) {
-    let done = exi_out::flush(buffer, o);
-    if let Some(e) = done.failed {
+pub fn finish(err: Stderr, out: &mut Out) {
+    out.flush();
+    if let Some(e) = out.failed {
         exi_usage::unwritten(err, b"standard output", e);
     }
 }
 
-// The name of a file that is one of several.
-fn put_file(buffer: &mut [u8], o: Out, file: &[u8]) -> Out {
-    if file.len() == 0 {
-        return o;
-    }
-    let a = exi_out::put(buffer, o, file);
-    exi_out::put(buffer, a, b": ")
-}
-
-// A count that another follows.
-fn put_and(buffer: &mut [u8], o: Out, n: u32, of: &[u8]) -> Out {
-    let a = exi_out::put_count(buffer, o, n as u64, of);
-    exi_out::put(buffer, a, b", ")
-}
-
-fn put_counts(buffer: &mut [u8], o: Out, n: Counts) -> Out {
-    let a = put_and(buffer, o, n.events, b"event");
-    let b = put_and(buffer, a, n.code_points, b"code point");
-    let c = exi_out::put_count(buffer, b, n.octets as u64, b"octet");
-    exi_out::put_octet(buffer, c, b'\n')
-}
-
 // The first n events, where they are shown.
-pub fn put_events(
-    buffer: &mut [u8],
-    o: Out,
-    t: Task,
-    indexes: bool,
-    cells: &[u32],
-    n: u32,
-    store: &[u32],
-) -> Out {
+pub fn put_events(out: &mut Out, t: Task, indexes: bool, cells: &[u32], n: u32, store: &[u32]) {
     if !t.shows {
-        return o;
+        return;
     }
-    let manner = Manner {
+    let size = CELLS_PER_EVENT.saturating_mul(n as usize);
+    let store = Store {
+        cells: store,
         utf8: t.utf8,
-        indexes,
     };
-    exi_show::put_events(buffer, o, cells, n, store, manner)
+    out.put(Events {
+        cells: cells.get(..size).unwrap_or(cells),
+        store,
+        indexes,
+    });
 }
 
-// A stream that is accepted.
-pub fn accept(
-    err: Stderr,
-    buffer: &mut [u8],
-    o: Out,
-    t: Task,
-    file: &[u8],
-    n: Counts,
-    cells: &[u32],
-    store: &[u32],
-) {
-    let a = put_events(buffer, o, t, false, cells, n.events, store);
-    let b = put_file(buffer, a, file);
-    let c = exi_out::put(buffer, b, b"accepted: ");
-    let d = put_counts(buffer, c, n);
-    finish(err, buffer, d);
+// Says what a stream has that is accepted, of a file that is one of several.
+pub fn accept(out: &mut Out, file: Option<&str>, n: Counts) {
+    if let Some(file) = file {
+        out.put(format_args!("{file}: "));
+    }
+    let events = Count(n.events as u64, "event");
+    let code_points = Count(n.code_points as u64, "code point");
+    let octets = Count(n.octets as u64, "octet");
+    out.put(format_args!("accepted: {events}, {code_points}, {octets}\n"));
 }
 
 // Where the event with this index begins, if it is one and all events before it are known.
-fn explain_event(err: Stderr, number: u32, index: u32, good: Good) {
+fn explain_event(err: Stderr, refusal: Refusal, index: u32, good: &Good) {
     if good.events != index {
         exi_why::unknown(err, good.events);
-    } else if number != TAIL {
+    } else if refusal != Refusal::Tail {
         exi_why::event(err, good.core.at);
     }
 }
 
 // More on a refusal at the event with this index, by what is good before it.
-pub fn explain(err: Stderr, t: Task, number: u32, index: u32, stream: &[u8], good: Good) {
-    if number == HEADER {
+pub fn explain(err: Stderr, t: Task, refusal: Refusal, index: u32, stream: &[u8], good: &Good) {
+    if refusal == Refusal::Header {
         exi_why::header(err, stream, t.settings.cookie == 1);
         return;
     }
-    explain_event(err, number, index, good);
+    explain_event(err, refusal, index, good);
     exi_why::octet(err, good.octets, stream.len());
-    if number == LIMIT {
-        exi_why::limits(err, index, good.octets, good.core);
-    }
-    if number == NAME {
-        exi_cause::name(
-            err,
-            stream,
-            t.settings.alignment == 1,
-            good.core.at,
-            good.octets,
-        );
+    match refusal {
+        Refusal::Limit => exi_why::limits(err, index, good.octets, &good.core),
+        Refusal::Name => {
+            let aligned = t.settings.alignment == 1;
+            exi_cause::name(err, stream, aligned, good.core.at, good.octets);
+        }
+        _ => (),
     }
 }

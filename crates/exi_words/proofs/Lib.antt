@@ -1,2 +1,2 @@
-mod Place
+mod Names
 mod Numbers

@@ -1,58 +1,79 @@
 -- The words of the command line that have a meaning.
-use Rattle.std.specs.Prelude.{ℕ, zero, suc, ◌+◌, ◌-◌, ◌*◌, Bool, cond, ◌&&◌, not, List, [], ◌∷◌, map, eqb, leb, get_or}
-use Rattle.text.specs.Text.{Text, text, eq_text}
-use Rattle.refusal.specs.Names.{padded}
-use Rattle.exi_words.specs.declared.Number.{Number}
-use Rattle.exi_words.specs.declared.Number.TheVariants.{Is, None}
+use Rattle.std.specs.Prelude.{ℕ, ◌+◌, ◌-◌, ◌*◌, Bool, cond, ◌&&◌, ◌||◌, List, [], ◌∷◌, length, eqb, leb, ltb, get_or}
+use Rattle.std.specs.Prelude.{Option, Some, None}
+use Rattle.std.specs.Str.{bytes_eq}
+use Rattle.text.specs.Text.{Text, text}
+use Rattle.exi_words.specs.declared.Word.{Word}
+use Rattle.exi_words.specs.declared.Word.TheVariants.{BitPacked, ByteAligned, Cookie, Comments}
+use Rattle.exi_words.specs.declared.Word.TheVariants.{Instructions, Fragment, MaxLength, Capacity}
+use Rattle.exi_words.specs.declared.Word.TheVariants.{Packets, Ms, Utf8, Help, H, End, Show, Check}
+use Rattle.exi_words.specs.declared.Word.TheVariants.{Readings, WriteReadings, HelpWord}
 
--- The flags, and then the commands, each with zeros up to 16 octets.
-unfoldable pub words : List Text
-words =
-    map padded
-    (text "--bit-packed"
-    ∷ text "--byte-aligned"
-    ∷ text "--cookie"
-    ∷ text "--comments"
-    ∷ text "--instructions"
-    ∷ text "--fragment"
-    ∷ text "--max-length"
-    ∷ text "--capacity"
-    ∷ text "--packets"
-    ∷ text "--ms"
-    ∷ text "--utf8"
-    ∷ text "--help"
-    ∷ text "-h"
-    ∷ text "--"
-    ∷ text "show"
-    ∷ text "check"
-    ∷ text "readings"
-    ∷ text "write-readings"
-    ∷ text "help"
-    ∷ [])
+abbrev pub name_of : Word → Text
+name_of BitPacked = text "--bit-packed"
+name_of ByteAligned = text "--byte-aligned"
+name_of Cookie = text "--cookie"
+name_of Comments = text "--comments"
+name_of Instructions = text "--instructions"
+name_of Fragment = text "--fragment"
+name_of MaxLength = text "--max-length"
+name_of Capacity = text "--capacity"
+name_of Packets = text "--packets"
+name_of Ms = text "--ms"
+name_of Utf8 = text "--utf8"
+name_of Help = text "--help"
+name_of H = text "-h"
+name_of End = text "--"
+name_of Show = text "show"
+name_of Check = text "check"
+name_of Readings = text "readings"
+name_of WriteReadings = text "write-readings"
+name_of HelpWord = text "help"
 
--- The place of a word among these; how many they are where it is none of them.
-unfoldable pub place_among : List Text → Text → ℕ
-place_among [] w = 0
-place_among (x ∷ xs) w = cond (eq_text w x) 0 (suc (place_among xs w))
+-- The flags, and then the commands.
+unfoldable pub all_words : List Word
+all_words =
+    BitPacked
+    ∷ ByteAligned
+    ∷ Cookie
+    ∷ Comments
+    ∷ Instructions
+    ∷ Fragment
+    ∷ MaxLength
+    ∷ Capacity
+    ∷ Packets
+    ∷ Ms
+    ∷ Utf8
+    ∷ Help
+    ∷ H
+    ∷ End
+    ∷ Show
+    ∷ Check
+    ∷ Readings
+    ∷ WriteReadings
+    ∷ HelpWord
+    ∷ []
 
-unfoldable pub word_place : Text → ℕ
-word_place w = place_among words w
+-- The first of these that has this name.
+unfoldable pub named_among : List Word → Text → Option Word
+named_among [] w = None
+named_among (x ∷ xs) w = cond (bytes_eq (name_of x) w) (Some x) (named_among xs w)
+
+unfoldable pub named : Text → Option Word
+named w = named_among all_words w
 
 -- A word that begins with `-`, and is more than that.
 abbrev pub is_option : Text → Bool
-is_option w = eqb (get_or w 0 0) 45 && not (eqb (get_or w 1 0) 0)
+is_option w = ltb 1 (length w) && eqb (get_or w 0 0) 45
 
--- The number of the digits from a place on, at most so many, behind those that mean v. A zero ends
--- them. (48 is the octet of the digit 0.)
-unfoldable pub number_at : ℕ → Text → ℕ → ℕ → Number
-number_at zero w i v = Is v
-number_at (suc n) w i v =
-    let c = get_or w i 0 in
-    let next = number_at n w (suc i) (10 * v + (c - 48)) in
-    cond (eqb c 0) (Is v) (cond (leb 48 c && leb c 57 && leb v 99999999) next None)
+abbrev pub is_digit : ℕ → Bool
+is_digit c = leb 48 c && leb c 57
+
+-- The number of these digits behind those that mean v. (48 is the octet of the digit 0.)
+unfoldable pub number_from : Text → ℕ → Option ℕ
+number_from [] v = Some v
+number_from (c ∷ w) v = cond (is_digit c && leb v 99999999) (number_from w (10 * v + (c - 48))) None
 
 -- The number that a word is: 1 to 9 digits.
-unfoldable pub number_of : Text → Number
-number_of w =
-    let digits = cond (eqb (get_or w 0 0) 0) None (number_at 9 w 0 0) in
-    cond (eqb (get_or w 9 0) 0) digits None
+abbrev pub number_in : Text → Option ℕ
+number_in w = cond (eqb (length w) 0 || ltb 9 (length w)) None (number_from w 0)

@@ -1,100 +1,103 @@
-// The words of the command line: the table of those that have a meaning, and numbers. The
-// definitions that the contracts cite are in specs/Words.antt.
+// The words of the command line: those that have a meaning, and numbers. The definitions that the
+// contracts cite are in specs/Words.antt.
 #![tactic(auto)]
 
-ghost use Rattle.std.specs.Prelude.{◌≡◌, length};
-ghost use Rattle.exi_words.specs.Words.{word_place, is_option, number_of};
+ghost use Rattle.std.specs.Prelude.{◌≡◌};
+ghost use Rattle.exi_words.specs.Words.{name_of, named, is_option, is_digit, number_in};
 
 use std::env::{Env, FillError};
 
-// A word's first 16 octets, zeros behind it.
-pub type Word = [u8; 16];
+// A word that has a meaning: the flags, and then the commands.
+#[derive(Clone, Copy, Debug, PartialEq, Eq)]
+pub enum Word {
+    BitPacked,
+    ByteAligned,
+    Cookie,
+    Comments,
+    Instructions,
+    Fragment,
+    MaxLength,
+    Capacity,
+    Packets,
+    Ms,
+    Utf8,
+    Help,
+    H,
+    End,
+    Show,
+    Check,
+    Readings,
+    WriteReadings,
+    HelpWord,
+}
 
-// How many flags there are, and how many words.
-pub const FLAGS: usize = 14;
+impl Word {
+    const ALL: [Word; 19] = [
+        Word::BitPacked,
+        Word::ByteAligned,
+        Word::Cookie,
+        Word::Comments,
+        Word::Instructions,
+        Word::Fragment,
+        Word::MaxLength,
+        Word::Capacity,
+        Word::Packets,
+        Word::Ms,
+        Word::Utf8,
+        Word::Help,
+        Word::H,
+        Word::End,
+        Word::Show,
+        Word::Check,
+        Word::Readings,
+        Word::WriteReadings,
+        Word::HelpWord,
+    ];
 
-const COUNT: usize = 19;
-
-// The flags, and then the commands.
-const WORDS: [Word; COUNT] = [
-    *b"--bit-packed\0\0\0\0",
-    *b"--byte-aligned\0\0",
-    *b"--cookie\0\0\0\0\0\0\0\0",
-    *b"--comments\0\0\0\0\0\0",
-    *b"--instructions\0\0",
-    *b"--fragment\0\0\0\0\0\0",
-    *b"--max-length\0\0\0\0",
-    *b"--capacity\0\0\0\0\0\0",
-    *b"--packets\0\0\0\0\0\0\0",
-    *b"--ms\0\0\0\0\0\0\0\0\0\0\0\0",
-    *b"--utf8\0\0\0\0\0\0\0\0\0\0",
-    *b"--help\0\0\0\0\0\0\0\0\0\0",
-    *b"-h\0\0\0\0\0\0\0\0\0\0\0\0\0\0",
-    *b"--\0\0\0\0\0\0\0\0\0\0\0\0\0\0",
-    *b"show\0\0\0\0\0\0\0\0\0\0\0\0",
-    *b"check\0\0\0\0\0\0\0\0\0\0\0",
-    *b"readings\0\0\0\0\0\0\0\0",
-    *b"write-readings\0\0",
-    *b"help\0\0\0\0\0\0\0\0\0\0\0\0",
-];
-
-pub const BIT_PACKED: usize = 0;
-
-pub const BYTE_ALIGNED: usize = 1;
-
-pub const COOKIE: usize = 2;
-
-pub const COMMENTS: usize = 3;
-
-pub const INSTRUCTIONS: usize = 4;
-
-pub const FRAGMENT: usize = 5;
-
-pub const MAX_LENGTH: usize = 6;
-
-pub const CAPACITY: usize = 7;
-
-pub const PACKETS: usize = 8;
-
-pub const MS: usize = 9;
-
-pub const UTF8: usize = 10;
-
-pub const HELP: usize = 11;
-
-pub const H: usize = 12;
-
-pub const END: usize = 13;
-
-pub const SHOW: usize = 14;
-
-pub const CHECK: usize = 15;
-
-pub const READINGS: usize = 16;
-
-pub const WRITE_READINGS: usize = 17;
-
-pub const HELP_WORD: usize = 18;
-
-// The place of a word in the table, or COUNT.
-pub fn place_of(word: Word) -> usize
-    ensures { result ≡ word_place word }
-{
-    let mut i = 0;
-    while i < COUNT {
-        if check::same(&word, &WORDS[i]) {
-            return i;
+    fn name(self) -> &'static [u8]
+        ensures { result.now ≡ name_of self }
+    {
+        match self {
+            Word::BitPacked => b"--bit-packed",
+            Word::ByteAligned => b"--byte-aligned",
+            Word::Cookie => b"--cookie",
+            Word::Comments => b"--comments",
+            Word::Instructions => b"--instructions",
+            Word::Fragment => b"--fragment",
+            Word::MaxLength => b"--max-length",
+            Word::Capacity => b"--capacity",
+            Word::Packets => b"--packets",
+            Word::Ms => b"--ms",
+            Word::Utf8 => b"--utf8",
+            Word::Help => b"--help",
+            Word::H => b"-h",
+            Word::End => b"--",
+            Word::Show => b"show",
+            Word::Check => b"check",
+            Word::Readings => b"readings",
+            Word::WriteReadings => b"write-readings",
+            Word::HelpWord => b"help",
         }
-        i += 1;
     }
-    i
+
+    // The word with this name.
+    pub fn named(name: &[u8]) -> Option<Word>
+        ensures { result ≡ named name.now }
+    {
+        for word in Word::ALL {
+            if word.name() == name {
+                return Some(word);
+            }
+        }
+        None
+    }
 }
 
 // Whether a word asks for something that is no file: it begins with `-`, and more follows.
-pub fn is_option(word: Word) -> bool
-    ensures { result ≡ is_option word }
+pub fn is_option(word: &[u8]) -> bool
+    ensures { result ≡ is_option word.now }
 {
-    (word[0] == b'-') & (word[1] != 0)
+    1 < word.len() && word[0] == b'-'
 }
 
 // How many words the command line has, the program's own name among them.
@@ -108,58 +111,35 @@ pub fn count<E: Env>(env: &E) -> usize {
     usize::MAX
 }
 
-// A word of the command line; zeros where there is none. One of more than 16 octets leaves its
-// first 16, which none of the table has.
-pub fn word_at<E: Env>(env: &E, i: usize) -> Word
-    ensures { 16 ≡ length result }
+// A word of the command line, as much of it as there is room for; none of it where it is not there.
+pub fn word_at<'a, E: Env>(env: &E, i: usize, room: &'a mut [u8]) -> &'a [u8] {
+    match env.arg(i, room) {
+        Ok(n) => &room[..n],
+        Err(FillError::TooLong) => room,
+        Err(FillError::NotPresent) => &room[..0],
+    }
+}
+
+fn is_digit(c: u8) -> bool
+    ensures { result ≡ is_digit c }
 {
-    let mut word = [0u8; 16];
-    let _ = env.arg(i, &mut word);
-    word
+    b'0' <= c && c <= b'9'
 }
-
-// The place of a word of the command line.
-pub fn place_at<E: Env>(env: &E, i: usize) -> usize {
-    place_of(word_at(env, i))
-}
-
-// A number, or none.
-#[derive(Clone, Copy)]
-pub enum Number {
-    Is(u32),
-    None,
-}
-
-const NINE: u8 = b'9';
 
 // The number that a word is: 1 to 9 digits.
-pub fn number_of(word: Word) -> Number
-    ensures { result ≡ number_of word }
+pub fn number_of(word: &[u8]) -> Option<u32>
+    ensures { result ≡ number_in word.now }
 {
-    if word[9] != 0 {
-        return Number::None;
+    if word.is_empty() || 9 < word.len() {
+        return None;
     }
-    if word[0] == 0 {
-        return Number::None;
+    let mut n: u32 = 0;
+    for c in word {
+        let digit = *c;
+        if !is_digit(digit) || 99_999_999 < n {
+            return None;
+        }
+        n = 10 * n + (digit - b'0') as u32;
     }
-    let mut v: u32 = 0;
-    let mut i = 0;
-    while i < 9 {
-        let c = word[i];
-        if c == 0 {
-            return Number::Is(v);
-        }
-        if c < b'0' {
-            return Number::None;
-        }
-        if NINE < c {
-            return Number::None;
-        }
-        if 99999999 < v {
-            return Number::None;
-        }
-        v = 10 * v + (c - b'0') as u32;
-        i += 1;
-    }
-    Number::Is(v)
+    Some(n)
 }

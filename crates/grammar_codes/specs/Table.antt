@@ -4,6 +4,7 @@
 -- States and kinds are numbers (crates/event_code/specs/Numbers.antt). Levels: 0 the first part of
 -- a code, 1 the second, 2 the third.
 use Rattle.std.specs.Prelude.{ℕ, zero, suc, ◌+◌, ◌≤◌, ◌<◌, ◌≡◌, Bool, true, false, cond, List, [], ◌∷◌, ◌++◌, map, length, get_or, drop, eqb, ltb}
+use Rattle.std.specs.Prelude as prelude
 use Rattle.std.proofs.Math.Option
 use Rattle.std.proofs.Math.Option.{Option, none, some}
 use Rattle.spec_fields.specs.Bits.{Bits}
@@ -95,7 +96,12 @@ unfoldable pub place_as : Option (ℕ × ℕ) → Place
 place_as none = record { level = max_levels; value = 0 }
 place_as (some x) = record { level = x.0; value = x.1 }
 
--- The same, of a level alone.
+-- A place that a function answers, or the most levels for none.
+abbrev pub place_view : prelude.Option Place → Place
+place_view prelude.None = place_as none
+place_view (prelude.Some p) = p
+
+-- The same as `place_as`, of a level alone.
 unfoldable pub kept_place : ℕ → Option ℕ → Place
 kept_place level none = record { level = max_levels; value = 0 }
 kept_place level (some v) = record { level = level; value = v }

@@ -4,23 +4,20 @@
 #![tactic(auto)]
 
 ghost use Rattle.std.specs.Prelude.{◌≡◌, [], ◌∷◌, ◌<◌, length, get_or, drop};
-ghost use Rattle.std.proofs.Math.Option.{none};
+ghost use Rattle.std.specs.Option.{IfSome};
 ghost use Rattle.spec_exi.specs.Event.{Kind, SD as kind_sd};
 ghost use Rattle.spec_exi.specs.Grammar.{kind_number};
 ghost use Rattle.event_code.specs.Numbers.{in_fragment, in_tag, in_element};
 ghost use Rattle.grammar_codes.specs.Table.{max_levels, kept_kinds, CountAt, values_at, PlaceAt};
 ghost use Rattle.grammar_codes.specs.Table.{leads_on, fixed_levels, fixed_kinds};
-ghost use Rattle.grammar_codes.specs.Table.{table_of, number_in, kept_place, place_in, place_as};
+ghost use Rattle.grammar_codes.specs.Table.{table_of, number_in, kept_place, place_in, place_as, place_view};
 
 use event_code::{
     AT, CH, CM, ED, EE, IN_DOC_CONTENT, IN_DOC_END, IN_DOCUMENT, IN_ELEMENT, IN_FRAGMENT, IN_TAG,
     PI, SD, SE,
 };
 
-// Levels of a state at most: an event code has a part for each, up to its production's.
-pub const MAX_LEVELS: u32 = 3;
-
-// A level, and the number of a production there; MAX_LEVELS for none.
+// A level, and the number of a production there.
 #[derive(Clone, Copy)]
 pub struct Place {
     pub level: u32,
@@ -156,97 +153,95 @@ pub fn values_at(mode: u32, level: u32, comments: bool, instructions: bool) -> u
     here + 1
 }
 
-fn nowhere() -> Place
-    ensures { result ≡ place_as none }
-{
-    Place {
-        level: MAX_LEVELS,
-        value: 0,
-    }
-}
-
 // A comment or an instruction, in the level that has those that are kept.
-fn kept_place(kind: u32, level: u32, comments: bool, instructions: bool) -> Place
-    ensures { result ≡ kept_place level (number_in (kept_kinds comments instructions) kind) }
+fn kept_place(kind: u32, level: u32, comments: bool, instructions: bool) -> Option<Place>
+    requires { level < max_levels }
+    ensures is { place_view result ≡ kept_place level (number_in (kept_kinds comments instructions) kind) }
+    ensures low { IfSome result (λ p. p.level < max_levels) }
 {
     if kind == CM {
         if comments {
-            return Place { level, value: 0 };
+            return Some(Place { level, value: 0 });
         }
-        return nowhere();
+        return None;
     }
     if kind == PI {
         if !instructions {
-            return nowhere();
+            return None;
         }
         if comments {
-            return Place { level, value: 1 };
+            return Some(Place { level, value: 1 });
         }
-        return Place { level, value: 0 };
+        return Some(Place { level, value: 0 });
     }
-    nowhere()
+    None
 }
 
-fn tag_place(kind: u32, comments: bool, instructions: bool) -> Place
-    ensures { result ≡ place_as (place_in (table_of comments instructions in_tag) kind) }
+fn tag_place(kind: u32, comments: bool, instructions: bool) -> Option<Place>
+    ensures is { place_view result ≡ place_as (place_in (table_of comments instructions in_tag) kind) }
+    ensures low { IfSome result (λ p. p.level < max_levels) }
 {
     match kind {
-        EE => Place { level: 1, value: 0 },
-        AT => Place { level: 1, value: 1 },
-        SE => Place { level: 1, value: 2 },
-        CH => Place { level: 1, value: 3 },
+        EE => Some(Place { level: 1, value: 0 }),
+        AT => Some(Place { level: 1, value: 1 }),
+        SE => Some(Place { level: 1, value: 2 }),
+        CH => Some(Place { level: 1, value: 3 }),
         _ => kept_place(kind, 2, comments, instructions),
     }
 }
 
-fn element_place(kind: u32, comments: bool, instructions: bool) -> Place
-    ensures { result ≡ place_as (place_in (table_of comments instructions in_element) kind) }
+fn element_place(kind: u32, comments: bool, instructions: bool) -> Option<Place>
+    ensures is { place_view result ≡ place_as (place_in (table_of comments instructions in_element) kind) }
+    ensures low { IfSome result (λ p. p.level < max_levels) }
 {
     match kind {
-        EE => Place { level: 0, value: 0 },
-        SE => Place { level: 1, value: 0 },
-        CH => Place { level: 1, value: 1 },
+        EE => Some(Place { level: 0, value: 0 }),
+        SE => Some(Place { level: 1, value: 0 }),
+        CH => Some(Place { level: 1, value: 1 }),
         _ => kept_place(kind, 2, comments, instructions),
     }
 }
 
-fn fragment_place(kind: u32, comments: bool, instructions: bool) -> Place
-    ensures { result ≡ place_as (place_in (table_of comments instructions in_fragment) kind) }
+fn fragment_place(kind: u32, comments: bool, instructions: bool) -> Option<Place>
+    ensures is { place_view result ≡ place_as (place_in (table_of comments instructions in_fragment) kind) }
+    ensures low { IfSome result (λ p. p.level < max_levels) }
 {
     match kind {
-        SE => Place { level: 0, value: 0 },
-        ED => Place { level: 0, value: 1 },
+        SE => Some(Place { level: 0, value: 0 }),
+        ED => Some(Place { level: 0, value: 1 }),
         _ => kept_place(kind, 1, comments, instructions),
     }
 }
 
 // Outside the root element: one kind stands in the first level.
-fn outer_place(first: u32, kind: u32, comments: bool, instructions: bool) -> Place
-    ensures { (k : Kind) → kind_number k ≡ first
-        → result ≡ place_as (place_in ((k ∷ []) ∷ kept_kinds comments instructions ∷ []) kind) }
+fn outer_place(first: u32, kind: u32, comments: bool, instructions: bool) -> Option<Place>
+    ensures is { (k : Kind) → kind_number k ≡ first
+        → place_view result ≡ place_as (place_in ((k ∷ []) ∷ kept_kinds comments instructions ∷ []) kind) }
+    ensures low { IfSome result (λ p. p.level < max_levels) }
 {
     if kind == first {
-        return Place { level: 0, value: 0 };
+        return Some(Place { level: 0, value: 0 });
     }
     kept_place(kind, 1, comments, instructions)
 }
 
 // Where a kind stands in the table of a state.
-pub fn place_of(mode: u32, kind: u32, comments: bool, instructions: bool) -> Place
-    ensures { PlaceAt comments instructions mode kind result }
+pub fn place_of(mode: u32, kind: u32, comments: bool, instructions: bool) -> Option<Place>
+    ensures is { PlaceAt comments instructions mode kind (place_view result) }
+    ensures low { IfSome result (λ p. p.level < max_levels) }
 {
     match mode {
         IN_DOCUMENT => {
             if kind == SD {
-                return Place { level: 0, value: 0 };
+                return Some(Place { level: 0, value: 0 });
             }
-            nowhere()
+            None
         }
         IN_DOC_CONTENT => outer_place(SE, kind, comments, instructions),
         IN_DOC_END => outer_place(ED, kind, comments, instructions),
         IN_TAG => tag_place(kind, comments, instructions),
         IN_ELEMENT => element_place(kind, comments, instructions),
         IN_FRAGMENT => fragment_place(kind, comments, instructions),
-        _ => nowhere(),
+        _ => None,
     }
 }

@@ -266,15 +266,15 @@ part-is : (count number : ℕ) → number < count → part_in count number ≡ c
 unfolding part_in
 part-is count number h = rw (lt-ltb number count h)
 
-module _ {work : List ℕ} {row : ℕ} (h : PartPre work row) where
-  pub row-asks : LearnedRowPre work (row - 1)
+module _ {work : List ℕ} {row : ℕ} (h : PartPre work (suc row)) where
+  pub row-asks : LearnedRowPre work row
   unfolding max_learned
-  row-asks = record { room = h.room; low = omega (arith, h.some, h.few) }
+  row-asks = record { room = h.room; low = omega (arith, h.few) }
 
-  module _ {p : cell.Production} (at : ProductionAt work (row - 1) p) (count : ℕ) {r : ℕ}
+  module _ {p : cell.Production} (at : ProductionAt work row p) (count : ℕ) {r : ℕ}
       (is : r ≡ part_in count p.number) where
     module _ (w : Rows) (learned g : ℕ) (hold : LearnedHold work learned (taught_in w))
-        (z : row ≡ suc g) (b : g < length w.learned)
+        (z : suc row ≡ suc g) (b : g < length w.learned)
         (counted : CountedAt work (learnt_at w.learned g).site count) where
       abbrev rs : List Taught
       rs = taught_in w
@@ -297,8 +297,8 @@ module _ {work : List ℕ} {row : ℕ} (h : PartPre work row) where
       own-number : p.number ≡ tally (has_key (site_of_row rs) site) g
       unfolding number_at
       own-number =
-          let y : row - 1 ≡ g = omega arith in
-          let low : row - 1 < learned = omega (arith, taught-count w, hold.count) in
+          let y : row ≡ g = omega arith in
+          let low : row < learned = omega (arith, taught-count w, hold.count) in
           (at.means learned rs hold low).number
           ∙ ap (number_at (site_of_row rs)) y
           ∙ ap (λ s. tally (has_key (site_of_row rs) s) g) own-site
@@ -318,10 +318,14 @@ module _ {work : List ℕ} {row : ℕ} (h : PartPre work row) where
             omega (arith, e, own-number, count-all, number-low),
           )
 
-    pub part-here : PartHere work row count r
+    same : row ≡ suc row - 1
+    same = omega arith
+
+    pub part-here : PartHere work (suc row) count r
     part-here =
         record {
-          is = is ∙ ap (λ (q : cell.Production). part_in count q.number) at.is;
+          is = is ∙ ap (λ (q : cell.Production). part_in count q.number) at.is
+              ∙ ap (λ g. part_in count (cells.production_in work g).number) same;
           few = omega (arith, is, part-few count p.number);
           means = part-means;
         }

@@ -3,8 +3,9 @@
 // functions ask and leave is in specs/.
 #![tactic(auto)]
 
-ghost use Rattle.std.specs.Prelude.{◌≡◌, ◌<◌};
+ghost use Rattle.std.specs.Prelude.{◌≡◌, ◌<◌, suc};
 ghost use Rattle.mem_layout.specs.Layout.{name_rows};
+ghost use Rattle.mem_chain.specs.Chain.{link_of};
 ghost use Rattle.grammar_match.specs.Here.{site_in, SitePre, CountedHere};
 ghost use Rattle.grammar_match.specs.Found.{FindPre, FoundHere, PartPre, PartHere};
 
@@ -37,29 +38,35 @@ pub fn count_here(mode: u32, top: u32, work: &[u32]) -> u32
     mem_learned::count_at(work, site_in(mode, top))
 }
 
-// The row and 1 of the one that fits an event of this kind whose name has this row, 0 where it has
-// none; 0 where none fits.
-pub fn find_learned(mode: u32, top: u32, kind: u32, name: u32, learned: u32, work: &[u32]) -> u32
+// The row of the one that fits an event of this kind whose name has this row, 0 where it has none.
+pub fn find_learned(
+    mode: u32,
+    top: u32,
+    kind: u32,
+    name: u32,
+    learned: u32,
+    work: &[u32],
+) -> Option<u32>
     requires { FindPre work.now top name learned }
-    ensures { FoundHere work.now mode top kind name learned result }
+    ensures { FoundHere work.now mode top kind name learned (link_of result) }
 {
     if mode < IN_FRAGMENT {
-        return 0;
+        return None;
     }
     if kind < SE {
-        return 0;
+        return None;
     }
     if CH < kind {
-        return 0;
+        return None;
     }
     mem_learned::find(work, site_in(mode, top), kind, name, learned)
 }
 
 // The part of its code: how many of the state's, count in all, are newer.
 pub fn part_here(row: u32, count: u32, work: &[u32]) -> u32
-    requires { PartPre work.now row }
-    ensures { PartHere work.now row count result }
+    requires { PartPre work.now (suc row) }
+    ensures { PartHere work.now (suc row) count result }
 {
-    let p = mem_learned::production_at(work, row - 1);
+    let p = mem_learned::production_at(work, row);
     mem_learned::part_of(count, p.number)
 }

@@ -11,17 +11,17 @@ use Rattle.mem_chain.specs.Chain.{below, walked}
 use Rattle.mem_chain.proofs.Last.{split, below_less}
 
 module _ (work : List ℕ) (nexts ring low : ℕ) (has : ℕ → Bool) where
-  walked-out : (k c : ℕ) → c ≤ low → walked work nexts ring low has k c ≡ 0
+  pub walked-out : (k c : ℕ) → c ≤ low → walked work nexts ring low has k c ≡ 0
   unfolding walked
   walked-out zero c h = refl
   walked-out (suc k) c h = rw (le-ltb low c h)
 
-  walked_here : (k c : ℕ) → low < c → has ((c - 1) % ring) ≡ true
+  pub walked_here : (k c : ℕ) → low < c → has ((c - 1) % ring) ≡ true
       → walked work nexts ring low has (suc k) c ≡ c
   unfolding walked
   walked_here k c h t = rw (lt-ltb low c h, t)
 
-  walked_on : (k c : ℕ) → low < c → has ((c - 1) % ring) ≡ false
+  pub walked_on : (k c : ℕ) → low < c → has ((c - 1) % ring) ≡ false
       → walked work nexts ring low has (suc k) c ≡ walked work nexts ring low has k
       (below c (get_or work (nexts + (c - 1) % ring) 0))
   unfolding walked

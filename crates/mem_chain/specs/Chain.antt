@@ -1,6 +1,11 @@
 -- Chains of rows. A row is known by its insertion number; it lies at that number modulo the ring,
 -- until a later row takes its place.
-use Rattle.std.specs.Prelude.{ℕ, zero, suc, ◌+◌, ◌-◌, ◌%◌, ◌≤◌, ◌<◌, ◌≡◌, Bool, true, cond, List, length, get_or, set, eqb, ltb}
+use Rattle.std.specs.Prelude.{ℕ, zero, suc, ◌+◌, ◌-◌, ◌%◌, ◌≤◌, ◌<◌, ◌≡◌, Bool, true, cond, List, length, get_or, set, eqb, ltb, Option, None, Some}
+
+-- A row counted from 1, or 0 for none: a link, as it stands in a cell.
+abbrev pub link_of : Option ℕ → ℕ
+link_of None = 0
+link_of (Some row) = suc row
 
 -- The newest row below n that passes the test, counted from 1, or 0.
 unfoldable pub last_that : (ℕ → Bool) → ℕ → ℕ
@@ -69,6 +74,7 @@ pub record NewestPre (work : List ℕ) (head codes nexts ring n : ℕ) : Type 0 
   pub next_room : nexts + ring ≤ length work
   pub few : n < max_count
 
+-- A chain that a row joins, or that is walked.
 pub record LinkPre (work : List ℕ) (head nexts ring n : ℕ) : Type 0 where
   pub some : 0 < ring
   pub head_room : head < length work

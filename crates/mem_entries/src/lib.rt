@@ -19,10 +19,8 @@ pub fn hash(x: &[u32]) -> u32
     ensures { result ≡ hash_of x.now }
 {
     let mut h: u64 = 0;
-    let mut i = 0;
-    while i < x.len() {
-        h = mix(h, x[i]);
-        i += 1;
+    for &c in x {
+        h = mix(h, c);
     }
     h as u32
 }
@@ -40,12 +38,9 @@ pub fn weigh(x: &[u32]) -> Weighed
 {
     let mut h: u64 = 0;
     let mut chars = true;
-    let mut i = 0;
-    while i < x.len() {
-        let c = x[i];
+    for &c in x {
         h = mix(h, c);
         chars = chars & text::is_char(c);
-        i += 1;
     }
     Weighed {
         hash: h as u32,

@@ -1,10 +1,11 @@
 // Rows of work memory by a code, and by a key and a number: row i has the code key * 16384 and its
 // number, which is how many rows of the key are before it, and the key's count stands beside. A row
-// that a function answers is its insertion number and 1, or 0 for none. Every function is safe and
-// ends on any memory. What the contracts cite is in specs/Index.antt.
+// that a function answers is its insertion number. Every function is safe and ends on any memory.
+// What the contracts cite is in specs/Index.antt.
 #![tactic(auto)]
 
 ghost use Rattle.std.specs.Prelude.{◌≡◌, ◌<◌};
+ghost use Rattle.mem_chain.specs.Chain.{link_of};
 ghost use Rattle.mem_index.specs.Index.{spot_of, entered, joined};
 ghost use Rattle.mem_index.specs.Index.{SpotRowPre, Spot, SeekPre, Found, EnterRowPre};
 ghost use Rattle.mem_index.specs.Index.{CountAtPre, Counted, NthPre, NthFound, Joining};
@@ -36,9 +37,9 @@ fn spot(code: u32, size: u32) -> u32
 }
 
 // The newest row with this code among those from low on.
-pub fn find(work: &[u32], x: Index, n: u32, low: u32, code: u32) -> u32
+pub fn find(work: &[u32], x: Index, n: u32, low: u32, code: u32) -> Option<u32>
     requires { SeekPre work.now x n code }
-    ensures { Found work.now x n low code result }
+    ensures { Found work.now x n low code (link_of result) }
 {
     let head = x.heads + spot(code, x.size) as usize;
     mem_chain::newest(work, head, x.codes, x.nexts, x.ring, n, low, code)
@@ -64,12 +65,12 @@ pub fn count(work: &[u32], counts: usize, key: u32) -> u32
 }
 
 // The row of a key with this number, if it is one of those from low on.
-pub fn nth(work: &[u32], x: Index, key: u32, number: u32, n: u32, low: u32) -> u32
+pub fn nth(work: &[u32], x: Index, key: u32, number: u32, n: u32, low: u32) -> Option<u32>
     requires { NthPre work.now x key n }
-    ensures { NthFound work.now x key number n low result }
+    ensures { NthFound work.now x key number n low (link_of result) }
 {
     if number >= NUMBERS {
-        return 0;
+        return None;
     }
     find(work, x, n, low, key * NUMBERS + number)
 }

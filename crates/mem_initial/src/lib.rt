@@ -69,22 +69,14 @@ pub fn clear_counts(work: &mut [u32])
     mem_clear::cells(&mut work[ZERO_FROM..ZERO_TO]);
 }
 
-fn wide(x: u8) -> u32
-    ensures { result ≡ x }
-{
-    x as u32
-}
-
 // Writes the texts at the origin.
 pub fn lay_text(cells: &mut [u32], origin: usize)
     requires { origin + initial_size ≤ length cells.old }
     ensures { cells.new ≡ with_text cells.old origin }
 {
     let text = TEXT;
-    let mut i: usize = 0;
-    while i < INITIAL_TEXT {
-        cells[origin + i] = wide(text[i]);
-        i += 1;
+    for i in 0..INITIAL_TEXT {
+        cells[origin + i] = u32::from(text[i]);
     }
 }
 

@@ -19,7 +19,6 @@ use Rattle.mem_index.specs.Index.{numbers, code_at, Counted, NthFound, Found, Se
 use Rattle.mem_index.specs.Index.{Joining}
 use Rattle.mem_index.proofs.Codes.{and-true, and_no, both, code-number}
 use Rattle.event_code.specs.Numbers.{kinds}
-use Rattle.mem_learned.specs.declared.Production as cells
 use Rattle.mem_learned.specs.Learned.{Taught, row_at, site_of_row, name_code, name_code_at, is_row}
 use Rattle.mem_learned.specs.Learned.{site_index, name_index, production_in, part_in}
 use Rattle.mem_learned.specs.Learned.{newest_in, CountedAt, NthLearned, FoundLearned}

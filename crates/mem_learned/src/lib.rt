@@ -1,12 +1,12 @@
 // Learned productions in work memory, in the order in which they were learned, on chains by site
 // and number and by site, kind and name; and which names have an element grammar. A site is 2 * the
-// element's name + 1 in its start tag, 2 * the name in its content; names are first rows. A row
-// that a search answers is its number and 1, or 0 for none. Every function is safe and ends on any
-// memory. What the contracts cite is in specs/Learned.antt.
+// element's name + 1 in its start tag, 2 * the name in its content; names are first rows. Every
+// function is safe and ends on any memory. What the contracts cite is in specs/Learned.antt.
 #![tactic(auto)]
 
 ghost use Rattle.std.specs.Prelude.{◌≡◌};
-ghost use Rattle.mem_learned.specs.Learned.{site_index, name_index, SitedPre, CountedAt};
+ghost use Rattle.mem_chain.specs.Chain.{link_of};
+ghost use Rattle.mem_learned.specs.Learned.{SitedPre, CountedAt};
 ghost use Rattle.mem_learned.specs.Learned.{NthLearned};
 ghost use Rattle.mem_learned.specs.Learned.{FindRowPre, FoundLearned};
 ghost use Rattle.mem_learned.specs.Learned.{LearnedRowPre, ProductionAt};
@@ -31,30 +31,22 @@ pub struct Production {
 }
 
 // By site and number.
-fn by_site() -> Index
-    ensures { result ≡ site_index }
-{
-    Index {
-        heads: LEARNED_CODE_HEADS,
-        size: LEARNED_BUCKETS,
-        codes: LEARNED_CODES,
-        nexts: LEARNED_CODE_NEXTS,
-        ring: LEARNED_ROWS,
-    }
-}
+const BY_SITE: Index = Index {
+    heads: LEARNED_CODE_HEADS,
+    size: LEARNED_BUCKETS,
+    codes: LEARNED_CODES,
+    nexts: LEARNED_CODE_NEXTS,
+    ring: LEARNED_ROWS,
+};
 
 // By site, kind and name.
-fn by_name() -> Index
-    ensures { result ≡ name_index }
-{
-    Index {
-        heads: LEARNED_NAME_HEADS,
-        size: LEARNED_BUCKETS,
-        codes: LEARNED_NAME_CODES,
-        nexts: LEARNED_NAME_NEXTS,
-        ring: LEARNED_ROWS,
-    }
-}
+const BY_NAME: Index = Index {
+    heads: LEARNED_NAME_HEADS,
+    size: LEARNED_BUCKETS,
+    codes: LEARNED_NAME_CODES,
+    nexts: LEARNED_NAME_NEXTS,
+    ring: LEARNED_ROWS,
+};
 
 // How many productions a site has.
 pub fn count_at(work: &[u32], site: u32) -> u32
@@ -65,24 +57,24 @@ pub fn count_at(work: &[u32], site: u32) -> u32
 }
 
 // The production of a site that has v newer ones, of count in all.
-pub fn nth_newest(work: &[u32], site: u32, count: u32, v: u32, n: u32) -> u32
+pub fn nth_newest(work: &[u32], site: u32, count: u32, v: u32, n: u32) -> Option<u32>
     requires { SitedPre work.now site n }
-    ensures { NthLearned work.now site count v n result }
+    ensures { NthLearned work.now site count v n (link_of result) }
 {
     if v >= count {
-        return 0;
+        return None;
     }
-    mem_index::nth(work, by_site(), site, count - 1 - v, n, 0)
+    mem_index::nth(work, BY_SITE, site, count - 1 - v, n, 0)
 }
 
 // The newest production of a site with this kind and name.
-pub fn find(work: &[u32], site: u32, kind: u32, name: u32, n: u32) -> u32
+pub fn find(work: &[u32], site: u32, kind: u32, name: u32, n: u32) -> Option<u32>
     requires { FindRowPre work.now site kind name n }
-    ensures { FoundLearned work.now site kind name n result }
+    ensures { FoundLearned work.now site kind name n (link_of result) }
 {
     mem_index::find(
         work,
-        by_name(),
+        BY_NAME,
         n,
         0,
         site * NUMBERS + kind * NAME_ROWS + name,
@@ -130,8 +122,8 @@ pub fn add(work: &mut [u32], n: u32, site: u32, kind: u32, name: u32, uri: u32, 
     ensures { work.new ≡ with_learned work.old n site kind name uri local }
 {
     put_rows(work, n, uri, local);
-    mem_index::enter(work, by_name(), n, site * NUMBERS + kind * NAME_ROWS + name);
-    mem_index::join(work, by_site(), LEARNED_COUNTS, n, site);
+    mem_index::enter(work, BY_NAME, n, site * NUMBERS + kind * NAME_ROWS + name);
+    mem_index::join(work, BY_SITE, LEARNED_COUNTS, n, site);
 }
 
 // ---- element grammars

@@ -12,12 +12,13 @@ use Rattle.spec_exi.specs.Tables.{Entry}
 use Rattle.mem_layout.specs.Layout.{name_text_heads, name_text_nexts, name_buckets, name_rows, name_counts}
 use Rattle.mem_layout.specs.Layout.{name_places, name_sizes, name_codes, name_firsts, uri_rows}
 use Rattle.mem_layout.specs.Layout.{work_cells, opening_names}
-use Rattle.mem_chain.specs.Chain.{first_that, last_that, below, in_bucket}
+use Rattle.mem_chain.specs.Chain.{first_that, last_that, below, walked_from, in_bucket}
 use Rattle.mem_chain.proofs.Last.{split, last-same, since-all, below_in, below_less}
 use Rattle.mem_chain.proofs.First.{first-here, first-most, first-is, first-before, first-same}
 use Rattle.mem_chain.proofs.First.{first-none, first-zero, last-first}
 use Rattle.mem_chain.proofs.Walk.{walk-member}
 use Rattle.mem_chain.proofs.Turn.{Turn, Answer, turn-start, turn_end, turn-row, turn-here}
+use Rattle.mem_chain.proofs.Sought.{sought-by}
 use Rattle.mem_chain.proofs.Turn.{turn-next}
 use Rattle.mem_index.specs.declared.Index.{Index}
 use Rattle.mem_index.specs.Index.{numbers, tally, has_key, code_at, Counted, NthFound, NthPre}
@@ -196,34 +197,23 @@ pub record Premise (work : List ℕ) (stores : ℕ → List ℕ) (uri : ℕ) (x 
   pub same : (i : ℕ) → (from i).store ≡ stores i
   pub hash : h ≡ hash_of x
 
-abbrev pub SeekPre : List ℕ → (ℕ → List ℕ) → ℕ → List ℕ → ℕ → ℕ → ℕ → Type 0
-SeekPre work store uri x h n c =
-    Turn (Premise work store uri x h n) work (name_text_heads + name_spot h uri) name_text_nexts name_rows
-    n 0
-    (row_is_name work store uri x) (λ p. in_bucket (name_bucket p.names) (name_spot h uri))
-    (λ p. sought p.names uri x) c
-
 spot-low : (h uri : ℕ) → name_spot h uri < name_buckets
 unfolding name_spot
 spot-low h uri = omega arith
 
-module _ {work : List ℕ} {store : ℕ → List ℕ} {uri : ℕ} {x : List ℕ} {h n : ℕ} where
-  found : {r : ℕ}
-      → Answer (Premise work store uri x h n) work (name_text_heads + name_spot h uri) name_text_nexts
-      name_rows n 0
-      (row_is_name work store uri x) (λ p. sought p.names uri x) r
-      → FoundName work store uri x h n r
-  unfolding name_found_in
-  found a =
-      record {
-        is = a.is;
-        within = a.within;
-        means = λ from ns t e b.
-            a.newest (record { from = from; names = ns; holds = t; same = e; hash = b })
-            ∙ since-all (last_that (sought ns uri x) n) ∙ last-sought ns uri x n;
-      }
+module _ (work : List ℕ) (store : ℕ → List ℕ) (uri : ℕ) (x : List ℕ) (h n : ℕ) where
+  abbrev P : Type 0
+  P = Premise work store uri x h n
 
-  chained : (p : Premise work store uri x h n) (i : ℕ) → i < n → sought p.names uri x i ≡ true
+  abbrev seeks : P → ℕ → Bool
+  seeks p = sought p.names uri x
+
+  abbrev Seek : ℕ → Type 0
+  Seek =
+      Turn P work (name_text_heads + name_spot h uri) name_text_nexts name_rows n 0
+      (λ p. in_bucket (name_bucket p.names) (name_spot h uri)) seeks
+
+  chained : (p : P) (i : ℕ) → i < n → seeks p i ≡ true
       → in_bucket (name_bucket p.names) (name_spot h uri) i ≡ true
   chained p i l e =
       let (a, b) = both (is_entry p.names uri x i) (eqb (first_name p.names i) (suc i)) e in
@@ -233,63 +223,69 @@ module _ {work : List ℕ} {store : ℕ → List ℕ} {uri : ℕ} {x : List ℕ}
       ∙ ap (λ y. name_spot (hash_of y) (key_at p.names i)) t ∙ ap (λ j. name_spot (hash_of x) j) k
       ∙ ap (λ j. name_spot j uri) (sym p.hash))
 
-  pub seek-start : (c : ℕ) → c ≡ below (n + 1) (get_or work (name_text_heads + name_spot h uri) 0)
-      → SeekPre work store uri x h n c
-  seek-start c e =
-      turn-start (λ p. p.holds.few)
-      (λ p. p.holds.by_text.thread (name_spot h uri) (spot-low h uri))
-      chained c e
+  module _ {c : ℕ} (t : Seek c) (up : 0 < c) where
+    row : (p : P) → row_is_name work store uri x ((c - 1) % name_rows) ≡ is_entry p.names uri x (c - 1)
+    row p =
+        let l : c - 1 < n = turn-row t up in
+        let few : n ≤ name_rows = p.holds.few in
+        let z : (c - 1) % name_rows ≡ c - 1 = omega arith in
+        ap (row_is_name work store uri x) z ∙ row-name p.holds p.same uri x (c - 1) l
 
-  module _ {c : ℕ} (t : SeekPre work store uri x h n c) where
-    pub seek-end : c ≤ 0 → FoundName work store uri x h n 0
-    seek-end l = found (turn_end t l)
+    -- A row of this text has a first one, which is sought.
+    left : (p : P) → is_entry p.names uri x (c - 1) ≡ true → 0 < last_that (seeks p) c
+    left p e =
+        let k : ℕ = last_that (seeks p) c in
+        split (ltb 0 k) (λ y. ltb-true 0 k y)
+        (λ y.
+        let z : k ≡ 0 = omega (arith, ltb-false 0 k y) in
+        absurd (true≢false (sym e ∙ first-none (is_entry p.names uri x) c (c - 1)
+        (sym (last-sought p.names uri x c) ∙ z) (omega arith))))
 
-    module _ (up : 0 < c) where
-      row : (p : Premise work store uri x h n)
-          → row_is_name work store uri x ((c - 1) % name_rows) ≡ is_entry p.names uri x (c - 1)
-      row p =
-          let l : c - 1 < n = turn-row t up in
-          let few : n ≤ name_rows = p.holds.few in
-          let z : (c - 1) % name_rows ≡ c - 1 = omega arith in
-          ap (row_is_name work store uri x) z ∙ row-name p.holds p.same uri x (c - 1) l
+    -- A row of this text that the walk meets is of the chain, and so first of its text.
+    first : (p : P) → is_entry p.names uri x (c - 1) ≡ true → first_name p.names (c - 1) ≡ suc (c - 1)
+    first p e =
+        let m : in_bucket (name_bucket p.names) (name_spot h uri) (c - 1) ≡ true =
+        walk-member (t.walking p) (c - 1) (omega arith) (left p e) in
+        let z : name_bucket p.names (c - 1) ≡ name_spot h uri =
+        eqb-true (name_bucket p.names (c - 1)) (name_spot h uri) m in
+        bucket-first p.names (c - 1) (omega (arith, spot-low h uri))
 
-      -- A row of this text has a first one, which is sought.
-      left : (p : Premise work store uri x h n) → is_entry p.names uri x (c - 1) ≡ true
-          → 0 < last_that (sought p.names uri x) c
-      left p e =
-          let k : ℕ = last_that (sought p.names uri x) c in
-          split (ltb 0 k) (λ y. ltb-true 0 k y)
-          (λ y.
-          let z : k ≡ 0 = omega (arith, ltb-false 0 k y) in
-          absurd (true≢false (sym e ∙ first-none (is_entry p.names uri x) c (c - 1)
-          (sym (last-sought p.names uri x c) ∙ z) (omega arith))))
+    here : true ≡ row_is_name work store uri x ((c - 1) % name_rows) → Answer P n 0 seeks (suc (c - 1))
+    here e =
+        turn-here t up (λ p.
+        let w : is_entry p.names uri x (c - 1) ≡ true = sym (row p) ∙ sym e in
+        and-true (is_entry p.names uri x (c - 1))
+        (eqb (first_name p.names (c - 1)) (suc (c - 1)))
+        w (eq-eqb (first_name p.names (c - 1)) (suc (c - 1)) (first p w)))
 
-      -- A row of this text that the walk meets is of the chain, and so first of its text.
-      first : (p : Premise work store uri x h n) → is_entry p.names uri x (c - 1) ≡ true
-          → first_name p.names (c - 1) ≡ suc (c - 1)
-      first p e =
-          let m : in_bucket (name_bucket p.names) (name_spot h uri) (c - 1) ≡ true =
-          walk-member (t.walking p) (c - 1) (omega arith) (left p e) in
-          let z : name_bucket p.names (c - 1) ≡ name_spot h uri =
-          eqb-true (name_bucket p.names (c - 1)) (name_spot h uri) m in
-          bucket-first p.names (c - 1) (omega (arith, spot-low h uri))
+    next : false ≡ row_is_name work store uri x ((c - 1) % name_rows) → (d : ℕ)
+        → d ≡ below c (get_or work (name_text_nexts + (c - 1) % name_rows) 0) → Seek d
+    next f =
+        turn-next t up (λ p.
+        let w : is_entry p.names uri x (c - 1) ≡ false = sym (row p) ∙ sym f in
+        ap (λ b. b && eqb (first_name p.names (c - 1)) (suc (c - 1))) w)
 
-      pub seek-here : true ≡ row_is_name work store uri x ((c - 1) % name_rows)
-          → FoundName work store uri x h n c
-      seek-here e =
-          found (turn-here t up (sym e) (λ p.
-          let w : is_entry p.names uri x (c - 1) ≡ true = sym (row p) ∙ sym e in
-          and-true (is_entry p.names uri x (c - 1))
-          (eqb (first_name p.names (c - 1)) (suc (c - 1)))
-          w (eq-eqb (first_name p.names (c - 1)) (suc (c - 1)) (first p w))))
-
-      pub seek-next : false ≡ row_is_name work store uri x ((c - 1) % name_rows) → (d : ℕ)
-          → d ≡ below c (get_or work (name_text_nexts + (c - 1) % name_rows) 0)
-          → SeekPre work store uri x h n d
-      seek-next f d e =
-          turn-next t up (sym f) (λ p.
-          let w : is_entry p.names uri x (c - 1) ≡ false = sym (row p) ∙ sym f in
-          ap (λ b. b && eqb (first_name p.names (c - 1)) (suc (c - 1))) w) d e
+  pub name-found : {spot r : ℕ} → spot ≡ name_spot h uri
+      → r ≡ walked_from work (name_text_heads + spot) name_text_nexts name_rows n 0
+      (row_is_name work store uri x)
+      → FoundName work store uri x h n r
+  unfolding name_found_in
+  name-found z found =
+      let head : ℕ = name_text_heads + name_spot h uri in
+      let is = rw z at found in
+      let a =
+      sought-by work head name_text_nexts name_rows n 0 (row_is_name work store uri x)
+      (Answer P n 0 seeks) Seek
+      (turn-start (λ p. p.holds.few)
+      (λ p. p.holds.by_text.thread (name_spot h uri) (spot-low h uri)) chained)
+      (λ c. turn_end) (λ c. here) (λ c. next) is in
+      record {
+        is = is;
+        within = a.within;
+        means = λ from ns t e b.
+            a.newest (record { from = from; names = ns; holds = t; same = e; hash = b })
+            ∙ since-all (last_that (sought ns uri x) n) ∙ last-sought ns uri x n;
+      }
 
 -- ---- by URI and number, counts, and the cells of one name
 

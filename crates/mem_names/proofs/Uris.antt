@@ -131,12 +131,8 @@ module _ {work : List ℕ} {store : ℕ → List ℕ} {x : List ℕ} {n : ℕ} w
   look-start = record { inside = omega arith; none = first-start (uri_has_text work store x) }
 
   pub look-here : {i : ℕ} → Looking work store x n i → i < n → true ≡ uri_has_text work store x i
-      → FoundUri work store x n (i + 1)
-  look-here {i} t l e =
-      found (add-one-is i ∙ sym (first_found (uri_has_text work store x) n i l t.none (sym e)))
-    where
-      add-one-is : (i : ℕ) → i + 1 ≡ suc i
-      add-one-is i = omega arith
+      → FoundUri work store x n (suc i)
+  look-here {i} t l e = found (sym (first_found (uri_has_text work store x) n i l t.none (sym e)))
 
   pub look-on : {i : ℕ} → Looking work store x n i → i < n → false ≡ uri_has_text work store x i
       → Looking work store x n (i + 1)

@@ -1,15 +1,15 @@
 // The tables of URIs and of local names in work memory. Rows are in order of insertion; URIs are
 // looked through, names are on chains by URI and text, and by URI and number. A row's key is the
-// first row of its text, and a name's URI is one. A row that a search answers is its number and 1,
-// or 0 for none. Every function is safe and ends on any memory. What the contracts cite is in
-// specs/.
+// first row of its text, and a name's URI is one. Every function is safe and ends on any memory.
+// What the contracts cite is in specs/.
 #![tactic(auto)]
 
 ghost use Rattle.std.specs.Prelude.{◌≡◌, ◌<◌};
 ghost use Rattle.mem_layout.specs.Layout.{uri_rows};
+ghost use Rattle.mem_chain.specs.Chain.{link_of};
 ghost use Rattle.mem_names.specs.Uris.{uri_has_text, UriRowPre, FindUriPre, FoundUri, UriAt};
 ghost use Rattle.mem_names.specs.Uris.{uri_store, with_uri};
-ghost use Rattle.mem_names.specs.Names.{name_index, name_spot, NameSpot, row_is_name, NameRowPre};
+ghost use Rattle.mem_names.specs.Names.{name_spot, NameSpot, row_is_name, NameRowPre};
 ghost use Rattle.mem_names.specs.Names.{FindNamePre, FoundName, NthNamePre, CountedNames};
 ghost use Rattle.mem_names.specs.Names.{NthName, NameAt, with_cells, with_name, AddNamePre};
 ghost use Rattle.mem_names.specs.Names.{name_store};
@@ -51,19 +51,17 @@ fn uri_has(work: &[u32], opening: &[u32], store: &[u32], row: usize, x: &[u32]) 
 }
 
 // The first row with this text among n.
-pub fn find_uri(work: &[u32], opening: &[u32], store: &[u32], x: &[u32], n: u32) -> u32
+pub fn find_uri(work: &[u32], opening: &[u32], store: &[u32], x: &[u32], n: u32) -> Option<u32>
     requires { FindUriPre work.now n }
     ensures { FoundUri work.now (uri_store opening.now store.now)
-        x.now n result }
+        x.now n (link_of result) }
 {
-    let mut i: u32 = 0;
-    while i < n {
+    for i in 0..n {
         if uri_has(work, opening, store, i as usize, x) {
-            return i + 1;
+            return Some(i);
         }
-        i += 1;
     }
-    0
+    None
 }
 
 // The URI in a row.
@@ -92,17 +90,13 @@ pub fn add_uri(work: &mut [u32], n: u32, place: u32, size: u32, first: u32)
 // ---- local names
 
 // Names by URI and number.
-fn by_uri() -> Index
-    ensures { result ≡ name_index }
-{
-    Index {
-        heads: NAME_CODE_HEADS,
-        size: NAME_BUCKETS,
-        codes: NAME_CODES,
-        nexts: NAME_CODE_NEXTS,
-        ring: NAME_ROWS,
-    }
-}
+const BY_URI: Index = Index {
+    heads: NAME_CODE_HEADS,
+    size: NAME_BUCKETS,
+    codes: NAME_CODES,
+    nexts: NAME_CODE_NEXTS,
+    ring: NAME_ROWS,
+};
 
 // The bucket of a URI and a text of this hash.
 fn spot(h: u32, uri: u32) -> u32
@@ -135,21 +129,15 @@ pub fn find_name(
     x: &[u32],
     h: u32,
     n: u32,
-) -> u32
+) -> Option<u32>
     requires { FindNamePre work.now uri n }
     ensures { FoundName work.now (name_store opening.now store.now) uri
-        x.now h n result }
+        x.now h n (link_of result) }
 {
     let head = NAME_TEXT_HEADS + spot(h, uri) as usize;
-    let mut c = mem_chain::falling(work, head, n + 1);
-    while 0 < c {
-        let row = ((c - 1) % NAME_ROWS) as usize;
-        if name_has(work, opening, store, row, uri, x) {
-            return c;
-        }
-        c = mem_chain::falling(work, NAME_TEXT_NEXTS + row, c);
-    }
-    0
+    mem_chain::seek(work, head, NAME_TEXT_NEXTS, NAME_ROWS, n, 0, |row| {
+        name_has(work, opening, store, row, uri, x)
+    })
 }
 
 // How many names a URI has.
@@ -161,11 +149,11 @@ pub fn count_names(work: &[u32], uri: u32) -> u32
 }
 
 // The name of a URI with this number.
-pub fn nth_name(work: &[u32], uri: u32, number: u32, n: u32) -> u32
+pub fn nth_name(work: &[u32], uri: u32, number: u32, n: u32) -> Option<u32>
     requires { NthNamePre work.now uri n }
-    ensures { NthName work.now uri number n result }
+    ensures { NthName work.now uri number n (link_of result) }
 {
-    mem_index::nth(work, by_uri(), uri, number, n, 0)
+    mem_index::nth(work, BY_URI, uri, number, n, 0)
 }
 
 // The name in a row.
@@ -200,7 +188,7 @@ pub fn add_name(work: &mut [u32], n: u32, uri: u32, place: u32, size: u32, h: u3
     ensures { work.new ≡ with_name work.old n uri place size h }
 {
     put_name(work, n, place, size);
-    mem_index::join(work, by_uri(), NAME_COUNTS, n, uri);
+    mem_index::join(work, BY_URI, NAME_COUNTS, n, uri);
     let head = NAME_TEXT_HEADS + spot(h, uri) as usize;
     mem_chain::link(work, head, NAME_TEXT_NEXTS, NAME_ROWS, n);
 }

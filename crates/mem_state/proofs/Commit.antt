@@ -1,14 +1,13 @@
 -- The functions that add rows and raise counts, step by step.
-use Prim.Native.Nat.{ℕ, ◌+◌, ◌≤◌, ◌<◌}
+use Prim.Native.Nat.{ℕ}
 use native.Mathlib.Omega.{arith}
 use mathlib.Core.Path.{◌≡◌, refl, sym, ap, ◌∙◌}
-use mathlib.Core.Bool.{Bool, true, false, cond, not}
+use mathlib.Core.Bool.{Bool, true, false, not}
 use mathlib.Core.List.{List}
 use lib.ListN.{length, length-set}
 use lib.Dec.{eqb}
 use borrow.Author.Tests.{eq-eqb, ne_eqb}
 use Rattle.spec_fields.proofs.Tests.{split}
-use Rattle.mem_layout.specs.Layout.{work_cells}
 use Rattle.mem_names.specs.Uris.{with_uri}
 use Rattle.mem_names.specs.Names.{with_name}
 use Rattle.mem_marks.specs.Marks.{with_mark}
@@ -25,7 +24,6 @@ use Rattle.mem_values.proofs.Joined as values
 use Rattle.mem_learned.proofs.Grammars.{grammar-length}
 use Rattle.spec_exi.specs.Event.{AT}
 use Rattle.spec_exi.specs.Grammar.{kind_number}
-use Rattle.mem_rows.specs.Rows.{mode_after}
 use Rattle.mem_state.specs.declared.Core.{Core}
 use Rattle.mem_state.specs.declared.Strings.{Strings}
 use Rattle.mem_state.specs.declared.Growth.{Growth}

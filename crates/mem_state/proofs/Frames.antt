@@ -1,12 +1,12 @@
 -- What a row that joins one table leaves of the others: all of their cells.
 use Prim.Native.Nat.{ℕ, ◌+◌, ◌≤◌, ◌<◌}
 use native.Mathlib.Omega.{arith}
-use mathlib.Core.Path.{◌≡◌, refl, sym, ap, ◌∙◌}
+use mathlib.Core.Path.{◌≡◌}
 use mathlib.Core.List.{List}
 use lib.ListN.{length, get_or}
 use Rattle.spec_exi.specs.Event.{Kind}
 use Rattle.spec_exi.specs.Grammar.{kind_number}
-use Rattle.mem_layout.specs.Layout.{value_text_heads, value_code_heads, value_buckets, learned_name_heads}
+use Rattle.mem_layout.specs.Layout.{value_code_heads, value_buckets, learned_name_heads}
 use Rattle.mem_layout.specs.Layout.{name_text_heads, value_counts, learned_counts, grammar_flags}
 use Rattle.mem_layout.specs.Layout.{name_counts, name_marks, uri_places, name_places, learned_name_codes}
 use Rattle.mem_layout.specs.Layout.{value_places, prefixes, uri_rows, name_rows, learned_rows, sites}

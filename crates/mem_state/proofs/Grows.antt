@@ -1,18 +1,18 @@
 -- Memory after an event's element grammar and its learned production.
-use Prim.Native.Nat.{ℕ, suc, ◌+◌, ◌≤◌, ◌<◌}
+use Prim.Native.Nat.{ℕ, ◌<◌}
 use native.Mathlib.Omega.{arith}
-use mathlib.Core.Path.{◌≡◌, refl, sym, ap, subst, ◌∙◌}
-use mathlib.Core.Bool.{Bool, true, false, cond, ◌&&◌, not, true≢false}
-use mathlib.Core.List.{List, [], ◌∷◌, ◌++◌}
-use lib.ListN.{length, length-append}
+use mathlib.Core.Path.{◌≡◌, sym, ap, subst, ◌∙◌}
+use mathlib.Core.Bool.{true, false, cond, ◌&&◌, not, true≢false}
+use mathlib.Core.List.{List}
+use lib.ListN.{length}
 use lib.Dec.{eqb}
 use Rattle.spec_fields.proofs.Tests.{split}
 use Rattle.spec_exi.specs.Event.{SE, AT}
 use Rattle.spec_exi.specs.Grammar.{kind_number}
-use Rattle.mem_layout.specs.Layout.{uri_rows, name_rows, learned_rows, sites}
+use Rattle.mem_layout.specs.Layout.{uri_rows, learned_rows}
 use Rattle.mem_entries.specs.Entries.{key_at}
 use Rattle.mem_learned.specs.Learned as cells
-use Rattle.mem_rows.specs.Rows.{Learnt, Rows, kind_at, carries, is_among, with_grammar, with_learned}
+use Rattle.mem_rows.specs.Rows.{Rows, kind_at, carries, is_among, with_grammar, with_learned}
 use Rattle.mem_rows.specs.Rows.{after_grammar, after_learned, attributes_after, leaves}
 use Rattle.mem_state.specs.declared.Core.{Core}
 use Rattle.mem_state.specs.declared.Growth.{Growth}

@@ -2,12 +2,10 @@
 use Prim.Native.Nat.{ℕ, suc, ◌+◌, ◌≤◌, ◌<◌}
 use native.Mathlib.Omega.{arith}
 use mathlib.Core.Path.{◌≡◌, refl, sym, ap, subst, ◌∙◌}
-use mathlib.Core.Bool.{Bool, true, false, cond}
+use mathlib.Core.Bool.{false, cond}
 use mathlib.Core.List.{List, [], ◌∷◌, ◌++◌, map}
 use mathlib.Core.Option.{Option}
-use lib.ListN.{length, length-append, length-map}
-use lib.Dec.{eqb}
-use borrow.Author.Tests.{eqb-true}
+use lib.ListN.{length, length-append}
 use Rattle.spec_fields.proofs.Tests.{split}
 use Rattle.text.specs.Text.{Text}
 use Rattle.text.proofs.Equal.{eq_text-no}
@@ -20,7 +18,7 @@ use Rattle.mem_index.specs.Index.{numbers}
 use Rattle.mem_chain.specs.Chain.{first_that}
 use Rattle.mem_chain.proofs.First.{first-zero}
 use Rattle.mem_entries.specs.Texts.{hash_of, Grown, Lies}
-use Rattle.mem_entries.specs.Entries.{Entries, entry_at, key_at, text_at}
+use Rattle.mem_entries.specs.Entries.{entry_at, key_at, text_at}
 use Rattle.mem_entries.proofs.Entries.{entry_old, entry_new}
 use Rattle.mem_names.specs.Uris.{uri_at, uri_text, has_uri, UrisHold}
 use Rattle.mem_names.specs.Names.{is_entry, NamesHold}
@@ -44,7 +42,7 @@ use Rattle.mem_learned.proofs.Grammars.{grammars-kept, grammars-more}
 use Rattle.mem_rows.specs.Rows.{Learnt, Rows, placed_at, name_at, kind_at, carries, is_among}
 use Rattle.mem_rows.specs.Rows.{with_uri, with_name, with_value, with_learned, with_grammar}
 use Rattle.mem_rows.specs.Rows.{with_attributes}
-use Rattle.mem_rows.specs.Valid.{no_learnt, LearntFits, Refers, gone_in, Windowed, Distinct, Valid}
+use Rattle.mem_rows.specs.Valid.{no_learnt, LearntFits, Refers, gone_in, Windowed, Valid}
 use Rattle.mem_rows.proofs.Kept.{map_same, all-at}
 use Rattle.mem_rows.proofs.Joins.{map_snoc}
 use Rattle.mem_state.specs.Holds.{taught_of, taught_in, Stores, in_store, Holds}

@@ -5,3 +5,4 @@ pub mod Strung
 pub mod Taught
 pub mod Grows
 pub mod Marks
+pub mod Counts

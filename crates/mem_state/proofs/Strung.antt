@@ -1,22 +1,16 @@
 -- Memory after the strings of an event have joined: it holds the rows with them.
-use Prim.Native.Nat.{ℕ, suc, ◌+◌, ◌≤◌, ◌<◌}
+use Prim.Native.Nat.{ℕ, ◌+◌, ◌<◌}
 use native.Mathlib.Omega.{arith}
 use native.Mathlib.Nat.{le_refl}
 use mathlib.Core.Path.{◌≡◌, refl, sym, ap, subst, ◌∙◌}
 use mathlib.Core.Bool.{Bool, true, false, cond, true≢false}
-use mathlib.Core.List.{List, [], ◌∷◌, ◌++◌}
+use mathlib.Core.List.{List, [], ◌∷◌}
 use lib.ListN.{length, length-append}
 use Rattle.spec_exi.specs.Tables.{Placed, Entry}
 use Rattle.mem_layout.specs.Layout.{uri_rows, name_rows}
 use Rattle.mem_index.specs.Index.{numbers}
-use Rattle.mem_entries.specs.Texts.{hash_of, Lies}
-use Rattle.mem_entries.specs.Entries.{entry_at, key_at}
 use Rattle.mem_entries.proofs.Entries.{entry_old}
-use Rattle.mem_names.specs.Uris.{uri_at}
 use Rattle.mem_names.proofs.Uris.{uri-old}
-use Rattle.mem_names.specs.Uris as uris
-use Rattle.mem_names.specs.Names as names
-use Rattle.mem_values.specs.Values as values
 use Rattle.mem_rows.specs.Rows.{Rows, with_uri, with_name, with_value}
 use Rattle.mem_rows.specs.Valid.{Refers, Valid}
 use Rattle.mem_state.specs.declared.Core.{Core}

@@ -1,6 +1,6 @@
 -- The learned rows as the cells have them: the definitions' list, and strings that are ahead of
 -- memory.
-use Prim.Native.Nat.{ℕ, zero, suc, ◌/◌, ◌<◌}
+use Prim.Native.Nat.{ℕ, zero, suc, ◌<◌}
 use native.Mathlib.Omega.{arith}
 use mathlib.Core.Path.{◌≡◌, refl, sym, ap, subst, ◌∙◌}
 use mathlib.Core.Bool.{Bool, true, false, cond}
@@ -19,7 +19,7 @@ use Rattle.mem_learned.specs.Learned.{Taught, row_at, newest_first, SiteKnown, i
 use Rattle.mem_learned.specs.Learned as cells
 use Rattle.mem_rows.specs.Rows.{Learnt, Rows, placed_at, name_at, kind_at, carries, site_at, carried_at}
 use Rattle.mem_rows.specs.Rows.{production_of, learnt_as, backward, learned_of}
-use Rattle.mem_rows.specs.Valid.{no_learnt, learnt_at, LearntFits, Refers, Valid}
+use Rattle.mem_rows.specs.Valid.{learnt_at, LearntFits, Refers, Valid}
 use Rattle.mem_rows.proofs.Kept.{Kept, learned-kept}
 use Rattle.mem_learned.proofs.Newest.{newest-same}
 use Rattle.mem_state.specs.Holds.{taught_of, taught_in, Ahead}

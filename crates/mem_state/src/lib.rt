@@ -225,10 +225,7 @@ pub fn grow(work: &mut [u32], c: Core, g: Growth)
 pub fn one(b: bool) -> u32
     ensures { One b result }
 {
-    if b {
-        return 1;
-    }
-    0
+    u32::from(b)
 }
 
 // The counts with what an event adds.
@@ -237,11 +234,11 @@ pub fn count(c: Core, s: Strings, g: Growth) -> Core
     ensures { result ≡ counted c s g }
 {
     let mut d = c;
-    d.uris = c.uris + one(s.new_uri);
-    d.names = c.names + one(s.new_name);
-    d.values = c.values + one(s.new_value);
-    d.learned = c.learned + one(g.teaches);
-    d.grammars = c.grammars + one(g.enters);
+    d.uris = c.uris + u32::from(s.new_uri);
+    d.names = c.names + u32::from(s.new_name);
+    d.values = c.values + u32::from(s.new_value);
+    d.learned = c.learned + u32::from(g.teaches);
+    d.grammars = c.grammars + u32::from(g.enters);
     d
 }
 

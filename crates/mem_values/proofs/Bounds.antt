@@ -1,6 +1,6 @@
 -- The settings for values by their numbers: which values join, how many are replaced, and how many have
 -- the first global numbers.
-use Prim.Native.Nat.{ℕ, zero, suc, ◌-◌, ◌%◌, ◌≤◌, ◌<◌}
+use Prim.Native.Nat.{ℕ, zero, suc, ◌-◌, ◌%◌, ◌<◌}
 use native.Mathlib.Omega.{arith}
 use mathlib.Core.Path.{◌≡◌, refl, sym, ap, ◌∙◌}
 use mathlib.Core.Bool.{Bool, true, false, not, ◌&&◌, true≢false}
@@ -13,7 +13,7 @@ use Rattle.mem_chain.proofs.Last.{split}
 use Rattle.spec_exi.specs.Settings.{bound_of}
 use Rattle.spec_exi.specs.Tables.{Values, joins, replaced, is_zero, at_most}
 use Rattle.mem_values.specs.Window.{joins_by, newest_in, Replaced, Newest}
-use Rattle.mem_values.proofs.Order.{newest-few, replaced-few}
+use Rattle.mem_values.proofs.Order.{newest-few}
 
 -- ---- which values join
 

@@ -17,7 +17,7 @@ use Rattle.mem_values.specs.Forms.{pick_form, form_at, number_in, number_of, nth
 use Rattle.mem_values.specs.Forms.{ValuesStand, Formed}
 use Rattle.mem_values.proofs.Order.{insertion-new, insertion-old, ordered}
 use Rattle.mem_values.proofs.Answers.{FoundAt, found_at}
-use Rattle.spec_exi.specs.Tables.{hit, value, global_id}
+use Rattle.spec_exi.specs.Tables.{hit, global_id}
 use Rattle.mem_index.specs.Index.{number_at, numbers}
 use Rattle.mem_entries.specs.Texts.{hash_of}
 use Rattle.mem_entries.specs.Entries.{Entries, key_at, has_text_at}
@@ -64,13 +64,13 @@ module _ (n low newer i : ℕ) where
   unfolding nth_of
   nth-out h = rw (le-ltb i (n - low) h)
 
-  pub nth-new : i < n - low → i < newer → n - newer + i + 1 ≡ nth_of n low newer i
+  pub nth-new : i < n - low → i < newer → suc (n - newer + i) ≡ nth_of n low newer i
   unfolding nth_of
-  nth-new h k = rw (lt-ltb i (n - low) h, insertion-new n low newer i k)
+  nth-new h k = rw (lt-ltb i (n - low) h, insertion-new n low newer i k) (omega arith)
 
-  pub nth-old : i < n - low → newer ≤ i → low + (i - newer) + 1 ≡ nth_of n low newer i
+  pub nth-old : i < n - low → newer ≤ i → suc (low + (i - newer)) ≡ nth_of n low newer i
   unfolding nth_of
-  nth-old h k = rw (lt-ltb i (n - low) h, insertion-old n low newer i k)
+  nth-old h k = rw (lt-ltb i (n - low) h, insertion-old n low newer i k) (omega arith)
 
 -- ---- forms
 

@@ -1,11 +1,11 @@
 // The value table in work memory: every value that was added, in order, at its insertion number
-// modulo the ring; chains by text, and by owner and local number. A number that a function answers
-// is an insertion number and 1, or 0 for none. Every function is safe and ends on any memory. What
-// the contracts cite is in specs/.
+// modulo the ring; chains by text, and by owner and local number. Every function is safe and ends on
+// any memory. What the contracts cite is in specs/.
 #![tactic(auto)]
 
 ghost use Rattle.std.specs.Prelude.{◌≡◌};
-ghost use Rattle.mem_values.specs.Values.{value_index, row_has_text, with_value};
+ghost use Rattle.mem_chain.specs.Chain.{link_of};
+ghost use Rattle.mem_values.specs.Values.{row_has_text, with_value};
 ghost use Rattle.mem_values.specs.Hold.{ValueAtPre, FindRowPre, FoundText};
 ghost use Rattle.mem_values.specs.Hold.{NthLocalPre, FoundLocal};
 ghost use Rattle.mem_values.specs.Hold.{CountedLocal, ValueAt, AddRowPre};
@@ -27,17 +27,13 @@ pub struct Value {
 }
 
 // Values by owner and number.
-fn by_owner() -> Index
-    ensures { result ≡ value_index }
-{
-    Index {
-        heads: VALUE_CODE_HEADS,
-        size: VALUE_BUCKETS,
-        codes: VALUE_CODES,
-        nexts: VALUE_CODE_NEXTS,
-        ring: VALUE_RING,
-    }
-}
+const BY_OWNER: Index = Index {
+    heads: VALUE_CODE_HEADS,
+    size: VALUE_BUCKETS,
+    codes: VALUE_CODES,
+    nexts: VALUE_CODE_NEXTS,
+    ring: VALUE_RING,
+};
 
 fn row_has(work: &[u32], store: &[u32], row: usize, x: &[u32]) -> bool
     requires { ValueAtPre work.now row }
@@ -46,21 +42,16 @@ fn row_has(work: &[u32], store: &[u32], row: usize, x: &[u32]) -> bool
     mem_entries::has_text(work, store, VALUE_PLACES + row, VALUE_SIZES + row, x)
 }
 
-// The newest value with this text, whose hash is h, among those from insertion low on.
-pub fn find(work: &[u32], store: &[u32], x: &[u32], h: u32, n: u32, low: u32) -> u32
+// The newest value with this text, whose hash is h, among those from insertion low on: its
+// insertion number.
+pub fn find(work: &[u32], store: &[u32], x: &[u32], h: u32, n: u32, low: u32) -> Option<u32>
     requires { FindRowPre work.now n }
-    ensures { FoundText work.now store.now x.now h n low result }
+    ensures { FoundText work.now store.now x.now h n low (link_of result) }
 {
     let head = VALUE_TEXT_HEADS + (h % VALUE_BUCKETS) as usize;
-    let mut c = mem_chain::falling(work, head, n + 1);
-    while low < c {
-        let row = ((c - 1) % VALUE_RING) as usize;
-        if row_has(work, store, row, x) {
-            return c;
-        }
-        c = mem_chain::falling(work, VALUE_TEXT_NEXTS + row, c);
-    }
-    0
+    mem_chain::seek(work, head, VALUE_TEXT_NEXTS, VALUE_RING, n, low, |row| {
+        row_has(work, store, row, x)
+    })
 }
 
 // How many values a name was given.
@@ -72,11 +63,11 @@ pub fn count_local(work: &[u32], owner: u32) -> u32
 }
 
 // The value of a name with this local number, if it is one of those from insertion low on.
-pub fn nth_local(work: &[u32], owner: u32, number: u32, n: u32, low: u32) -> u32
+pub fn nth_local(work: &[u32], owner: u32, number: u32, n: u32, low: u32) -> Option<u32>
     requires { NthLocalPre work.now owner n }
-    ensures { FoundLocal work.now owner number n low result }
+    ensures { FoundLocal work.now owner number n low (link_of result) }
 {
-    mem_index::nth(work, by_owner(), owner, number, n, low)
+    mem_index::nth(work, BY_OWNER, owner, number, n, low)
 }
 
 // The value at an insertion number.
@@ -101,7 +92,7 @@ pub fn add(work: &mut [u32], n: u32, owner: u32, place: u32, size: u32, h: u32)
 {
     let row = (n % VALUE_RING) as usize;
     mem_entries::put_text(work, VALUE_PLACES + row, VALUE_SIZES + row, place, size);
-    mem_index::join(work, by_owner(), VALUE_COUNTS, n, owner);
+    mem_index::join(work, BY_OWNER, VALUE_COUNTS, n, owner);
     let head = VALUE_TEXT_HEADS + (h % VALUE_BUCKETS) as usize;
     mem_chain::link(work, head, VALUE_TEXT_NEXTS, VALUE_RING, n);
 }
@@ -166,17 +157,17 @@ pub fn global_number(n: u32, low: u32, newer: u32, g: u32) -> u32
 }
 
 // The value with a global number.
-pub fn nth_global(n: u32, low: u32, newer: u32, number: u32) -> u32
+pub fn nth_global(n: u32, low: u32, newer: u32, number: u32) -> Option<u32>
     requires { Order n low newer low }
-    ensures { result ≡ nth_of n low newer number }
+    ensures { link_of result ≡ nth_of n low newer number }
 {
     if number >= n - low {
-        return 0;
+        return None;
     }
     if number < newer {
-        return n - newer + number + 1;
+        return Some(n - newer + number);
     }
-    low + (number - newer) + 1
+    Some(low + (number - newer))
 }
 
 // How a value stands: by its name's numbers, by the global numbers, or not at all.
@@ -200,14 +191,13 @@ pub fn form_of(
     requires { FormOfPre work.now n low newer }
     ensures { Formed work.now store.now x.now h n low newer owner result }
 {
-    let r = find(work, store, x, h, n, low);
-    if r == 0 {
+    let Some(g) = find(work, store, x, h, n, low) else {
         return Form::Absent;
-    }
-    let v = value_at(work, r - 1);
+    };
+    let v = value_at(work, g);
     let mine = v.owner;
     if mine == owner {
         return Form::Local(v.number);
     }
-    Form::Global(global_number(n, low, newer, r - 1))
+    Form::Global(global_number(n, low, newer, g))
 }

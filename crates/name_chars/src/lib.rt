@@ -9,6 +9,7 @@ ghost use Rattle.name_chars.specs.Class.{table};
 mod class;
 
 // Tells what may stand first in a name, of what has no class in the table (XML 1.0, production 4).
+#[tactic(auto, unfolding(text::proofs::Names::name_definitions))]
 fn is_high_start(p: u32) -> bool
     requires { 768 ≤ p }
     ensures { result ≡ is_name_start p }
@@ -39,6 +40,7 @@ fn is_name_start(classes: &[u8], p: u32) -> bool
 }
 
 // Tells what may stand in a name (XML 1.0, production 4a).
+#[tactic(auto, unfolding(text::proofs::Names::name_definitions))]
 fn is_name_char(classes: &[u8], p: u32) -> bool
     requires { classes.now ≡ table }
     ensures { result ≡ is_name_char p }
@@ -61,19 +63,17 @@ fn is_name_char(classes: &[u8], p: u32) -> bool
 pub fn is_ncname(x: &[u32]) -> bool
     ensures { result ≡ is_ncname x.now }
 {
-    if x.len() == 0 {
+    let [first, rest @ ..] = x else {
         return false;
-    }
+    };
     let classes = class::CLASS;
-    if !is_name_start(&classes, x[0]) {
+    if !is_name_start(&classes, *first) {
         return false;
     }
-    let mut i = 1;
-    while i < x.len() {
-        if !is_name_char(&classes, x[i]) {
+    for &p in rest {
+        if !is_name_char(&classes, p) {
             return false;
         }
-        i += 1;
     }
     true
 }
@@ -81,24 +81,15 @@ pub fn is_ncname(x: &[u32]) -> bool
 fn is_either(p: u32, a: u32, b: u32) -> bool
     ensures { result ≡ (eqb p a || eqb p b) }
 {
-    if p == a {
-        return true;
-    }
-    p == b
+    p == a || p == b
 }
 
 // Tells the three letters x m l, each in either case (XML 1.0, production 17).
 pub fn is_xml(x: &[u32]) -> bool
     ensures { result ≡ is_xml x.now }
 {
-    if x.len() != 3 {
+    let [a, b, c] = x else {
         return false;
-    }
-    if !is_either(x[0], 0x58, 0x78) {
-        return false;
-    }
-    if !is_either(x[1], 0x4D, 0x6D) {
-        return false;
-    }
-    is_either(x[2], 0x4C, 0x6C)
+    };
+    is_either(*a, 0x58, 0x78) & is_either(*b, 0x4D, 0x6D) & is_either(*c, 0x4C, 0x6C)
 }

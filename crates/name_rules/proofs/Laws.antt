@@ -1,86 +1,68 @@
--- The answer at each test of a name or a text.
+-- A pair of code points in a text, the last one, and names that were judged as an element's.
 use mathlib.Core.Path.{◌≡◌, refl}
-use mathlib.Core.Bool.{Bool, true, false, not, ◌&&◌}
+use mathlib.Core.Bool.{Bool, true, false, not, ◌&&◌, ◌||◌}
 use mathlib.Core.List.{[], ◌∷◌}
-use Prim.Native.Nat.{ℕ, suc, ◌+◌, ◌-◌, ◌≤◌, ◌<◌}
+use Prim.Native.Nat.{ℕ, suc, ◌-◌, ◌≤◌, ◌<◌}
 use native.Mathlib.Omega.{arith}
-use native.Mathlib.Numerals.{add-one}
-use lib.ListN.{length, get_or, drop, length-drop}
-use lib.Seq.{drop-cons}
+use lib.ListN.{length, get_or, take, drop}
 use lib.Dec.{eqb}
-use Rattle.text.specs.Text.{Text, text, eq_text}
-use Rattle.text.specs.Names.{is_ncname, is_xml, has_pair, ends_in}
-use Rattle.spec_exi.specs.Tables.{name_allowed, text_allowed, local, target, comment_text, instruction_text, xsi_uri}
+use borrow.Author.Tests.{eq-eqb, ne_eqb}
+use Rattle.text.specs.Text.{Text}
+use Rattle.text.specs.Names.{is_ncname, has_pair, ends_in}
+use Rattle.spec_exi.specs.Tables.{name_allowed, local}
 use Rattle.name_rules.specs.Names.{is_reserved}
-
--- ---- names
-
-module _ (attr : Bool) (u x : Text) where
-  pub no_local : is_ncname x ≡ false → false ≡ name_allowed (local attr u) x
-  unfolding name_allowed
-  no_local e = rw e
-
-  module _ (name : is_ncname x ≡ true) where
-    pub an-element : attr ≡ false → true ≡ name_allowed (local attr u) x
-    unfolding name_allowed
-    an-element a = rw (name, a)
-
-    pub an-attribute : attr ≡ true → not (is_reserved u x) ≡ name_allowed (local attr u) x
-    unfolding name_allowed is_reserved
-    an-attribute a = rw (name, a)
-
-module _ (x : Text) where
-  pub no_target : is_ncname x ≡ false → false ≡ name_allowed target x
-  unfolding name_allowed
-  no_target e = rw e
-
-  pub a-target : is_ncname x ≡ true → not (is_xml x) ≡ name_allowed target x
-  unfolding name_allowed
-  a-target e = rw e
-
--- Whether a name is reserved, test by test.
-module _ (u x : Text) {i : Bool} (uri : i ≡ eq_text u xsi_uri) where
-  pub elsewhere : i ≡ false → false ≡ is_reserved u x
-  unfolding is_reserved
-  elsewhere h = rw (← uri, h)
-
-  module _ (there : i ≡ true) {n : Bool} (nil : n ≡ eq_text x (text "nil")) where
-    pub is-nil : n ≡ true → true ≡ is_reserved u x
-    unfolding is_reserved
-    is-nil h = rw (← uri, there, ← nil, h)
-
-    pub is-type : n ≡ false → {t : Bool} → t ≡ eq_text x (text "type") → t ≡ is_reserved u x
-    unfolding is_reserved
-    is-type h e = rw (← uri, there, ← nil, h, ← e)
 
 -- ---- comments and instructions' texts
 
--- Pairs from position i on.
-module _ (a b : ℕ) (x : Text) (i : ℕ) where
-  one_left : (y : Text) → length y ≤ 1 → false ≡ has_pair a b y
+-- A pair at the start, or behind its first code point.
+module _ (a b : ℕ) where
+  pub pair-first : (x : Text) → 2 ≤ length x
+      → has_pair a b x ≡ ((eqb (get_or x 0 0) a && eqb (get_or x 1 0) b) || has_pair a b (drop 1 x))
   unfolding has_pair
-  one_left [] h = refl
-  one_left (c ∷ []) h = refl
-  one_left (c ∷ d ∷ y) h = absurd (omega arith)
+  pair-first [] h = absurd (omega arith)
+  pair-first (c ∷ []) h = absurd (omega arith)
+  pair-first (c ∷ d ∷ x) h = refl
 
-  pub pair_end : length x ≤ i + 1 → false ≡ has_pair a b (drop i x)
-  pair_end h = let l : length (drop i x) ≤ 1 = rw (length-drop) (omega arith) in one_left (drop i x) l
+  pub pair-none : (x : Text) → length x < 2 → has_pair a b x ≡ false
+  unfolding has_pair
+  pair-none [] h = refl
+  pair-none (c ∷ []) h = refl
+  pair-none (c ∷ d ∷ x) h = absurd (omega arith)
 
-  module _ (h : i + 1 < length x) where
-    here : drop i x ≡ get_or x i 0 ∷ drop (i + 1) x
-    here = rw (add-one) (drop-cons x i 0 (omega arith))
+first-of : (x : Text) → get_or (take 2 x) 0 0 ≡ get_or x 0 0
+first-of [] = refl
+first-of (c ∷ x) = refl
 
-    next : drop (i + 1) x ≡ get_or x (i + 1) 0 ∷ drop (suc (i + 1)) x
-    next = drop-cons x (i + 1) 0 h
+second-of : (x : Text) → get_or (take 2 x) 1 0 ≡ get_or x 1 0
+second-of [] = refl
+second-of (c ∷ []) = refl
+second-of (c ∷ d ∷ x) = refl
 
-    pub pair-stop : (eqb (get_or x i 0) a && eqb (get_or x (i + 1) 0) b) ≡ true → true ≡ has_pair a b (drop i x)
-    unfolding has_pair
-    pair-stop e = rw (here, next, e)
+right-fails : (p : Bool) {q : Bool} → q ≡ false → (p && q) ≡ false
+right-fails true e = e
+right-fails false e = refl
 
-    pub pair-on : (eqb (get_or x i 0) a && eqb (get_or x (i + 1) 0) b) ≡ false
-        → has_pair a b (drop (i + 1) x) ≡ has_pair a b (drop i x)
-    unfolding has_pair
-    pair-on e = rw (here, next, e)
+-- The pair is, or is not, in the first two of what is left; y is what is left then.
+module _ (a b : ℕ) (x w : Text) {n : ℕ} (two : n ≡ 2) (long : n ≤ length x) (is : w ≡ take n x) where
+  first : get_or w 0 0 ≡ get_or x 0 0
+  first = rw (is, two) (first-of x)
+
+  second : get_or w 1 0 ≡ get_or x 1 0
+  second = rw (is, two) (second-of x)
+
+  more : 2 ≤ length x
+  more = omega arith
+
+  pub pair-here : get_or w 0 0 ≡ a → get_or w 1 0 ≡ b → true ≡ has_pair a b x
+  pair-here e f = rw (pair-first a b x more, ← first, ← second, eq-eqb _ _ e, eq-eqb _ _ f)
+
+  module _ {y : Text} (left : y ≡ drop 1 x) where
+    pub not-first : (get_or w 0 0 ≡ a → ⊥) → has_pair a b y ≡ has_pair a b x
+    not-first e = rw (left, pair-first a b x more, ← first, ne_eqb _ _ e)
+
+    pub not-second : (get_or w 1 0 ≡ b → ⊥) → has_pair a b y ≡ has_pair a b x
+    not-second e =
+        rw (left, pair-first a b x more, ← second, right-fails (eqb (get_or x 0 0) a) (ne_eqb _ _ e))
 
 pub no_end : (a : ℕ) (x : Text) → length x ≡ 0 → false ≡ ends_in a x
 unfolding ends_in
@@ -94,19 +76,6 @@ last-is a (c ∷ []) h = refl
 last-is a (c ∷ d ∷ x) h =
     let e : length (c ∷ d ∷ x) - 1 ≡ suc (length (d ∷ x) - 1) = omega arith in
     rw e (last-is a (d ∷ x) (λ z. omega arith))
-
-module _ (x : Text) where
-  pub two-hyphens : has_pair 0x2D 0x2D x ≡ true → false ≡ text_allowed comment_text x
-  unfolding text_allowed
-  two-hyphens e = rw e
-
-  pub last-hyphen : has_pair 0x2D 0x2D x ≡ false → not (ends_in 0x2D x) ≡ text_allowed comment_text x
-  unfolding text_allowed
-  last-hyphen e = rw e
-
-  pub instruction-end : not (has_pair 0x3F 0x3E x) ≡ text_allowed instruction_text x
-  unfolding text_allowed
-  instruction-end = refl
 
 -- ---- names that were judged as an element's
 

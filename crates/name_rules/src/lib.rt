@@ -1,15 +1,15 @@
 // Which names are refused: what is no NCName; a target `xml`; attribute nil or type in the
 // XMLSchema-instance URI. Which comments and instructions' texts are refused (02, P6).
-#![tactic(auto)]
+#![tactic(auto, unfolding(crate::proofs::Definitions::rules_of_names))]
 
-ghost use Rattle.std.specs.Prelude.{◌≡◌, ◌&&◌, eqb};
+ghost use Rattle.std.specs.Prelude.{◌≡◌};
 ghost use Rattle.text.specs.Names.{has_pair, ends_in};
 ghost use Rattle.spec_exi.specs.Tables.{name_allowed, text_allowed, local, target};
 ghost use Rattle.spec_exi.specs.Tables.{comment_text, instruction_text};
 ghost use Rattle.name_rules.specs.Names.{is_reserved};
-ghost use Rattle.name_rules.specs.Texts.{role_of, fault_of};
+ghost use Rattle.name_rules.specs.Texts.{role_in, fault_of, fault_in};
 
-use refusal::{CHARACTER, NAME};
+use refusal::Refusal;
 
 // "http://www.w3.org/2001/XMLSchema-instance"
 const INSTANCE: [u32; 41] = [
@@ -27,13 +27,8 @@ const TYPE: [u32; 4] = [116, 121, 112, 101];
 pub fn is_reserved(uri: &[u32], local: &[u32]) -> bool
     ensures { result ≡ is_reserved uri.now local.now }
 {
-    if text::same_text(uri, &INSTANCE) {
-        if text::same_text(local, &NIL) {
-            return true;
-        }
-        return text::same_text(local, &TYPE);
-    }
-    false
+    text::same_text(uri, &INSTANCE)
+        && (text::same_text(local, &NIL) || text::same_text(local, &TYPE))
 }
 
 // Tells whether a local name is allowed: an attribute's where attr, an element's otherwise. The
@@ -41,42 +36,22 @@ pub fn is_reserved(uri: &[u32], local: &[u32]) -> bool
 pub fn local_allowed(attr: bool, uri: &[u32], name: &[u32]) -> bool
     ensures { result ≡ name_allowed (local attr uri.now) name.now }
 {
-    if !name_chars::is_ncname(name) {
-        return false;
-    }
-    if !attr {
-        return true;
-    }
-    !is_reserved(uri, name)
+    name_chars::is_ncname(name) && (!attr || !is_reserved(uri, name))
 }
 
 pub fn target_allowed(name: &[u32]) -> bool
     ensures { result ≡ name_allowed target name.now }
 {
-    if !name_chars::is_ncname(name) {
-        return false;
-    }
-    !name_chars::is_xml(name)
-}
-
-fn is_pair(p: u32, q: u32, a: u32, b: u32) -> bool
-    ensures { result ≡ (eqb p a && eqb q b) }
-{
-    if p != a {
-        return false;
-    }
-    q == b
+    name_chars::is_ncname(name) && !name_chars::is_xml(name)
 }
 
 fn has_pair(x: &[u32], a: u32, b: u32) -> bool
     ensures { result ≡ has_pair a b x.now }
 {
-    let mut i = 0;
-    while i + 1 < x.len() {
-        if is_pair(x[i], x[i + 1], a, b) {
+    for w in x.windows(2) {
+        if w[0] == a && w[1] == b {
             return true;
         }
-        i += 1;
     }
     false
 }
@@ -84,20 +59,17 @@ fn has_pair(x: &[u32], a: u32, b: u32) -> bool
 fn ends_in(x: &[u32], a: u32) -> bool
     ensures { result ≡ ends_in a x.now }
 {
-    if x.len() == 0 {
+    let [.., last] = x else {
         return false;
-    }
-    x[x.len() - 1] == a
+    };
+    *last == a
 }
 
 // Refuses two hyphens in a row, and one at the end (XML 1.0, production 15).
 pub fn comment_allowed(x: &[u32]) -> bool
     ensures { result ≡ text_allowed comment_text x.now }
 {
-    if has_pair(x, 0x2D, 0x2D) {
-        return false;
-    }
-    !ends_in(x, 0x2D)
+    !has_pair(x, 0x2D, 0x2D) && !ends_in(x, 0x2D)
 }
 
 // Refuses `?>` (XML 1.0, production 16).
@@ -109,31 +81,23 @@ pub fn instruction_allowed(x: &[u32]) -> bool
 
 // ---- strings by no table
 
-// Their roles.
-pub const TARGET: u32 = 0;
+// What such a string is: an instruction's target or text, or a comment.
+#[derive(Clone, Copy, PartialEq, Eq)]
+pub enum Role {
+    Target,
+    Comment,
+    Instruction,
+}
 
-pub const COMMENT: u32 = 1;
-
-pub const INSTRUCTION: u32 = 2;
-
-// What refuses such a string once its code points have passed, or 0 (02, P6).
-pub fn text_fault(role: u32, x: &[u32]) -> u32
-    ensures { result ≡ fault_of (role_of role) x.now }
+// Judges such a string once its code points have passed (02, P6).
+pub fn judge_text(role: Role, x: &[u32]) -> Result<(), Refusal>
+    ensures { fault_in result ≡ fault_of (role_in role) x.now }
 {
-    if role == TARGET {
-        if target_allowed(x) {
-            return 0;
-        }
-        return NAME;
+    match role {
+        Role::Target if target_allowed(x) => Ok(()),
+        Role::Target => Err(Refusal::Name),
+        Role::Comment if comment_allowed(x) => Ok(()),
+        Role::Instruction if instruction_allowed(x) => Ok(()),
+        Role::Comment | Role::Instruction => Err(Refusal::Character),
     }
-    if role == COMMENT {
-        if comment_allowed(x) {
-            return 0;
-        }
-        return CHARACTER;
-    }
-    if instruction_allowed(x) {
-        return 0;
-    }
-    CHARACTER
 }

@@ -24,8 +24,7 @@ use Rattle.read_run.proofs.Laid.{text_same}
 use Rattle.read_run.proofs.Events.{shifted}
 use Rattle.grammar_open.proofs.Over.{context-going}
 use Rattle.read_run.proofs.Answers.{Answers, running-answers}
-use Rattle.read_body.specs.declared.BodyReply as declared
-use Rattle.read_body.specs.Reply.{reply_of, events_filled, text_filled, Attempted}
+use Rattle.read_body.specs.Reply.{BodyReply, reply_of, events_filled, text_filled, Attempted}
 use Rattle.read_body.specs.Reply.{refusal_of}
 use Rattle.read_body.specs.Body.{PaddingPre, BodyReady, answer_from, RunPost, BodyPost}
 use Rattle.read_body.proofs.Cells.{laid-first, laid-store}
@@ -37,7 +36,7 @@ module _ {s : Settings} {stream events text work : List ℕ} {st : State}
     (pre : AdvancePre stream events text work st 0) {events' text' work' : List ℕ} {r : Advanced}
     (p : AdvancePost s stream events text work st 0 events' text' work' r) where
   -- A refusal: on every memory its number is not 0.
-  reply-refused : (number : ℕ) → 0 < number → {reply : declared.BodyReply}
+  reply-refused : (number : ℕ) → 0 < number → {reply : BodyReply}
       → reply ≡ refusal_of number r.index
       → ((w : Rows) → BodyReady events text work st w
       → (k : Refusal) × (number ≡ number_of k)
@@ -45,7 +44,7 @@ module _ {s : Settings} {stream events text work : List ℕ} {st : State}
       → RunPost s stream events text work st events' text' reply
   unfolding refusal_of
   reply-refused number some is h =
-      let n = ap (λ (y : declared.BodyReply). y.number) is in
+      let n = ap (λ (y : BodyReply). y.number) is in
       record {
         events-laid = λ z. absurd (omega (arith, n));
         text-laid = λ z. absurd (omega (arith, n));
@@ -69,7 +68,7 @@ module _ {s : Settings} {stream events text work : List ℕ} {st : State}
         running-answers p h.represents h.topped h.late none_read refl
         (context-going pre.bounded h.represents _ h.going)
 
-  pub run-refused : (r.number ≡ 0 → ⊥) → {reply : declared.BodyReply}
+  pub run-refused : (r.number ≡ 0 → ⊥) → {reply : BodyReply}
       → reply ≡ refusal_of r.number r.index
       → RunPost s stream events text work st events' text' reply
   run-refused some is =
@@ -83,7 +82,7 @@ module _ {s : Settings} {stream events text work : List ℕ} {st : State}
 
   module _ (none : r.number ≡ 0) {padded : Bool}
       (e : padded ≡ is_padding (drop r.state.core.at (unpack stream))) where
-    pub run-tail : padded ≡ false → {reply : declared.BodyReply}
+    pub run-tail : padded ≡ false → {reply : BodyReply}
         → reply ≡ refusal_of number_tail r.index
         → RunPost s stream events text work st events' text' reply
     unfolding number_of ending shifted
@@ -94,7 +93,7 @@ module _ {s : Settings} {stream events text work : List ℕ} {st : State}
         (tail, refl, rw (← e, f) at ((answers h).over none) ∙ ap (refused tail) i))
 
     module _ (f : padded ≡ true) where
-      abbrev reply : declared.BodyReply
+      abbrev reply : BodyReply
       reply =
           record {
             number = 0;
@@ -148,7 +147,7 @@ module _ {s : Settings} {stream events text work : List ℕ} {st : State}
 -- ---- after it
 
 module _ {s : Settings} {stream events text work : List ℕ} {st : State} {events' text' : List ℕ}
-    {r : declared.BodyReply} (p : RunPost s stream events text work st events' text' r) where
+    {r : BodyReply} (p : RunPost s stream events text work st events' text' r) where
   pub body-accepted : r.number ≡ 0 → BodyPost s stream events text work st events' text' r
   body-accepted z =
       record {

@@ -13,7 +13,7 @@ use Rattle.spec_fields.specs.Parser.{got}
 use Rattle.spec_fields.specs.Field.{bit_packed, number_bits, number_field}
 use Rattle.spec_fields.proofs.Number.{value-bound, bits_of_value, number-reads}
 use Rattle.spec_fields.proofs.Pack.{length-unpack}
-use Rattle.read_field.specs.declared.Field.TheVariants.{Value, Refused}
+use Rattle.read_field.specs.View.{Value, Refused}
 use Rattle.read_field.specs.View.{view_of, field_at}
 
 -- They are zero just where the number is.

@@ -12,8 +12,7 @@ use Rattle.grammar_open.specs.declared.State.{State}
 use Rattle.grammar_open.specs.Opened.{opened_in}
 use Rattle.read_run.specs.Run.{EventsLaid, TextLaid}
 use Rattle.event_code.specs.Numbers.{is_over}
-use Rattle.read_body.specs.declared.BodyReply as declared
-use Rattle.read_body.specs.Reply.{Attempted, Filled}
+use Rattle.read_body.specs.Reply.{BodyReply, Attempted, Filled}
 
 -- A position in the stream.
 pub record PaddingPre (stream : List ℕ) (at : ℕ) : Type 0 where
@@ -37,7 +36,7 @@ answer_from s stream text st w =
 
 -- Before the clearing.
 pub record RunPost (s : Settings) (stream events text work : List ℕ) (st : State)
-    (events' text' : List ℕ) (r : declared.BodyReply) : Type 0 where
+    (events' text' : List ℕ) (r : BodyReply) : Type 0 where
   pub events-laid : r.number ≡ 0 → EventsLaid events 0 events' r.events
   pub text-laid : r.number ≡ 0 → TextLaid text st.core.stored text' r.code_points
   pub meant : (w : Rows) → BodyReady events text work st w
@@ -45,7 +44,7 @@ pub record RunPost (s : Settings) (stream events text work : List ℕ) (st : Sta
 
 -- After it: on every memory what is laid, or zeros; and by the definitions.
 pub record BodyPost (s : Settings) (stream events text work : List ℕ) (st : State)
-    (events' text' : List ℕ) (r : declared.BodyReply) : Type 0 where
+    (events' text' : List ℕ) (r : BodyReply) : Type 0 where
   pub events-laid : r.number ≡ 0 → EventsLaid events 0 events' r.events
   pub text-laid : r.number ≡ 0 → TextLaid text st.core.stored text' r.code_points
   pub no-events : (r.number ≡ 0 → ⊥) → events' ≡ replicate (length events) 0

@@ -2,40 +2,40 @@
 // specs/Body.antt, the reply in specs/Reply.antt.
 #![tactic(auto)]
 
-ghost use Rattle.std.specs.Prelude.{◌≡◌, ◌≤◌, drop};
+ghost use Rattle.std.specs.Prelude.{◌≡◌, ◌≤◌, ◌<◌, drop, IfErr};
 ghost use Rattle.spec_fields.specs.Bits.{unpack, is_padding};
 ghost use Rattle.settings.specs.Meant.{settings_from};
 ghost use Rattle.read_run.specs.Run.{AdvancePre};
 ghost use Rattle.spec_exi.specs.Sizes.{max_events};
-ghost use Rattle.read_body.specs.Reply.{refusal_of};
+ghost use Rattle.read_body.specs.Reply.{refused_as, body_in};
 ghost use Rattle.read_body.specs.Body.{PaddingPre, RunPost, BodyPost};
 
 use grammar_open::State;
-use read_field::Field;
 pub use read_run as the_read_run;
 use refusal::TAIL;
 use settings::Settings;
 
-// The number of the refusal or 0, the index of the event concerned, and the counts of events and
-// code points.
+// The counts of events and code points of a stream that is accepted.
 #[derive(Clone, Copy)]
-pub struct BodyReply {
-    pub number: u32,
-    pub index: u32,
+pub struct Counts {
     pub events: u32,
     pub code_points: u32,
 }
 
-// A refusal's reply.
-pub fn refused(number: u32, index: usize) -> BodyReply
+// The number of a refusal, and the index of the event concerned.
+#[derive(Clone, Copy)]
+pub struct Stop {
+    pub number: u32,
+    pub index: u32,
+}
+
+pub fn refused(number: u32, index: usize) -> Stop
     requires { index ≤ max_events }
-    ensures { result ≡ refusal_of number index }
+    ensures { result ≡ refused_as number index }
 {
-    BodyReply {
+    Stop {
         number,
         index: index as u32,
-        events: 0,
-        code_points: 0,
     }
 }
 
@@ -49,8 +49,8 @@ pub fn is_padding(stream: &[u8], at: usize) -> bool
         return false;
     }
     match read_field::bits(stream, at, left as u32) {
-        Field::Refused(k) => false,
-        Field::Value { value, next } => value == 0,
+        Ok(bits) => bits.value == 0,
+        Err(_) => false,
     }
 }
 
@@ -62,24 +62,23 @@ fn run(
     events: &mut [u32],
     text: &mut [u32],
     work: &mut [u32],
-) -> BodyReply
+) -> Result<Counts, Stop>
     requires { AdvancePre stream.now events.old text.old work.old st 0 }
-    ensures { RunPost (settings_from o) stream.now events.old
-        text.old work.old st events.new text.new result }
+    ensures read { RunPost (settings_from o) stream.now events.old
+        text.old work.old st events.new text.new (body_in result) }
+    ensures some { IfErr result (λ x. 0 < x.number) }
 {
     let r = read_run::advance(o, stream, st, 0, events, text, work);
     if r.number != 0 {
-        return refused(r.number, r.index);
+        return Err(refused(r.number, r.index));
     }
     if is_padding(stream, r.state.core.at) {
-        return BodyReply {
-            number: 0,
-            index: 0,
+        return Ok(Counts {
             events: r.index as u32,
             code_points: r.state.core.stored as u32,
-        };
+        });
     }
-    refused(TAIL, r.index)
+    Err(refused(TAIL, r.index))
 }
 
 // Reads the events and the padding: their cells and the text store, and zeros behind them; after a
@@ -91,13 +90,13 @@ pub fn read_events(
     events: &mut [u32],
     text: &mut [u32],
     work: &mut [u32],
-) -> BodyReply
+) -> Result<Counts, Stop>
     requires { AdvancePre stream.now events.old text.old work.old st 0 }
     ensures { BodyPost (settings_from o) stream.now events.old
-        text.old work.old st events.new text.new result }
+        text.old work.old st events.new text.new (body_in result) }
 {
     let reply = run(o, stream, st, events, text, work);
-    if reply.number != 0 {
+    if reply.is_err() {
         mem_clear::cells(events);
         mem_clear::cells(text);
         return reply;

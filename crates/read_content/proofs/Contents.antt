@@ -32,16 +32,16 @@ use Rattle.mem_state.proofs.Strung.{value-uris, value-names, value-more}
 use Rattle.read_contract.specs.Outcome.{Declined, Outcome}
 use Rattle.read_contract.proofs.Outcome.{refused-outcome}
 use Rattle.read_contract.proofs.Outcome.{outcome-weaken}
-use Rattle.read_partition.specs.declared.StringRead.{StringRead}
+use Rattle.read_partition.specs.View.{StringRead}
 use Rattle.read_partition.specs.Strings.{Hashed, as_string}
 use Rattle.read_values.specs.Values.{ValueRows, value_role, as_value, ValuePost}
 use Rattle.read_values.specs.Texts.{TextPost}
-use Rattle.read_production.specs.declared.ProductionRead.{ProductionRead}
+use Rattle.read_production.specs.View.{ProductionRead}
 use Rattle.read_qname.specs.Texts.{TextRead}
 use Rattle.read_qname.specs.Qnames.{joining_of, part_of, Prepared, tables_at}
 use Rattle.read_qname.proofs.Got.{Adds, StringIs, string-joins, string-text, string-is}
 use Rattle.read_qname.proofs.Pair.{Few, tabled, lies_grown}
-use Rattle.read_content.specs.declared.Content.{Content}
+use Rattle.read_content.specs.View.{Content}
 use Rattle.read_content.specs.Contents.{stopped_as}
 use Rattle.read_content.specs.Contents.{ContentPre, ContentRows, ContentBounds, ContentMeans}
 use Rattle.read_content.specs.Contents.{ContentPost}

@@ -43,20 +43,20 @@ use Rattle.mem_state.proofs.Strung.{strings-values, strings-ahead, none-join}
 use Rattle.read_contract.specs.Outcome.{Declined, Gotten, Outcome}
 use Rattle.read_contract.proofs.Outcome.{return-outcome, declined-then, gotten-declined}
 use Rattle.read_contract.proofs.Outcome.{outcome-then, outcome-map}
-use Rattle.read_partition.specs.declared.StringRead.{StringRead}
+use Rattle.read_partition.specs.View.{StringRead}
 use Rattle.read_partition.specs.Strings.{as_string}
 use Rattle.read_literal.specs.Literal.{LiteralPre}
 use Rattle.read_values.specs.Values.{ValueRows, ValuePre, as_value, ValuePost, JoinsWithin}
 use Rattle.read_values.specs.Texts.{TextPost}
-use Rattle.read_production.specs.declared.ProductionRead.{ProductionRead}
-use Rattle.read_qname.specs.declared.Named.{Named}
+use Rattle.read_production.specs.View.{ProductionRead}
+use Rattle.read_qname.specs.View.{Named}
 use Rattle.read_qname.specs.Texts.{TextRead}
 use Rattle.read_qname.specs.Qnames.{joining_of, part_of, Prepared, tables_at}
 use Rattle.read_qname.specs.Qnames.{Carried, NameBounds, NameMeans, NamePost, NamePre}
 use Rattle.read_qname.proofs.Texts.{text-size, text-grown, text-none, text-then}
 use Rattle.read_qname.proofs.Got.{StringIs}
 use Rattle.read_qname.proofs.Pair.{Few, few-rows}
-use Rattle.read_content.specs.declared.Content.{Content}
+use Rattle.read_content.specs.View.{Content}
 use Rattle.read_content.specs.Contents.{stopped_as, plain_as}
 use Rattle.read_content.specs.Contents.{ContentPre, ContentRows, ContentBounds, ContentMeans}
 use Rattle.read_content.specs.Contents.{NamedAt, UnnamedAt, ContentPost}

@@ -22,25 +22,14 @@ use Rattle.mem_state.specs.Holds.{in_store, Bounded}
 use Rattle.mem_state.specs.Strung.{StringsJoin}
 use Rattle.read_contract.specs.Outcome.{Outcome}
 use Rattle.read_literal.specs.Literal.{LiteralPre}
-use Rattle.read_production.specs.declared.ProductionRead.{ProductionRead}
-use Rattle.read_qname.specs.declared.Named.{Named}
+use Rattle.read_production.specs.View.{ProductionRead}
+use Rattle.read_qname.specs.View.{Named}
 use Rattle.read_qname.specs.Texts.{TextRead}
 use Rattle.read_qname.specs.Qnames.{Prepared, tables_at}
 use Rattle.read_qname.specs.Qnames.{Carried, PairPre, CarriedPre}
-use Rattle.read_content.specs.declared.Content.{Content}
+pub use Rattle.read_content.specs.View.{Content, stopped_as}
 
 -- ---- the answers
-
-abbrev pub stopped_as : ℕ → ℕ → ℕ → ℕ → Content
-stopped_as number next left stored =
-    record {
-      number = number;
-      next = next;
-      left = left;
-      stored = stored;
-      event = StartDocument;
-      strings = no_strings;
-    }
 
 -- An event without a string, or whose strings join no table.
 abbrev pub plain_as : declared.Event → ℕ → ℕ → Content

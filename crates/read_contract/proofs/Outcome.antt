@@ -14,7 +14,7 @@ use Rattle.spec_fields.specs.Field.{Alignment, octet, number_field, width, choic
 use Rattle.spec_fields.proofs.Refusal.{refusal-number}
 use Rattle.spec_fields.proofs.Exact.{Reads, not-got, got-value, got-rest}
 use Rattle.spec_fields.proofs.Number.{octet-reads, number-reads, unsigned_reads}
-use Rattle.read_field.specs.declared.Field.TheVariants.{Value, Refused}
+use Rattle.read_field.specs.View.{Value, Refused}
 use Rattle.read_field.specs.View.{field_at}
 use Rattle.read_field.proofs.View as view
 use Rattle.read_contract.specs.Outcome.{Declined, Gotten, Outcome}

@@ -41,10 +41,10 @@ use Rattle.grammar_update.proofs.Events.{EventNamed, EventTaught, nameless, carr
 use Rattle.grammar_update.proofs.Events.{text_of}
 use Rattle.grammar_update.proofs.Events as update
 use Rattle.grammar_update.proofs.Allowed as update-allows
-use Rattle.read_production.specs.declared.ProductionRead.{ProductionRead}
+use Rattle.read_production.specs.View.{ProductionRead}
 use Rattle.read_production.specs.Production.{IsCode, ProductionBounds}
 use Rattle.read_qname.specs.Qnames.{tables_at}
-use Rattle.read_content.specs.declared.Content.{Content}
+use Rattle.read_content.specs.View.{Content}
 use Rattle.read_content.specs.Contents.{ContentRows, ContentBounds, ContentMeans}
 use Rattle.read_event.specs.Judge.{LooseHere, allowed_here}
 use Rattle.read_event.proofs.Rows.{kind-text, name-text}

@@ -2,15 +2,24 @@
 use mathlib.Core.Path.{◌≡◌, refl, sym, ap, ◌∙◌}
 use mathlib.Core.Bool.{Bool, true, false, not, true≢false}
 use mathlib.Core.List.{List}
-use Prim.Native.Nat.{ℕ}
-use borrow.Author.Tests.{not-true, not-false}
+use Prim.Native.Nat.{ℕ, suc}
+use native.Mathlib.Omega.{arith}
+use lib.Dec.{eqb}
+use borrow.Author.Tests.{not-true, not-false, ne_eqb}
+use Rattle.std.specs.Prelude as std
+use Rattle.mem_chain.specs.Chain.{link_of}
 use Rattle.spec_fields.specs.Refusal.{number_of, shape, loose, limit}
 use Rattle.mem_state.specs.declared.Core.{Core}
 use Rattle.mem_state.specs.declared.Strings.{Strings}
 use Rattle.mem_state.specs.declared.Growth.{Growth}
-use Rattle.read_production.specs.declared.ProductionRead.{ProductionRead}
+use Rattle.read_production.specs.View.{ProductionRead}
 use Rattle.grammar_update.specs.Growth.{growth_of, fits_in}
 use Rattle.read_event.specs.Judge.{LooseHere, judge_number, allowed_here, JudgePost}
+
+-- A row that was found, by its link.
+pub some-linked : (o : std.Option ℕ) → std.is_some o ≡ not (eqb (link_of o) 0)
+some-linked std.None = refl
+some-linked (std.Some row) = sym (ap not (ne_eqb (suc row) 0 (λ z. absurd (omega (arith, z)))))
 
 module _ {work : List ℕ} {c : Core} {p : ProductionRead} {s : Strings} {g : Growth} {a : Bool}
     (growth : g ≡ growth_of work c p.kind p.learned s)

@@ -29,7 +29,7 @@ use Rattle.read_contract.proofs.Outcome.{outcome-then, return-outcome}
 use Rattle.read_contract.proofs.Outcome.{need-passed, need-declined, declined-as, need-true}
 use Rattle.read_literal.specs.Literal.{laid_at}
 use Rattle.read_literal.proofs.Store.{laid_none}
-use Rattle.read_production.specs.declared.ProductionRead.{ProductionRead}
+use Rattle.read_production.specs.View.{ProductionRead}
 use Rattle.read_production.specs.Production.{ProductionPre, ProductionPost, IsCode}
 use Rattle.grammar_match.proofs.Here.{site-low}
 use Rattle.grammar_update.specs.Growth.{GrowthPre, growth_of, fits_in}
@@ -37,11 +37,10 @@ use Rattle.grammar_update.proofs.Represented.{code-rows}
 use Rattle.read_qname.specs.Texts.{TextRead}
 use Rattle.read_qname.specs.Qnames.{tables_at}
 use Rattle.read_qname.proofs.Texts.{text-size, text-cleared}
-use Rattle.read_content.specs.declared.Content.{Content}
+use Rattle.read_content.specs.View.{Content}
 use Rattle.read_content.specs.Contents.{ContentPre, ContentMeans, ContentPost, carried_by}
-use Rattle.read_event.specs.declared.Judged.{Judged}
-use Rattle.read_event.specs.declared.EventRead.{EventRead}
-use Rattle.read_event.specs.Judge.{judge_number, allowed_here, JudgePost, EventPre, refused_as}
+use Rattle.read_event.specs.View.{Judged, EventRead, refused_as}
+use Rattle.read_event.specs.Judge.{judge_number, allowed_here, JudgePost, EventPre}
 use Rattle.read_event.specs.Judge.{EventBounds, EventPost}
 use Rattle.read_event.proofs.Rows.{prepared, content-name}
 use Rattle.read_event.proofs.Events.{content-rows, allows-is, same_code_lem, other-code}

@@ -31,7 +31,7 @@ use Rattle.read_contract.specs.Outcome.{Outcome}
 use Rattle.read_contract.proofs.Outcome.{refused-outcome, outcome-weaken}
 use Rattle.read_literal.specs.Literal.{laid_at}
 use Rattle.read_qname.proofs.Texts.{text-grown}
-use Rattle.read_event.specs.declared.EventRead.{EventRead}
+use Rattle.read_event.specs.View.{EventRead}
 use Rattle.read_event.specs.Judge.{EventPre, EventPost, EventMeans}
 use Rattle.read_event.specs.Step.{StepPre, StepMeans, StepPost}
 

@@ -8,7 +8,6 @@ use Rattle.spec_exi.specs.Tables.{Placed, span_of}
 use Rattle.spec_exi.specs.Grammar.{kind_number}
 use Rattle.spec_exi.specs.Context.{Context}
 use Rattle.spec_exi.specs.Reader.{step}
-use Rattle.event.specs.declared.Event.TheVariants.{StartDocument}
 use Rattle.event.specs.Cells.{meaning}
 use Rattle.mem_layout.specs.Layout.{sites, work_cells}
 use Rattle.mem_rows.specs.Rows.{Rows, mode_after, opened_after, leaves, context_of}
@@ -17,7 +16,6 @@ use Rattle.mem_state.specs.declared.Core.{Core}
 use Rattle.mem_state.specs.declared.Strings.{Strings}
 use Rattle.mem_state.specs.declared.Growth.{Growth}
 use Rattle.mem_state.specs.Holds.{in_store, Bounded, Topped, Represents, context_at}
-use Rattle.mem_state.specs.Joining.{no_strings}
 use Rattle.mem_state.specs.Strung.{StringsJoin}
 use Rattle.mem_state.specs.Grows.{learnt_of, Grows}
 use Rattle.grammar_codes.specs.Table.{Stands}
@@ -25,12 +23,11 @@ use Rattle.grammar_match.specs.Found.{FoundHere}
 use Rattle.grammar_update.specs.Growth.{growth_of, allowed_in, fits_in}
 use Rattle.read_contract.specs.Outcome.{Outcome}
 use Rattle.read_literal.specs.Literal.{Cleared}
-use Rattle.read_production.specs.declared.ProductionRead.{ProductionRead}
+use Rattle.read_production.specs.View.{ProductionRead}
 use Rattle.read_production.specs.Production.{ProductionPost}
 use Rattle.read_qname.specs.Texts.{TextRead}
 use Rattle.read_content.specs.Contents.{ContentBounds}
-use Rattle.read_event.specs.declared.Judged.{Judged}
-use Rattle.read_event.specs.declared.EventRead.{EventRead}
+pub use Rattle.read_event.specs.View.{Judged, EventRead, no_growth, refused_as}
 
 -- ---- the tests
 
@@ -82,20 +79,6 @@ pub record CodeRead (s : Settings) (stream work : List ℕ) (c : Core) (p : Prod
     Type 0 where
   pub post : ProductionPost s stream c.at c.mode c.top c.learned work p
   pub good : p.number ≡ 0
-
-abbrev pub no_growth : Growth
-no_growth = record { enters = false; teaches = false; site = 0; kind = 0; name = 0; uri = 0 }
-
-abbrev pub refused_as : ℕ → Core → EventRead
-refused_as number c =
-    record {
-      number = number;
-      next = c.at;
-      stored = c.stored;
-      event = StartDocument;
-      strings = no_strings;
-      growth = no_growth;
-    }
 
 -- On every memory: the strings and the growth of an event that is accepted.
 pub record EventBounds (c : Core) (r : EventRead) : Type 0 where

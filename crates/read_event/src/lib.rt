@@ -4,28 +4,21 @@
 
 ghost use Rattle.std.specs.Prelude.{◌≡◌, false};
 ghost use Rattle.settings.specs.Meant.{settings_from};
-ghost use Rattle.grammar_update.specs.Growth.{GrowthPre};
-ghost use Rattle.read_event.specs.Judge.{LooseHere, JudgePost, refused_as, EventPre, CodeRead};
+ghost use Rattle.grammar_update.specs.Growth.{GrowthPre, growth_of};
+ghost use Rattle.read_production.specs.View.{seen_of};
+ghost use Rattle.read_event.specs.View.{judged_in, event_in};
+ghost use Rattle.read_event.specs.Judge.{LooseHere, JudgePost, EventPre, CodeRead};
 ghost use Rattle.read_event.specs.Judge.{EventPost};
 
 use event::Event;
 use mem_state::{Core, Growth, Strings};
 use read_production::ProductionRead;
-use refusal::{LIMIT, LOOSE, SHAPE};
+use refusal::Refusal;
 use settings::Settings;
 
-// The number of a refusal or 0, and what the event leaves in the grammars.
-#[derive(Drop)]
-struct Judged {
-    number: u32,
-    growth: Growth,
-}
-
-// The number of a refusal or 0; the position after the event; the code points in the store; the
-// event; and what it adds to memory.
+// The position after an event; the code points in the store; the event; and what it adds to memory.
 #[derive(Drop)]
 pub struct EventRead {
-    pub number: u32,
     pub next: usize,
     pub stored: usize,
     pub event: Event,
@@ -39,62 +32,33 @@ pub struct EventRead {
 fn loose(c: Core, p: ProductionRead, s: Strings, work: &[u32]) -> bool
     requires growth_pre { GrowthPre work.now c s }
     requires learned_value { p.learned ≡ false }
-    ensures { LooseHere work.now c p s result }
+    ensures { LooseHere work.now c (seen_of p) s result }
 {
-    grammar_match::find_learned(c.mode, c.top, p.kind, s.name_row, c.learned, work) != 0
+    grammar_match::find_learned(c.mode, c.top, p.kind, s.name_row, c.learned, work).is_some()
 }
 
-// Judges an event after its content: a second attribute of one name, then LOOSE, then the sizes.
-fn judge(c: Core, p: ProductionRead, s: Strings, work: &[u32]) -> Judged
+// What an event leaves in the grammars, judged after its content: a second attribute of one name is
+// refused, then what is LOOSE, then what passes a size.
+fn judge(c: Core, p: ProductionRead, s: Strings, work: &[u32]) -> Result<Growth, Refusal>
     requires growth_pre { GrowthPre work.now c s }
     requires learned_value { p.learned ≡ false }
-    ensures { JudgePost work.now c p s result }
+    ensures { JudgePost work.now c (seen_of p) s
+        (judged_in (growth_of work.now c p.kind p.learned s) result) }
 {
     let growth = grammar_update::growth(c, p.kind, p.learned, s, work);
     if !grammar_update::allows(c.tag, p.kind, s.name_row, work) {
-        return Judged {
-            number: SHAPE,
-            growth,
-        };
+        return Err(Refusal::Shape);
     }
     if loose(c, p, s, work) {
-        return Judged {
-            number: LOOSE,
-            growth,
-        };
+        return Err(Refusal::Loose);
     }
     if !grammar_update::fits(c, growth) {
-        return Judged {
-            number: LIMIT,
-            growth,
-        };
+        return Err(Refusal::Limit);
     }
-    Judged { number: 0, growth }
+    Ok(growth)
 }
 
 // ---- an event
-
-fn refused(number: u32, c: Core) -> EventRead
-    ensures { result ≡ refused_as number c }
-{
-    let strings = mem_state::no_strings();
-    let growth = Growth {
-        enters: false,
-        teaches: false,
-        site: 0,
-        kind: 0,
-        name: 0,
-        uri: 0,
-    };
-    EventRead {
-        number,
-        next: c.at,
-        stored: c.stored,
-        event: Event::StartDocument,
-        strings,
-        growth,
-    }
-}
 
 // Reads one event after its code, by a production that is not learned, and judges it; work memory
 // is not written. A refusal clears the text that it laid.
@@ -105,33 +69,36 @@ pub fn read_event(
     c: Core,
     text: &mut [u32],
     work: &[u32],
-) -> EventRead
+) -> Result<EventRead, Refusal>
     requires event_pre { EventPre stream.now text.old work.now c }
-    requires code_read { CodeRead (settings_from o) stream.now work.now c p }
+    requires code_read { CodeRead (settings_from o) stream.now work.now c (seen_of p) }
     requires learned_value { p.learned ≡ false }
     ensures { EventPost (settings_from o) stream.now text.old work.now c
-        text.new result }
+        text.new (event_in c result) }
 {
-    let x = read_content::read_content(o.aligned, stream, p.next, p, c, text, work);
-    let laid = x.stored - c.stored;
-    if x.number != 0 {
-        read_literal::clear_cells(text, c.stored, laid);
-        return refused(x.number, c);
-    }
+    let x = match read_content::read_content(o.aligned, stream, p.next, p, c, text, work) {
+        Ok(x) => x,
+        Err(y) => {
+            let laid = y.stored - c.stored;
+            read_literal::clear_cells(text, c.stored, laid);
+            return Err(y.refusal);
+        }
+    };
     let strings = x.strings;
-    let event = x.event;
-    let j = judge(c, p, strings, work);
-    if j.number != 0 {
-        read_literal::clear_cells(text, c.stored, laid);
-        return refused(j.number, c);
-    }
-    let growth = j.growth;
-    EventRead {
-        number: 0,
+    let judged = judge(c, p, strings, work);
+    let growth = match judged {
+        Ok(growth) => growth,
+        Err(refusal) => {
+            let laid = x.stored - c.stored;
+            read_literal::clear_cells(text, c.stored, laid);
+            return Err(refusal);
+        }
+    };
+    Ok(EventRead {
         next: x.next,
         stored: x.stored,
-        event,
+        event: x.event,
         strings,
         growth,
-    }
+    })
 }

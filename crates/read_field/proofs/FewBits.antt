@@ -11,10 +11,10 @@ use native.Mathlib.Omega.{arith}
 use Rattle.spec_fields.specs.Field.{bit_packed, number_field, width}
 use Rattle.spec_fields.proofs.Tests.{split}
 use Rattle.spec_fields.proofs.Number.{width-enough, width-least}
-use Rattle.read_field.specs.declared.Field.{Field}
-use Rattle.read_field.specs.declared.Field.TheVariants.{Value, Refused}
+use Rattle.read_field.specs.View.{Seen}
+use Rattle.read_field.specs.View.{Value, Refused}
 use Rattle.read_field.specs.View.{field_at, alignment_of, InStream}
-use Rattle.read_field.specs.Parts.{FewBitsPre, few, broad}
+use Rattle.read_field.specs.Parts.{FewBitsPre, few, broad, taken}
 use Rattle.read_field.proofs.Numbers.{bits_none, octets-no, octets-one, bits-past}
 use Rattle.read_field.proofs.Numbers.{octets-none, two-small, octets-found}
 
@@ -39,14 +39,14 @@ module _ {s : List ℕ} {at m : ℕ} (h : InStream s at) where
 
   module _ (some : 1 < m) (l : m ≤ 256) where
     pub few-in : (aligned : Bool) → FewBitsPre s at (few aligned m)
-    unfolding few
+    unfolding taken
     few-in true = record { there = h; some = omega arith; most = omega arith }
     few-in false = record { there = h; some = width_some m some; most = width-least m 8 l }
 
     pub few-same : (aligned : Bool)
         → field_at (number_field bit_packed (few aligned m)) s at
         ≡ field_at (number_field (alignment_of aligned) (width m)) s at
-    unfolding few alignment_of
+    unfolding taken alignment_of
     few-same true = octets-one s at (width m) (width_some m some) (width-least m 8 l) h
     few-same false = refl
 
@@ -62,17 +62,17 @@ module _ {s : List ℕ} {at m : ℕ} (h : InStream s at) (big : 256 < m) (l : m 
   two : (width m + 7) / 8 ≡ 2
   two = omega (arith, over, width-least m 16 l)
 
-  abbrev found : Bool → Field
+  abbrev found : Bool → Seen
   found aligned = field_at (number_field (alignment_of aligned) (width m)) s at
 
   pub many-bits : (aligned : Bool) {n : ℕ} → n ≡ broad aligned m → (0 < n) × (n ≤ 16)
-  unfolding broad
+  unfolding taken
   many-bits true e = (omega (arith, e), omega (arith, e))
   many-bits false e = (omega (arith, e, over), omega (arith, e, width-least m 16 l))
 
   pub many-past : (aligned : Bool) {n : ℕ} → n ≡ broad aligned m → 8 * length s < at + n
       → Refused 5 ≡ found aligned
-  unfolding broad alignment_of
+  unfolding taken alignment_of
   many-past true e p =
       octets-none s at h (sym (bits-past s at 16 h (omega (arith, e, p)))) (width m) two
   many-past false e p = bits-past s at (width m) h (omega (arith, e, p))
@@ -80,7 +80,7 @@ module _ {s : List ℕ} {at m : ℕ} (h : InStream s at) (big : 256 < m) (l : m 
   module _ {n x : ℕ} (cut : field_at (number_field bit_packed n) s at ≡ Value x (at + n)) where
     sixteen : {aligned : Bool} → n ≡ broad aligned m → aligned ≡ true
         → field_at (number_field bit_packed 16) s at ≡ Value x (at + n)
-    unfolding broad
+    unfolding taken
     sixteen e t =
         subst (λ k. field_at (number_field bit_packed k) s at ≡ Value x (at + n))
         (e ∙ ap (λ b. broad b m) t) cut
@@ -96,7 +96,7 @@ module _ {s : List ℕ} {at m : ℕ} (h : InStream s at) (big : 256 < m) (l : m 
 
     pub many-plain : {aligned : Bool} → n ≡ broad aligned m → aligned ≡ false
         → Value x (at + n) ≡ found aligned
-    unfolding broad alignment_of
+    unfolding taken alignment_of
     many-plain e t =
         sym cut
         ∙ ap (λ k. field_at (number_field bit_packed k) s at) (e ∙ ap (λ b. broad b m) t)

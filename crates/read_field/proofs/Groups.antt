@@ -13,7 +13,7 @@ use Rattle.spec_fields.specs.Refusal.{ended, number, number_of, number_ended, nu
 use Rattle.spec_fields.specs.Parser.{Result, Parser, bad, got, return, fail, need, and_then, ◌>>=◌, ◌>>◌}
 use Rattle.spec_fields.specs.Field.{octet, max_octets, max_unsigned, grouped, unsigned}
 use Rattle.spec_fields.proofs.Tests.{split}
-use Rattle.read_field.specs.declared.Field.TheVariants.{Value, Refused}
+use Rattle.read_field.specs.View.{Value, Refused}
 use Rattle.read_field.specs.View.{field_at, InStream}
 use Rattle.read_field.specs.Parts.{Peeked, onward}
 use Rattle.read_field.proofs.View.{field-same, field-got, field-bad}

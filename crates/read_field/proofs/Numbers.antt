@@ -14,7 +14,7 @@ use Rattle.spec_fields.specs.Parser.{bad, got, return, and_then, ◌>>=◌, time
 use Rattle.spec_fields.specs.Field.{bit_packed, byte_aligned, bit, octet, little_value, number_field}
 use Rattle.spec_fields.proofs.Tests.{split}
 use Rattle.spec_fields.proofs.Pack.{length-unpack}
-use Rattle.read_field.specs.declared.Field.TheVariants.{Value, Refused}
+use Rattle.read_field.specs.View.{Value, Refused}
 use Rattle.read_field.specs.View.{field_at, InStream}
 use Rattle.read_field.specs.Parts.{ahead, Octet, Peeked}
 use Rattle.read_field.proofs.Ahead.{ahead-there, ahead-add, ahead-bound}

@@ -1,7 +1,7 @@
--- A parser's result and what stands at a position: each gives the other.
+-- A parser's result and what stands at a position: each gives the other; and the refusals' numbers.
 use mathlib.Core.Path.{◌≡◌, refl, sym, ap}
 use mathlib.Core.List.{List, ◌++◌}
-use Prim.Native.Nat.{ℕ, ◌+◌, ◌*◌, ◌-◌, ◌≤◌}
+use Prim.Native.Nat.{ℕ, ◌+◌, ◌*◌, ◌-◌, ◌≤◌, ◌<◌}
 use native.Mathlib.Omega.{arith}
 use lib.ListN.{length, drop, length-drop, length-append}
 use lib.Seq.{drop-drop, drop-append_seam}
@@ -10,7 +10,13 @@ use Rattle.spec_fields.specs.Refusal.{Refusal, number_of}
 use Rattle.spec_fields.specs.Parser.{Result, bad, got, Parser}
 use Rattle.spec_fields.proofs.Exact.{Reads}
 use Rattle.spec_fields.proofs.Pack.{length-unpack}
-use Rattle.read_field.specs.declared.Field.TheVariants.{Value, Refused}
+use Rattle.refusal.specs.declared.Refusal as code
+use Rattle.refusal.specs.declared.Refusal.TheVariants.{Room, Settings, Long, Header, Ended, Code}
+use Rattle.refusal.specs.declared.Refusal.TheVariants.{Number, Character, Reference, Loose, Name}
+use Rattle.refusal.specs.declared.Refusal.TheVariants.{Limit, Tail, Shape, Place, Structure}
+use Rattle.refusal.specs.declared.Refusal.TheVariants.{BadStamp, BadMovement, NotLater}
+use Rattle.refusal.specs.Numbers.{number_in}
+use Rattle.read_field.specs.View.{Value, Refused}
 use Rattle.read_field.specs.View.{view_of, field_at}
 
 -- The parser gives v at bit `at`, and leaves the bits from q on.
@@ -70,3 +76,25 @@ module _ (p : Parser ℕ) (s : List ℕ) (at : ℕ) where
       go : (x : Result ℕ) → p (drop at (unpack s)) ≡ x → view_of (8 * length s) x ≡ Refused k → Declined p s at k
       go (bad r) j e = record { refusal = r; result = j; is = cc }
       go (got a rest) j e = let z : ◌≡◌ {A = ℕ} 0 1 = cc in absurd (omega arith)
+
+-- The number of a refusal is not 0.
+pub refusal-some : (k : code.Refusal) → 0 < number_in k
+refusal-some Room = omega arith
+refusal-some Settings = omega arith
+refusal-some Long = omega arith
+refusal-some Header = omega arith
+refusal-some Ended = omega arith
+refusal-some Code = omega arith
+refusal-some Number = omega arith
+refusal-some Character = omega arith
+refusal-some Reference = omega arith
+refusal-some Loose = omega arith
+refusal-some Name = omega arith
+refusal-some Limit = omega arith
+refusal-some Tail = omega arith
+refusal-some Shape = omega arith
+refusal-some Place = omega arith
+refusal-some Structure = omega arith
+refusal-some BadStamp = omega arith
+refusal-some BadMovement = omega arith
+refusal-some NotLater = omega arith

@@ -38,15 +38,18 @@ pub record CutBitsPre (s : List ℕ) (at n : ℕ) : Type 0 where
   pub most : n ≤ 16
   pub inside : at + n ≤ 8 * length s
 
+-- The bits of a choice among m, where byte-aligned it takes so many.
+unfoldable pub taken : ℕ → Bool → ℕ → ℕ
+taken whole true m = whole
+taken whole false m = width m
+
 -- The bits of a choice among two to 256: byte-aligned an octet.
-unfoldable pub few : Bool → ℕ → ℕ
-few true m = 8
-few false m = width m
+abbrev pub few : Bool → ℕ → ℕ
+few aligned m = taken 8 aligned m
 
 -- Those of a choice among more: byte-aligned two octets.
-unfoldable pub broad : Bool → ℕ → ℕ
-broad true m = 16
-broad false m = width m
+abbrev pub broad : Bool → ℕ → ℕ
+broad aligned m = taken 16 aligned m
 
 -- An Unsigned Integer after groups that come to `low`: at most k more octets, the next group of
 -- this weight.

@@ -5,17 +5,29 @@ use Rattle.spec_fields.specs.Bits.{unpack}
 use Rattle.spec_fields.specs.Refusal.{number_of}
 use Rattle.spec_fields.specs.Parser.{Result, bad, got, Parser}
 use Rattle.spec_fields.specs.Field.{Alignment, bit_packed, byte_aligned}
+use Rattle.std.specs.Prelude as std
+use Rattle.refusal.specs.declared.Refusal as code
+use Rattle.refusal.specs.Numbers.{number_in}
 use Rattle.read_field.specs.declared.Field.{Field}
-use Rattle.read_field.specs.declared.Field.TheVariants.{Value, Refused}
+
+-- What stands at a position: a number and the position after it, or the number of a refusal.
+pub data Seen : Type 0 where
+  Value : ℕ → ℕ → Seen
+  Refused : ℕ → Seen
+
+-- What a function that reads a field found.
+abbrev pub view : std.Result Field code.Refusal → Seen
+view (std.Ok f) = Value f.value f.next
+view (std.Err k) = Refused (number_in k)
 
 -- A result over a stream of `total` bits: the value and the position after it, or the refusal's
 -- number.
-unfoldable pub view_of : ℕ → Result ℕ → Field
+unfoldable pub view_of : ℕ → Result ℕ → Seen
 view_of total (bad k) = Refused (number_of k)
 view_of total (got v rest) = Value v (total - length rest)
 
 -- What the parser finds at bit `at` of the stream s.
-unfoldable pub field_at : Parser ℕ → List ℕ → ℕ → Field
+unfoldable pub field_at : Parser ℕ → List ℕ → ℕ → Seen
 field_at p s at = view_of (8 * length s) (p (drop at (unpack s)))
 
 unfoldable pub alignment_of : Bool → Alignment

@@ -5,28 +5,25 @@ ghost use Rattle.std.specs.Prelude.{◌≡◌, ◌+◌, ◌*◌, ◌/◌, ◌%�
 ghost use Rattle.spec_fields.specs.Bits.{unpack};
 ghost use Rattle.spec_fields.specs.Field.{bit_packed, byte_aligned, octet, number_field, width};
 ghost use Rattle.spec_fields.specs.Field.{unsigned};
-ghost use Rattle.read_field.specs.declared.Field.TheVariants.{Value};
-ghost use Rattle.read_field.specs.View.{field_at, alignment_of, InStream, NumberPre};
+ghost use Rattle.read_field.specs.View.{Value, view, field_at, alignment_of, InStream, NumberPre};
 ghost use Rattle.read_field.specs.Parts.{Octet, Peeked, FewBitsPre};
 ghost use Rattle.read_field.specs.Parts.{OctetInPre, CutBitsPre, ahead};
-ghost use Rattle.read_field.specs.Parts.{few, broad, onward};
+ghost use Rattle.read_field.specs.Parts.{taken, onward};
 
-// The stream ends inside the field.
-const ENDED: u8 = refusal::ENDED as u8;
+use refusal::Refusal;
 
-// No number in fewest octets up to MOST.
-const NUMBER: u8 = refusal::NUMBER as u8;
-
+// The greatest number of an Unsigned Integer.
 const MOST: u64 = 2147483647;
 
-// What stands at a position: a number and the position after it, or the number of a refusal.
+// A number that stands at a position, and the position after it.
 #[derive(Clone, Copy)]
-pub enum Field {
-    Value { value: u32, next: usize },
-    Refused(u8),
+pub struct Field {
+    pub value: u32,
+    pub next: usize,
 }
 
-fn octet_at(s: &[u8], i: usize) -> u32
+// The octet at an index.
+pub fn octet_at(s: &[u8], i: usize) -> u32
     requires { i < length s.now }
     ensures { Octet s.now i result }
 {
@@ -52,21 +49,22 @@ fn octet_in(s: &[u8], at: usize) -> u32
     span(s, at, 8) % 256
 }
 
-// One to eight bits.
-fn few_bits(s: &[u8], at: usize, n: u32) -> Field
+// One to eight bits. `bits` reads them too, but out of a window of three octets: one function for
+// both would have to choose between the windows, and be no plainer.
+fn few_bits(s: &[u8], at: usize, n: u32) -> Result<Field, Refusal>
     requires { FewBitsPre s.now at n }
-    ensures { result ≡ field_at (number_field bit_packed n) s.now at }
+    ensures { view result ≡ field_at (number_field bit_packed n) s.now at }
 {
     let next = at + n as usize;
     if 8 * s.len() < next {
-        return Field::Refused(ENDED);
+        return Err(Refusal::Ended);
     }
     let window = span(s, at, n);
     let power: u32 = 1 << n;
-    Field::Value {
+    Ok(Field {
         value: window & (power - 1),
         next,
-    }
+    })
 }
 
 // One to sixteen bits that lie in the stream, cut out of the octets that they touch: one to three.
@@ -87,21 +85,21 @@ fn cut(s: &[u8], at: usize, n: u32) -> u32
 }
 
 // n bits, most significant first: none to sixteen.
-pub fn bits(s: &[u8], at: usize, n: u32) -> Field
+pub fn bits(s: &[u8], at: usize, n: u32) -> Result<Field, Refusal>
     requires { NumberPre s.now at n 16 }
-    ensures { result ≡ field_at (number_field bit_packed n) s.now at }
+    ensures { view result ≡ field_at (number_field bit_packed n) s.now at }
 {
     let next = at + n as usize;
     if 8 * s.len() < next {
-        return Field::Refused(ENDED);
+        return Err(Refusal::Ended);
     }
     if n == 0 {
-        return Field::Value { value: 0, next };
+        return Ok(Field { value: 0, next });
     }
-    Field::Value {
+    Ok(Field {
         value: cut(s, at, n),
         next,
-    }
+    })
 }
 
 // The two octets of a number, exchanged.
@@ -113,36 +111,34 @@ pub fn exchanged(x: u32) -> u32
 }
 
 // The fewest octets that hold n bits, least significant first: none, one or two.
-fn octets(s: &[u8], at: usize, n: u32) -> Field
+fn octets(s: &[u8], at: usize, n: u32) -> Result<Field, Refusal>
     requires { NumberPre s.now at n 16 }
-    ensures { result ≡ field_at (number_field byte_aligned n) s.now at }
+    ensures { view result ≡ field_at (number_field byte_aligned n) s.now at }
 {
     if n == 0 {
-        return Field::Value { value: 0, next: at };
+        return Ok(Field { value: 0, next: at });
     }
     if n <= 8 {
         return few_bits(s, at, 8);
     }
-    match bits(s, at, 16) {
-        Field::Value { value, next } => Field::Value {
-            value: exchanged(value),
-            next,
-        },
-        Field::Refused(k) => Field::Refused(k),
-    }
+    let pair = bits(s, at, 16)?;
+    Ok(Field {
+        value: exchanged(pair.value),
+        next: pair.next,
+    })
 }
 
-pub fn octet(s: &[u8], at: usize) -> Field
+pub fn octet(s: &[u8], at: usize) -> Result<Field, Refusal>
     requires { InStream s.now at }
-    ensures { result ≡ field_at octet s.now at }
+    ensures { view result ≡ field_at octet s.now at }
 {
     few_bits(s, at, 8)
 }
 
 // A number of n bits.
-pub fn number(aligned: bool, s: &[u8], at: usize, n: u32) -> Field
+pub fn number(aligned: bool, s: &[u8], at: usize, n: u32) -> Result<Field, Refusal>
     requires { NumberPre s.now at n 16 }
-    ensures { result ≡ field_at (number_field (alignment_of aligned) n) s.now at }
+    ensures { view result ≡ field_at (number_field (alignment_of aligned) n) s.now at }
 {
     if aligned {
         return octets(s, at, n);
@@ -161,59 +157,49 @@ pub fn width(m: u32) -> u32
     32 - u32::leading_zeros(m - 1)
 }
 
-// How many bits the field of a choice among two to 256 has.
-pub fn few(aligned: bool, m: u32) -> u32
-    requires { m ≤ 256 }
-    ensures { result ≡ few aligned m }
-{
-    if aligned {
-        return 8;
-    }
-    width(m)
-}
-
-// How many bits the field of a choice among more than 256 has.
-fn broad(aligned: bool, m: u32) -> u32
+// How many bits the field of a choice among m has, if WHOLE bits are the octets that hold it: 8 for
+// a choice among two to 256, 16 among more.
+pub fn taken<const WHOLE: u32>(aligned: bool, m: u32) -> u32
     requires { m ≤ 65536 }
-    ensures { result ≡ broad aligned m }
+    ensures { result ≡ taken WHOLE aligned m }
 {
     if aligned {
-        return 16;
+        return WHOLE;
     }
     width(m)
 }
 
 // The number in the field of a choice among more than 256.
-fn many(aligned: bool, s: &[u8], at: usize, m: u32) -> Field
+fn many(aligned: bool, s: &[u8], at: usize, m: u32) -> Result<Field, Refusal>
     requires number_pre { NumberPre s.now at m 65536 }
     requires lt_m { 256 < m }
-    ensures { result ≡ field_at (number_field (alignment_of aligned) (width m)) s.now at }
+    ensures { view result ≡ field_at (number_field (alignment_of aligned) (width m)) s.now at }
 {
-    let n = broad(aligned, m);
+    let n = taken::<16>(aligned, m);
     let next = at + n as usize;
     if 8 * s.len() < next {
-        return Field::Refused(ENDED);
+        return Err(Refusal::Ended);
     }
     let x = cut(s, at, n);
     if aligned {
-        return Field::Value {
+        return Ok(Field {
             value: exchanged(x),
             next,
-        };
+        });
     }
-    Field::Value { value: x, next }
+    Ok(Field { value: x, next })
 }
 
 // The number in the field of a choice among m. It may be m or more, which the caller judges.
-pub fn choice(aligned: bool, s: &[u8], at: usize, m: u32) -> Field
+pub fn choice(aligned: bool, s: &[u8], at: usize, m: u32) -> Result<Field, Refusal>
     requires { NumberPre s.now at m 65536 }
-    ensures { result ≡ field_at (number_field (alignment_of aligned) (width m)) s.now at }
+    ensures { view result ≡ field_at (number_field (alignment_of aligned) (width m)) s.now at }
 {
     if m <= 1 {
-        return Field::Value { value: 0, next: at };
+        return Ok(Field { value: 0, next: at });
     }
     if m <= 256 {
-        return few_bits(s, at, few(aligned, m));
+        return few_bits(s, at, taken::<8>(aligned, m));
     }
     many(aligned, s, at, m)
 }
@@ -225,70 +211,68 @@ fn wide(x: u32) -> u64
 }
 
 // The rest of an Unsigned Integer whose first group is `first`, and not its last.
-fn onward(s: &[u8], at: usize, first: u64) -> Field
+fn onward(s: &[u8], at: usize, first: u64) -> Result<Field, Refusal>
     requires { NumberPre s.now at first 127 }
-    ensures { result ≡ field_at (onward 4 128 first) s.now at }
+    ensures { view result ≡ field_at (onward 4 128 first) s.now at }
 {
     let mut place = at;
-    let mut left: u32 = 4;
     let mut weight: u64 = 128;
     let mut low = first;
-    while 0 < left {
+    for _ in 0..4u32 {
         if 8 * s.len() < place + 8 {
-            return Field::Refused(ENDED);
+            return Err(Refusal::Ended);
         }
         let o = wide(octet_in(s, place));
         if o == 0 {
-            return Field::Refused(NUMBER);
+            return Err(Refusal::Number);
         }
         if o < 128 {
             let v = low + weight * o;
             if MOST < v {
-                return Field::Refused(NUMBER);
+                return Err(Refusal::Number);
             }
-            return Field::Value {
+            return Ok(Field {
                 value: v as u32,
                 next: place + 8,
-            };
+            });
         }
         low = low + weight * (o - 128);
         weight = weight * 128;
         place = place + 8;
-        left = left - 1;
     }
-    Field::Refused(NUMBER)
+    Err(Refusal::Number)
 }
 
 // An Unsigned Integer of any length.
-pub fn unsigned_any(s: &[u8], at: usize) -> Field
+pub fn unsigned_any(s: &[u8], at: usize) -> Result<Field, Refusal>
     requires { InStream s.now at }
-    ensures { result ≡ field_at unsigned s.now at }
+    ensures { view result ≡ field_at unsigned s.now at }
 {
     if 8 * s.len() < at + 8 {
-        return Field::Refused(ENDED);
+        return Err(Refusal::Ended);
     }
     let o = octet_in(s, at);
     if o < 128 {
-        return Field::Value {
+        return Ok(Field {
             value: o,
             next: at + 8,
-        };
+        });
     }
     onward(s, at + 8, wide(o - 128))
 }
 
 // An Unsigned Integer: most have one octet.
-pub fn unsigned(s: &[u8], at: usize) -> Field
+pub fn unsigned(s: &[u8], at: usize) -> Result<Field, Refusal>
     requires { InStream s.now at }
-    ensures { result ≡ field_at unsigned s.now at }
+    ensures { view result ≡ field_at unsigned s.now at }
 {
     let next = at + 8;
     if 8 * s.len() < next {
-        return Field::Refused(ENDED);
+        return Err(Refusal::Ended);
     }
     let o = octet_in(s, at);
     if o < 128 {
-        return Field::Value { value: o, next };
+        return Ok(Field { value: o, next });
     }
     unsigned_any(s, at)
 }

@@ -26,8 +26,8 @@ use Rattle.grammar_update.specs.Growth.{growth_of, allowed_in, fits_in}
 use Rattle.grammar_update.specs.After.{core_after}
 use Rattle.grammar_stepped.specs.Stepped.{stepped_as}
 use Rattle.grammar_stepped.proofs.Moved.{growth-by}
-use Rattle.read_production.specs.declared.ProductionRead.{ProductionRead}
-use Rattle.read_content.specs.declared.Content.{Content}
+use Rattle.read_production.specs.View.{ProductionRead}
+use Rattle.read_content.specs.View.{Content}
 use Rattle.read_content.specs.Contents.{ContentPre, ContentPost}
 use Rattle.grammar_stepped.specs.declared.Stepped.{Stepped}
 use Rattle.read_event.specs.Judge.{JudgePost, EventPre, EventPost, Tested, judge_number}

@@ -28,7 +28,7 @@ use Rattle.grammar_stepped.specs.Stepped.{stepped_as}
 use Rattle.grammar_stepped.proofs.Moved.{other-allowed}
 use Rattle.read_literal.specs.Literal.{laid_at}
 use Rattle.read_literal.proofs.Store.{laid_none}
-use Rattle.read_production.specs.declared.ProductionRead.{ProductionRead}
+use Rattle.read_production.specs.View.{ProductionRead}
 use Rattle.read_content.specs.Contents.{plain_as, ContentPost}
 use Rattle.read_content.proofs.Contents.{kind-is}
 use Rattle.read_content.proofs.Returns.{bare-read}

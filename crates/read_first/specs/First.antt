@@ -1,6 +1,9 @@
 -- What a quick step of an event by a production that is not learned asks and leaves, and its parts.
 -- It leaves what any step does (crates/read_event/specs/Step.antt).
 use Rattle.std.specs.Prelude.{ℕ, ◌+◌, ◌-◌, ◌≤◌, ◌<◌, ◌≡◌, Bool, true, false, cond, not, List, ◌++◌, length, take, drop, replicate, eqb}
+use Rattle.std.specs.Prelude as std
+use Rattle.refusal.specs.declared.Refusal.{Refusal}
+use Rattle.refusal.specs.Numbers.{number_in}
 use Rattle.spec_fields.specs.Refusal.{number_of, shape}
 use Rattle.spec_exi.specs.Sizes.{cells_per_event, max_learned}
 use Rattle.spec_exi.specs.Settings.{Settings}
@@ -19,9 +22,14 @@ use Rattle.grammar_update.specs.Growth.{allowed_in, fits_in}
 use Rattle.grammar_update.specs.After.{core_after, AfterPre}
 use Rattle.grammar_stepped.specs.Stepped.{stepped_as}
 use Rattle.read_literal.specs.Literal.{laid_at}
-use Rattle.read_production.specs.declared.ProductionRead.{ProductionRead}
+use Rattle.read_production.specs.View.{ProductionRead}
 use Rattle.grammar_stepped.specs.declared.Stepped.{Stepped}
 use Rattle.read_event.specs.Judge.{CodeRead, judge_number}
+
+-- The number of a refusal, or 0.
+abbrev pub judged_in : std.Result (Unit {0}) Refusal → ℕ
+judged_in (std.Ok x) = 0
+judged_in (std.Err k) = number_in k
 
 -- ---- parts
 

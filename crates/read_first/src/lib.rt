@@ -13,10 +13,13 @@ ghost use Rattle.mem_state.specs.Holds.{Bounded};
 ghost use Rattle.mem_state.specs.Joining.{no_strings, valued_strings};
 ghost use Rattle.grammar_update.specs.Growth.{GrowthPre, growth_of};
 ghost use Rattle.grammar_stepped.specs.Stepped.{stepped_as};
+ghost use Rattle.refusal.specs.Numbers.{number_in};
+ghost use Rattle.read_production.specs.View.{seen_of};
+ghost use Rattle.read_partition.specs.View.{read_as};
 ghost use Rattle.read_qname.specs.Qnames.{joining_of, part_of};
 ghost use Rattle.read_event.specs.Step.{StepPre, StepPost};
 ghost use Rattle.read_tags.specs.Tags.{TagPre, TagPost};
-ghost use Rattle.read_first.specs.First.{row_strings, JudgePre, Judgement, DroppedPost};
+ghost use Rattle.read_first.specs.First.{judged_in, row_strings, JudgePre, Judgement, DroppedPost};
 ghost use Rattle.read_first.specs.First.{turnedBy, FirstPre, AddPre, Added};
 
 use event::Event;
@@ -25,7 +28,7 @@ use grammar_stepped::Stepped;
 use mem_state::{Core, Growth};
 use read_partition::StringRead;
 use read_production::ProductionRead;
-use refusal::{LIMIT, LOOSE, SHAPE};
+use refusal::Refusal;
 use settings::Settings;
 
 // ---- the parts of such a step
@@ -41,31 +44,31 @@ pub fn growth(c: Core, kind: u32, uri: u32, name: u32, work: &[u32]) -> Growth
     grammar_update::growth(c, kind, false, s, work)
 }
 
-// The number of a refusal or 0: a second attribute of one name, then LOOSE, then the sizes.
-pub fn judge(c: Core, g: Growth, work: &[u32]) -> u32
+// Refuses a second attribute of one name, then what is LOOSE, then what passes a size.
+pub fn judge(c: Core, g: Growth, work: &[u32]) -> Result<(), Refusal>
     requires { JudgePre work.now c g }
-    ensures { Judgement work.now c g result }
+    ensures { Judgement work.now c g (judged_in result) }
 {
     if !grammar_update::allows(c.tag, g.kind, g.name, work) {
-        return SHAPE;
+        return Err(Refusal::Shape);
     }
-    if grammar_match::find_learned(c.mode, c.top, g.kind, g.name, c.learned, work) != 0 {
-        return LOOSE;
+    if let Some(_) = grammar_match::find_learned(c.mode, c.top, g.kind, g.name, c.learned, work) {
+        return Err(Refusal::Loose);
     }
     if !grammar_update::fits(c, g) {
-        return LIMIT;
+        return Err(Refusal::Limit);
     }
-    0
+    Ok(())
 }
 
 // A refusal: the text from the store's end to this cell is cleared.
-pub fn dropped(number: u32, c: Core, stored: usize, text: &mut [u32]) -> Stepped
+pub fn dropped(refusal: Refusal, c: Core, stored: usize, text: &mut [u32]) -> Stepped
     requires stored_le_stored { c.stored ≤ stored }
     requires stored_in_bounds { stored ≤ length text.old }
-    ensures { DroppedPost number c stored text.old text.new result }
+    ensures { DroppedPost (number_in refusal) c stored text.old text.new result }
 {
     read_literal::clear_cells(text, c.stored, stored - c.stored);
-    grammar_stepped::answer(number, c)
+    grammar_stepped::answer(refusal.number(), c)
 }
 
 // The answer: which strings join, what is left in the grammars, and the state after the event.
@@ -115,21 +118,31 @@ fn add_characters(
     work: &mut [u32],
 ) -> Stepped
     requires kind_value { g.kind ≡ kind_number kind_ch }
-    requires add_pre { AddPre events.old work.old (valued_strings no_strings c.top (joining_of x)) g c cell
-        n }
-    ensures { (fragment : Bool) → Added fragment (Characters (part_of x))
-        (valued_strings no_strings c.top (joining_of x)) g x.next x.stored
+    requires add_pre { AddPre events.old work.old
+        (valued_strings no_strings c.top (joining_of (read_as x))) g c cell n }
+    ensures { (fragment : Bool) → Added fragment (Characters (part_of (read_as x)))
+        (valued_strings no_strings c.top (joining_of (read_as x))) g x.next x.stored
         events.old work.old c cell n events.new
         work.new result }
 {
     let value = read_qname::part_of(x);
     event::store(Event::Characters(value), events, cell);
-    mem_state::join_value(work, c.values, c.top, x.joins, x.place, x.size, x.hash);
+    read_known::join_value(work, c, c.top, x);
     mem_state::grow(work, c, g);
     let mode = mem_state::content_after(c.mode);
     let tag = grammar_stepped::next_tag(n);
     moved(
-        c, x.next, x.stored, false, false, x.joins, g, mode, c.top, c.depth, tag,
+        c,
+        x.next,
+        x.stored,
+        false,
+        false,
+        x.joins.is_some(),
+        g,
+        mode,
+        c.top,
+        c.depth,
+        tag,
     )
 }
 
@@ -146,21 +159,21 @@ pub fn first_characters(
     work: &mut [u32],
 ) -> Stepped
     requires step_pre { StepPre stream.now events.old text.old work.old c cell n }
-    requires first_pre { FirstPre kind_ch (settings_from o) stream.now work.old c p }
+    requires first_pre { FirstPre kind_ch (settings_from o) stream.now work.old c (seen_of p) }
     ensures { StepPost (settings_from o) stream.now events.old text.old
         work.old c cell n events.new text.new work.new
         result }
 {
-    let x = read_values::read_value(
+    let read = read_values::read_value(
         o.aligned, stream, p.next, c.top, c.values, c.longest, c.capacity, c.stored, text, work,
     );
-    if x.number != 0 {
-        return dropped(x.number, c, x.stored, text);
-    }
+    let x = match read {
+        Ok(x) => x,
+        Err(y) => return dropped(y.refusal, c, y.stored, text),
+    };
     let g = growth(c, CH, 0, 0, work);
-    let number = judge(c, g, work);
-    if number != 0 {
-        return dropped(number, c, x.stored, text);
+    if let Err(refusal) = judge(c, g, work) {
+        return dropped(refusal, c, x.stored, text);
     }
     add_characters(x, g, c, cell, n, events, work)
 }
@@ -177,16 +190,15 @@ pub fn first_end(
     events: &mut [u32],
     work: &mut [u32],
 ) -> Stepped
-    requires tag_pre { TagPre kind_ee events.old c cell n p }
+    requires tag_pre { TagPre kind_ee events.old c cell n (seen_of p) }
     requires work_cells_in_bounds { work_cells ≤ length work.old }
     requires learned_value { p.learned ≡ false }
-    ensures { TagPost fragment events.old work.old c cell n p events.new
+    ensures { TagPost fragment events.old work.old c cell n (seen_of p) events.new
         work.new result }
 {
     let g = growth(c, EE, 0, 0, work);
-    let number = judge(c, g, work);
-    if number != 0 {
-        return grammar_stepped::answer(number, c);
+    if let Err(refusal) = judge(c, g, work) {
+        return grammar_stepped::answer(refusal.number(), c);
     }
     event::store(Event::EndElement, events, cell);
     mem_state::grow(work, c, g);

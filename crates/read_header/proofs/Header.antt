@@ -2,11 +2,11 @@
 use mathlib.Core.Path.{◌≡◌, refl, ◌∙◌}
 use mathlib.Core.Bool.{true, false}
 use mathlib.Core.List.{List, ◌∷◌}
-use Prim.Native.Nat.{ℕ, ◌+◌, ◌*◌, ◌≤◌, ◌<◌}
+use Prim.Native.Nat.{ℕ, ◌+◌, ◌*◌, ◌-◌, ◌≤◌, ◌<◌}
 use native.Mathlib.Numerals.{add-one}
 use native.Mathlib.Omega.{arith}
-use lib.ListN.{length, get_or, drop}
-use lib.Seq.{drop-cons}
+use lib.ListN.{length, get_or, take, drop, length-drop}
+use lib.Seq.{drop-cons, length-take-le, get_or-take, get_or-drop}
 use lib.Dec.{eqb}
 use borrow.Author.Tests.{eq-eqb, ne_eqb}
 use Rattle.spec_fields.specs.Bits.{unpack}
@@ -15,12 +15,27 @@ use Rattle.spec_fields.specs.Parser.{Parser, need, ◌>>◌}
 use Rattle.spec_fields.specs.Field.{octet}
 use Rattle.spec_exi.specs.Settings.{Settings, header_of}
 use Rattle.spec_exi.specs.Reader.{read_header}
-use Rattle.read_field.specs.declared.Field.TheVariants.{Value, Refused}
+use Rattle.read_field.specs.View.{Value, Refused}
 use Rattle.read_field.specs.View.{field_at}
 use Rattle.read_contract.specs.Outcome.{Declined, Gotten}
 use Rattle.read_contract.proofs.Outcome.{refused-outcome, gotten-outcome, declined-then, gotten-declined, then-got}
 use Rattle.read_contract.proofs.Outcome.{need-true, need-declined, refused-declined, octet-gotten, return-got}
 use Rattle.read_header.specs.Header.{header_octets, Passes, header_size, cookie_size}
+
+-- The octets from one on.
+abbrev rest : ℕ → List ℕ
+rest first = take (header_size - first) (drop first header_octets)
+
+pub rest-size : (first : ℕ) → length (rest first) ≡ header_size - first
+rest-size first =
+    length-take-le (header_size - first) (drop first header_octets)
+    (omega (arith, length-drop first header_octets))
+
+pub rest-at : (first i : ℕ) → i < length (rest first)
+    → get_or (rest first) i 0 ≡ get_or header_octets (first + i) 0
+rest-at first i l =
+    get_or-take (header_size - first) (drop first header_octets) i 0 (omega (arith, rest-size first))
+    ∙ get_or-drop first header_octets i 0
 
 -- The octets before this one stand there.
 pub record Passing (stream : List ℕ) (first at i : ℕ) : Type 0 where

@@ -2,7 +2,7 @@
 -- general step; here it is an argument of the laws alone.
 use Prim.Native.Nat.{ℕ, ◌+◌, ◌-◌, ◌<◌}
 use native.Mathlib.Omega.{arith}
-use mathlib.Core.Path.{◌≡◌, refl, sym, ap, subst, ◌∙◌}
+use mathlib.Core.Path.{◌≡◌, refl, sym, ap, ap₂, subst, ◌∙◌}
 use mathlib.Core.Bool.{Bool, true, false, true≢false}
 use mathlib.Core.List.{List, ◌++◌}
 use lib.ListN.{take, drop, replicate}
@@ -19,14 +19,29 @@ use Rattle.grammar_update.specs.After.{core_after}
 use Rattle.grammar_stepped.specs.Stepped.{stepped_as}
 use Rattle.read_literal.specs.Literal.{laid_at}
 use Rattle.read_literal.proofs.Store.{laid_none}
-use Rattle.read_production.specs.declared.ProductionRead.{ProductionRead}
-use Rattle.read_content.specs.declared.Content.{Content}
+use Rattle.std.specs.Prelude as std
+use Rattle.mem_state.specs.Joining.{joining}
+use Rattle.read_partition.specs.declared.StringRead as code
+use Rattle.read_partition.specs.View.{read_as, hash_in}
+use Rattle.read_qname.specs.Qnames.{joining_of}
+use Rattle.read_production.specs.View.{ProductionRead}
+use Rattle.read_content.specs.View.{Content}
 use Rattle.read_content.specs.Contents.{ContentPre, ContentPost}
 use Rattle.read_event.specs.Judge.{CodeRead, LooseHere, judge_number, allowed_here, JudgePost}
 use Rattle.read_event.specs.Judge.{EventPre}
 use Rattle.read_event.specs.Step.{StepPre, StepPost}
 use Rattle.read_event.proofs.Returns.{content-asks, content-stops, judge-stops, event-read}
 use Rattle.read_event.proofs.Steps.{event-asks, step-refused, step-read}
+
+-- ---- a value that joins
+
+hash-is : (o : std.Option ℕ) → std.unwrap_or o 0 ≡ hash_in o
+hash-is std.None = refl
+hash-is (std.Some h) = refl
+
+pub joining-read : (x : code.StringRead) {b : Bool} {h : ℕ} → b ≡ std.is_some x.joins
+    → h ≡ std.unwrap_or x.joins 0 → joining b x.place x.size h ≡ joining_of (read_as x)
+joining-read x e f = ap₂ (λ b h. joining b x.place x.size h) e (f ∙ hash-is x.joins)
 
 -- ---- the step
 

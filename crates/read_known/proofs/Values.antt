@@ -27,10 +27,10 @@ use Rattle.grammar_match.specs.Here.{site_in}
 use Rattle.grammar_update.specs.Growth.{growth_of, fits_in}
 use Rattle.grammar_stepped.specs.Stepped.{stepped_as, moved_on}
 use Rattle.grammar_stepped.proofs.Moved.{known_strings, moved-core, other-allowed, attribute-allowed, growth-by}
-use Rattle.read_partition.specs.declared.StringRead.{StringRead}
+use Rattle.read_partition.specs.View.{StringRead}
 use Rattle.read_literal.specs.Literal.{laid_at}
 use Rattle.read_values.specs.Values.{ValuePre, as_value, ValuePost, JoinsWithin}
-use Rattle.read_production.specs.declared.ProductionRead.{ProductionRead}
+use Rattle.read_production.specs.View.{ProductionRead}
 use Rattle.read_qname.specs.Qnames.{joining_of, part_of, carried_as, Carried, NamePost}
 use Rattle.read_qname.proofs.Texts.{text-size, text-laid}
 use Rattle.read_qname.proofs.Returns.{carried-read, as-carried}

@@ -10,7 +10,7 @@ use Rattle.event.specs.declared.Part.{Part}
 use Rattle.mem_names.specs.Uris.{uri_in}
 use Rattle.mem_names.specs.Names.{name_in}
 use Rattle.mem_state.specs.declared.Core.{Core}
-use Rattle.read_production.specs.declared.ProductionRead.{ProductionRead}
+use Rattle.read_production.specs.View.{ProductionRead}
 use Rattle.read_production.specs.Production.{ProductionBounds}
 use Rattle.grammar_stepped.specs.declared.Stepped.{Stepped}
 use Rattle.read_event.specs.Judge.{CodeRead}

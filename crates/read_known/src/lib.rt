@@ -9,9 +9,11 @@ ghost use Rattle.event.specs.declared.Event.TheVariants.{Attribute};
 ghost use Rattle.mem_names.specs.Uris.{UriRowPre};
 ghost use Rattle.mem_names.specs.Names.{NameRowPre};
 ghost use Rattle.mem_marks.specs.Marks.{with_mark};
-ghost use Rattle.mem_state.specs.Joining.{joining};
 ghost use Rattle.mem_state.specs.Commit.{ValuePre, joined_value};
 ghost use Rattle.read_field.specs.View.{alignment_of};
+ghost use Rattle.read_production.specs.View.{seen_of};
+ghost use Rattle.read_partition.specs.View.{read_as};
+ghost use Rattle.read_qname.specs.Qnames.{joining_of};
 ghost use Rattle.read_event.specs.Step.{StepPre};
 ghost use Rattle.read_known.specs.Known.{uri_part, local_part, LearnedPre, KnownPost};
 ghost use Rattle.read_known.specs.Known.{AttributePost};
@@ -19,6 +21,7 @@ ghost use Rattle.read_known.specs.Known.{AttributePost};
 use event::{Event, Part};
 use grammar_stepped::Stepped;
 use mem_state::Core;
+use read_partition::StringRead;
 use read_production::ProductionRead;
 use refusal::SHAPE;
 
@@ -59,24 +62,24 @@ fn attribute(work: &[u32], uri: u32, local: u32, value: Part) -> Event
     Event::Attribute(u, l, value)
 }
 
-// Adds an attribute's value, which may join, and the mark of its name.
-fn keep(
-    work: &mut [u32],
-    values: u32,
-    name: u32,
-    tag: u32,
-    joins: bool,
-    place: u32,
-    size: u32,
-    hash: u32,
-)
-    requires { ValuePre work.old values name (joining joins place size hash) }
-    ensures { work.new
-        ≡ with_mark (joined_value values name (joining joins place size hash) work.old)
-        tag name }
+// Adds a value that was read, if it is to join.
+pub fn join_value(work: &mut [u32], c: Core, owner: u32, x: StringRead)
+    requires { ValuePre work.old c.values owner (joining_of (read_as x)) }
+    ensures { work.new ≡ joined_value c.values owner (joining_of (read_as x)) work.old }
 {
-    mem_state::join_value(work, values, name, joins, place, size, hash);
-    mem_marks::mark(work, name, tag);
+    let joins = x.joins.is_some();
+    let hash = x.joins.unwrap_or(0);
+    mem_state::join_value(work, c.values, owner, joins, x.place, x.size, hash);
+}
+
+// Adds an attribute's value, which may join, and the mark of its name.
+fn keep(work: &mut [u32], c: Core, name: u32, x: StringRead)
+    requires { ValuePre work.old c.values name (joining_of (read_as x)) }
+    ensures { work.new
+        ≡ with_mark (joined_value c.values name (joining_of (read_as x)) work.old) c.tag name }
+{
+    join_value(work, c, name, x);
+    mem_marks::mark(work, name, c.tag);
 }
 
 // Reads an attribute whose name is known; the second of one name is SHAPE.
@@ -91,28 +94,28 @@ pub fn known_attribute(
     work: &mut [u32],
 ) -> Stepped
     requires step_pre { StepPre stream.now events.old text.old work.old c cell 0 }
-    requires learned_pre { LearnedPre kind_at stream.now c p }
+    requires learned_pre { LearnedPre kind_at stream.now c (seen_of p) }
     ensures { AttributePost (alignment_of aligned) stream.now events.old
-        text.old work.old c cell p events.new text.new
+        text.old work.old c cell (seen_of p) events.new text.new
         work.new result }
 {
-    let x = read_values::read_value(
+    let read = read_values::read_value(
         aligned, stream, p.next, p.name, c.values, c.longest, c.capacity, c.stored, text, work,
     );
-    if x.number != 0 {
-        return grammar_stepped::answer(x.number, c);
-    }
+    let x = match read {
+        Ok(x) => x,
+        Err(y) => return grammar_stepped::answer(y.refusal.number(), c),
+    };
     if mem_marks::is_marked(work, p.name, c.tag) {
         read_literal::clear_cells(text, c.stored, x.stored - c.stored);
         return grammar_stepped::answer(SHAPE, c);
     }
     let event = attribute(work, p.uri, p.local, read_qname::part_of(x));
     event::store(event, events, cell);
-    keep(
-        work, c.values, p.name, c.tag, x.joins, x.place, x.size, x.hash,
-    );
+    keep(work, c, p.name, x);
+    let joins = x.joins.is_some();
     grammar_stepped::moved_on(
-        c, x.next, x.stored, x.joins, false, c.mode, c.top, c.depth, c.tag,
+        c, x.next, x.stored, joins, false, c.mode, c.top, c.depth, c.tag,
     )
 }
 
@@ -129,23 +132,23 @@ pub fn known_characters(
     work: &mut [u32],
 ) -> Stepped
     requires step_pre { StepPre stream.now events.old text.old work.old c cell n }
-    requires learned_pre { LearnedPre kind_ch stream.now c p }
+    requires learned_pre { LearnedPre kind_ch stream.now c (seen_of p) }
     ensures { KnownPost (alignment_of aligned) stream.now events.old
-        text.old work.old c cell n p events.new text.new
+        text.old work.old c cell n (seen_of p) events.new text.new
         work.new result }
 {
-    let x = read_values::read_value(
+    let read = read_values::read_value(
         aligned, stream, p.next, c.top, c.values, c.longest, c.capacity, c.stored, text, work,
     );
-    if x.number != 0 {
-        return grammar_stepped::answer(x.number, c);
-    }
+    let x = match read {
+        Ok(x) => x,
+        Err(y) => return grammar_stepped::answer(y.refusal.number(), c),
+    };
     let value = read_qname::part_of(x);
     event::store(Event::Characters(value), events, cell);
-    mem_state::join_value(work, c.values, c.top, x.joins, x.place, x.size, x.hash);
+    join_value(work, c, c.top, x);
     let mode = mem_state::content_after(c.mode);
     let tag = grammar_stepped::next_tag(n);
-    grammar_stepped::moved_on(
-        c, x.next, x.stored, x.joins, false, mode, c.top, c.depth, tag,
-    )
+    let joins = x.joins.is_some();
+    grammar_stepped::moved_on(c, x.next, x.stored, joins, false, mode, c.top, c.depth, tag)
 }

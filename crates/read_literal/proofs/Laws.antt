@@ -21,9 +21,7 @@ use Rattle.spec_exi.specs.Settings.{Settings}
 use Rattle.spec_exi.specs.Sizes.{max_stream, max_store, max_string, sizes}
 use Rattle.spec_exi.specs.Tables.{Tables, literal, laid}
 use Rattle.spec_exi.specs.Reader.{read_character, read_literal}
-use Rattle.read_field.specs.declared.Field.{Field}
-use Rattle.read_field.specs.declared.Field.TheVariants.{Value, Refused}
-use Rattle.read_field.specs.View.{field_at, InStream}
+use Rattle.read_field.specs.View.{Seen, Value, Refused, field_at, InStream}
 use Rattle.read_field.specs.Parts.{Octet, Peeked}
 use Rattle.read_field.proofs.Ahead.{peeked}
 use Rattle.read_field.proofs.Groups.{unsigned-first}
@@ -35,7 +33,7 @@ use Rattle.read_contract.proofs.Outcome.{declined-number, value-gotten, refused-
 use Rattle.read_contract.proofs.Outcome.{gotten-then, gotten-declined, return-gotten, outcome-map, need-passed}
 use Rattle.read_contract.proofs.Outcome.{need-failed, need-gotten, need-declined, times-empty, times-declined}
 use Rattle.read_contract.proofs.Outcome.{times-gotten, unsigned-gotten, refused-declined}
-use Rattle.read_literal.specs.declared.Literal as declared
+use Rattle.read_literal.specs.View as seen
 use Rattle.read_literal.specs.Awaits.{Awaits, Waits}
 use Rattle.read_literal.specs.Literal.{LiteralPre, base, CharactersPre, laid_at, Place, Plain, PointRead, Cleared}
 use Rattle.read_literal.specs.Literal.{CharactersRead, Laid, LiteralRead}
@@ -119,8 +117,8 @@ module _ {s : List ℕ} {j k : ℕ} (p : Place s j k) where
   unfolding max_stream
   point-asks = record { size = omega (arith, p.size); place = p.inside }
 
-  module _ {f : Field} (answer : f ≡ field_at unsigned s (8 * j + k)) where
-    pub point-refused : {n : ℕ} → f ≡ Refused n → PointRead s j k (record { number = n; value = 0; behind = j })
+  module _ {f : Seen} (answer : f ≡ field_at unsigned s (8 * j + k)) where
+    pub point-refused : {n : ℕ} → f ≡ Refused n → PointRead s j k (record { number = n; value = 0; behind = 0 })
     point-refused z =
         let d = refused-declined unsigned s (8 * j + k) (sym answer ∙ z) in
         record {
@@ -129,7 +127,7 @@ module _ {s : List ℕ} {j k : ℕ} (p : Place s j k) where
         }
 
     module _ {v q : ℕ} (z : f ≡ Value v q) where
-      pub point-not : is_char v ≡ false → PointRead s j k (record { number = number_character; value = 0; behind = j })
+      pub point-not : is_char v ≡ false → PointRead s j k (record { number = number_character; value = 0; behind = 0 })
       point-not t =
           record {
             refused = λ _. sym (character-not s (8 * j + k) p.inside (sym answer ∙ z) t);
@@ -189,12 +187,6 @@ module _ {stream : List ℕ} {at : ℕ} {text : List ℕ} {stored n : ℕ} (fit 
   module _ {text' : List ℕ} {next i h : ℕ} (t : Turn stream at text stored n text' next i h) where
     turn-fits : stored + length t.read.value ≤ length text
     turn-fits = omega (arith, t.size, t.inside, fit.ends, fit.literal.room)
-
-    pub turn-length : length text' ≡ length text
-    turn-length = ap length t.text-is ∙ laid-size text stored t.read.value turn-fits
-
-    pub turn-room : i ≤ n → stored + i ≤ length text'
-    turn-room h = omega (arith, turn-length, fit.ends, fit.literal.room)
 
     -- The end.
     pub turn_end : n ≤ i
@@ -272,7 +264,7 @@ module _ {stream : List ℕ} {at : ℕ} {text : List ℕ} {stored n : ℕ} (fit 
 
 -- ---- a literal
 
-abbrev over_limit : ℕ → declared.Literal
+abbrev over_limit : ℕ → seen.Literal
 over_limit at = record { number = number_limit; next = at; left = 0; hash = 0 }
 
 nothing-cleared : (text : List ℕ) {stored : ℕ} → stored ≤ max_store → Cleared text stored text
@@ -307,7 +299,7 @@ module _ {stream : List ℕ} {at : ℕ} {text : List ℕ} {stored n : ℕ} (fit 
       (need-failed (leb (length t.store + n) max_store) limit _
       (lt-leb (length t.store + n) max_store (omega arith))))
 
-  module _ (l : n ≤ max_string) (h : stored + n ≤ max_store) {text' : List ℕ} {r : declared.Literal}
+  module _ (l : n ≤ max_string) (h : stored + n ≤ max_store) {text' : List ℕ} {r : seen.Literal}
       (c : CharactersRead stream at text stored n text' r) where
     characters-wait : 0 < r.left → (s : Settings) (t : Tables) → length t.store ≡ stored
         → Waits (read_character s) (read_literal sizes s t n) stream at r.next r.left

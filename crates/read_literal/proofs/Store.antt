@@ -5,7 +5,10 @@ use mathlib.Core.List.{List, [], ◌∷◌, ◌++◌, append_assoc, append-nil}
 use native.Mathlib.Nat.{add-zero}
 use native.Mathlib.Omega.{arith}
 use lib.ListN.{length, get_or, take, drop, set, replicate, length-append, length-drop, length-replicate, length-set}
-use lib.ListN.{take-append-drop, replicate-append-replicate, get_or-replicate}
+use lib.ListN.{take-append-drop, get_or-replicate}
+use borrow.Rule.Slice.PartMut.{put_mid, mid_of, mid_len}
+use Rattle.std.proofs.lemmas.Slice.{put_mid-paste}
+use lib.Seq.{take_all}
 use lib.Seq.{append_snoc, drop-cons, set_at, length-take-le, ext_get_or, get_or-drop, drop_at, take_at}
 use Rattle.text.specs.Text.{Text, part}
 use Rattle.text.proofs.Parts.{part-inside}
@@ -87,32 +90,18 @@ module _ (text : List ℕ) (stored : ℕ) (x : Text) where
   unfolding laid_at
   laid-over y l h = rw (laid-before text stored x h, l, laid-drop h)
 
--- ---- the loop that clears
-
-pub record Zeroed (text : List ℕ) (from n : ℕ) (text' : List ℕ) (i : ℕ) : Type 0 where
-  pub few : i ≤ n
-  pub fits : from + n ≤ length text
-  pub size : length text' ≡ length text
-  pub is : text' ≡ laid_at text from (replicate i 0)
-
-module _ {text : List ℕ} {from n : ℕ} where
-  pub zero-start : from + n ≤ length text → Zeroed text from n text 0
-  zero-start h = record { few = omega arith; fits = h; size = refl; is = laid_none text from }
-
-  module _ {text' : List ℕ} {i : ℕ} (z : Zeroed text from n text' i) where
-    pub zero-next : i < n → Zeroed text from n (set text' (from + i) 0) (i + 1)
-    zero-next h =
-        let e : ◌++◌ {A = ℕ} (replicate i 0) (0 ∷ []) ≡ replicate (i + 1) 0 =
-        replicate-append-replicate {A = ℕ} i 1 0 in
-        record {
-          few = omega arith;
-          fits = z.fits;
-          size = simp length-set z.size;
-          is = laid_next text from (replicate i 0) z.is refl (length-replicate i 0) (omega (arith, z.fits)) ∙ rw e;
-        }
-
-    pub zero-end : n ≤ i → text' ≡ laid_at text from (replicate n 0)
-    zero-end h = let e : i ≡ n = omega (arith, z.few) in rw (← e) z.is
+-- n cells that are written over with zeros.
+pub cleared-is : (text : List ℕ) (from n : ℕ) {zeros : List ℕ} → from + n ≤ length text
+    → zeros ≡ replicate (length (mid_of from (from + n - from) text)) 0
+    → put_mid from (from + n - from) text zeros ≡ laid_at text from (replicate n 0)
+unfolding laid_at
+cleared-is text from n {zeros} h e =
+    let k : from + n - from ≡ n = omega arith in
+    let m : length (mid_of from (from + n - from) text) ≡ n = mid_len from (from + n) text h ∙ k in
+    let y : zeros ≡ replicate n 0 = e ∙ ap (λ j. replicate j 0) m in
+    let l : length (replicate {A = ℕ} n 0) ≡ n = length-replicate n 0 in
+    put_mid-paste from (from + n - from) text zeros (replicate n 0) n y (sym k) (sym l)
+    ∙ rw (take_all n (replicate {A = ℕ} n 0) (omega (arith, l)), l) refl
 
 -- A text behind the store, looked up.
 pub laid-part : (text : List ℕ) (stored : ℕ) (x : Text) → stored + length x ≤ length text

@@ -8,12 +8,10 @@ use Rattle.spec_exi.specs.Settings.{Settings}
 use Rattle.spec_exi.specs.Sizes.{max_stream, max_store, max_string, sizes}
 use Rattle.spec_exi.specs.Tables.{Tables, Form, literal, Placed}
 use Rattle.spec_exi.specs.Reader.{read_character, read_literal}
-use Rattle.read_field.specs.declared.Field.TheVariants.{Value, Refused}
-use Rattle.read_field.specs.View.{field_at}
+use Rattle.read_field.specs.View.{Value, Refused, field_at}
 use Rattle.mem_entries.specs.Texts.{hash_of}
 use Rattle.read_contract.specs.Outcome.{Declined, Outcome}
-use Rattle.read_literal.specs.declared.Literal as declared
-use Rattle.read_literal.specs.declared.Point as point
+use Rattle.read_literal.specs.View as seen
 use Rattle.read_literal.specs.Awaits.{Waits}
 
 -- Settings do not matter to a code point as yet: these stand for any.
@@ -52,7 +50,7 @@ pub record Plain (stream : List ℕ) (at o : ℕ) : Type 0 where
   pub room : 0 < o → at + 8 ≤ 8 * length stream
 
 -- The code point at bit k of octet j, or a refusal.
-pub record PointRead (stream : List ℕ) (j k : ℕ) (r : point.Point) : Type 0 where
+pub record PointRead (stream : List ℕ) (j k : ℕ) (r : seen.Point) : Type 0 where
   pub refused : 0 < r.number
       → field_at (read_character base) stream (8 * j + k) ≡ Refused r.number
   pub read : r.number ≡ 0
@@ -79,13 +77,13 @@ pub record Cut (stream : List ℕ) (at n number next left : ℕ) : Type 0 where
   pub stops : Declined (read_character base) stream next number
 
 -- The hash of the text behind the store, 0 after a refusal.
-pub record LiteralHash (text' : List ℕ) (stored n : ℕ) (r : declared.Literal) : Type 0 where
+pub record LiteralHash (text' : List ℕ) (stored n : ℕ) (r : seen.Literal) : Type 0 where
   pub is : r.number ≡ 0 → r.hash ≡ hash_of (part text' (record { place = stored; size = n }))
   pub none : 0 < r.number → r.hash ≡ 0
 
 -- n code points, read to the store's end.
 pub record CharactersRead (stream : List ℕ) (at : ℕ) (text : List ℕ) (stored n : ℕ)
-    (text' : List ℕ) (r : declared.Literal) : Type 0 where
+    (text' : List ℕ) (r : seen.Literal) : Type 0 where
   pub outcome : Outcome (times n (read_character base)) stream at r.number r.next
       (λ x. (text' ≡ laid_at text stored x) × (length x ≡ n))
   pub inside : r.next ≤ 8 * length stream
@@ -109,7 +107,7 @@ pub record Laid (text : List ℕ) (stored n : ℕ) (text' : List ℕ) (v : Form 
 
 -- By the definitions' literal over any tables whose store has so many code points.
 pub record LiteralRead (stream : List ℕ) (at : ℕ) (text : List ℕ) (stored n : ℕ) (text' : List ℕ)
-    (r : declared.Literal) : Type 0 where
+    (r : seen.Literal) : Type 0 where
   pub outcome : (s : Settings) (t : Tables) → length t.store ≡ stored
       → Outcome (read_literal sizes s t n) stream at r.number r.next (Laid text stored n text')
   pub inside : r.next ≤ 8 * length stream

@@ -1,5 +1,5 @@
 -- Bounds, passed on to the functions that are called.
-use Prim.Native.Nat.{ℕ, ◌+◌, ◌*◌, ◌-◌, ◌≤◌}
+use Prim.Native.Nat.{ℕ, suc, ◌+◌, ◌*◌, ◌-◌, ◌≤◌}
 use native.Mathlib.Omega.{arith}
 use mathlib.Core.Path.{◌≡◌, sym, ◌∙◌}
 use mathlib.Core.List.{List}
@@ -8,11 +8,9 @@ use Rattle.spec_fields.specs.Field.{unsigned}
 use Rattle.spec_exi.specs.Sizes.{max_stream, max_uris, max_names}
 use Rattle.mem_names.specs.Uris.{UriRowPre, FindUriPre}
 use Rattle.mem_names.specs.Names.{NameRowPre, FindNamePre, NthNamePre}
-use Rattle.read_field.specs.declared.Field.{Field}
-use Rattle.read_field.specs.declared.Field.TheVariants.{Value}
-use Rattle.read_field.specs.View.{field_at, InStream, NumberPre}
+use Rattle.read_field.specs.View.{Seen, Value, field_at, InStream, NumberPre}
 use Rattle.read_contract.proofs.Outcome.{unsigned-gotten}
-use Rattle.read_literal.specs.declared.Literal as declared
+use Rattle.read_literal.specs.View as seen
 use Rattle.read_literal.specs.Literal.{LiteralPre, LiteralRead}
 use Rattle.mem_index.specs.Index.{numbers}
 use Rattle.read_names.specs.Uris.{UriPre, SeekUriPre}
@@ -28,7 +26,7 @@ module _ {stream : List ℕ} {at : ℕ} {text : List ℕ} {stored : ℕ}
   fits-at h = record { size = fit.size; place = h; room = fit.room; few = fit.few }
 
   -- After a number.
-  pub number_fits : {f : Field} → f ≡ field_at unsigned stream at → {v q : ℕ} → f ≡ Value v q
+  pub number_fits : {f : Seen} → f ≡ field_at unsigned stream at → {v q : ℕ} → f ≡ Value v q
       → LiteralPre stream q text stored
   number_fits answer z = fits-at (unsigned-gotten stream at fit.place (sym answer ∙ z)).inside
 
@@ -66,11 +64,11 @@ module _ {stream : List ℕ} {at : ℕ} {text : List ℕ} {stored : ℕ} {work :
   unfolding max_names
   name-nth-asks = record { room = fit.room; low = fit.low; few = omega (arith, fit.few) }
 
-  pub name-row-asks : {g : ℕ} → g ≤ names → (g ≡ 0 → ⊥) → NameRowPre work (g - 1)
+  pub name-row-asks : {row : ℕ} → suc row ≤ names → NameRowPre work row
   unfolding max_names
-  name-row-asks h ne = record { room = fit.room; low = omega (arith, fit.few) }
+  name-row-asks h = record { room = fit.room; low = omega (arith, fit.few) }
 
-  pub name-seek-asks : {n : ℕ} {text' : List ℕ} {l : declared.Literal}
+  pub name-seek-asks : {n : ℕ} {text' : List ℕ} {l : seen.Literal}
       → LiteralRead stream at text stored n text' l → l.number ≡ 0
       → SeekNamePre text' stored n l.hash work names uri
   name-seek-asks r z =

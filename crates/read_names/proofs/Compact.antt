@@ -26,7 +26,7 @@ use Rattle.mem_rows.specs.Rows.{Rows, tables_of}
 use Rattle.read_contract.specs.Outcome.{Declined, Gotten, Outcome}
 use Rattle.read_contract.proofs.Outcome.{declined-then, gotten-outcome}
 use Rattle.read_literal.specs.Awaits.{Waits}
-use Rattle.read_partition.specs.declared.StringRead.{StringRead}
+use Rattle.read_partition.specs.View.{StringRead}
 use Rattle.read_partition.specs.Strings.{found_as, Tabled, judge, Reading, as_literal}
 use Rattle.read_partition.specs.Strings.{StringPost}
 use Rattle.read_partition.proofs.Literals.{nothing-laid}

@@ -26,13 +26,11 @@ use Rattle.mem_rows.specs.Rows.{Rows, tables_of}
 use Rattle.mem_rows.proofs.Forms.{own-count}
 use Rattle.name_rules.specs.Names.{is_reserved}
 use Rattle.name_rules.proofs.Laws.{attribute-allowed}
-use Rattle.read_field.specs.declared.Field.{Field}
-use Rattle.read_field.specs.declared.Field.TheVariants.{Value, Refused}
-use Rattle.read_field.specs.View.{field_at}
+use Rattle.read_field.specs.View.{Seen, Value, Refused, field_at}
 use Rattle.read_contract.specs.Outcome.{Declined, Gotten}
 use Rattle.read_contract.proofs.Outcome.{declined-number, refused-declined, number-gotten}
 use Rattle.read_contract.proofs.Outcome.{choice-gotten}
-use Rattle.read_partition.specs.declared.StringRead.{StringRead}
+use Rattle.read_partition.specs.View.{StringRead}
 use Rattle.read_partition.specs.Strings.{Reading, refused_as, found_as, Tabled, as_hit}
 use Rattle.read_partition.proofs.Steps.{judge-name}
 use Rattle.read_partition.proofs.Posts.{post-refused}
@@ -81,7 +79,7 @@ hit-forbidden {a} s b t r j es {stream} {at} {q} g h =
 
 module _ (a : Alignment) {stream : List ℕ} {at : ℕ} {text : List ℕ} {stored : ℕ} {work : List ℕ}
     {names uri : ℕ} (fit : NamePre stream at text stored work names uri) {among : ℕ}
-    (c : CountedNames work uri among) {f : Field}
+    (c : CountedNames work uri among) {f : Seen}
     (answer : f ≡ field_at (number_field a (width among)) stream at) (attr : Bool) (place size : ℕ)
   where
     counted : (w : Rows) (store : Text) → Tabled text stored w store
@@ -110,19 +108,16 @@ module _ (a : Alignment) {stream : List ℕ} {at : ℕ} {text : List ℕ} {store
         name-refused-row (omega arith),
       )
 
-      module _ (ne : r ≡ 0 → ⊥) {v : Name} (h : NameAt work (r - 1) v) {b : Bool}
+      module _ {row : ℕ} (row_of : r ≡ suc row) {v : Name} (h : NameAt work row v) {b : Bool}
           (tested : b ≡ (attr && is_reserved (part text (record { place = place; size = size }))
           (part text (record { place = v.place; size = v.size })))) where
-        row_of : r ≡ suc (r - 1)
-        row_of = omega arith
-
         -- Whether the name in the row is allowed, by what was tested.
         own-allowed : {w : Rows} {store : Text} → Tabled text stored w store
             → NameRows work text stored names uri place size w
-            → name_allowed (name_role attr uri w) (text_at w.names (r - 1)) ≡ not b
+            → name_allowed (name_role attr uri w) (text_at w.names row) ≡ not b
         own-allowed {w} t p =
             let u = uri_text w.uris uri in
-            let x = text_at w.names (r - 1) in
+            let x = text_at w.names row in
             let e : b ≡ (attr && is_reserved u x) =
             rw (← p.lies.text, ← name-lies p.hold (nth_inside p.hold n row_of) h) tested in
             attribute-allowed attr u x (own-judged t p n row_of) ∙ ap not (sym e)
@@ -142,7 +137,7 @@ module _ (a : Alignment) {stream : List ℕ} {at : ℕ} {text : List ℕ} {store
               hit-forbidden s d (tables_of w store) (name_role attr uri w) 0 own
               (number-gotten stream at fit.literal.place a (width (length own)) e)
               (record {
-                x = (entry_at w.names (r - 1)).string;
+                x = (entry_at w.names row).string;
                 slot = own-there t p n row_of;
                 whole = refl;
                 strict = own-strict t p n row_of attr;
@@ -153,15 +148,15 @@ module _ (a : Alignment) {stream : List ℕ} {at : ℕ} {text : List ℕ} {store
 
         pub own-found : b ≡ false
             → NameAnswer a attr as_own stream at text stored work names uri place size text
-            (found_as q v.place v.size (r - 1) stored)
+            (found_as q v.place v.size row stored)
         unfolding max_names text_allowed
         own-found e = (
           post-chosen (name_role attr uri) 0 (own_names uri) text fit.literal.place
-              fit.literal.few answer counted z v.place v.size (r - 1)
+              fit.literal.few answer counted z v.place v.size row
               (λ w store t p.
               let l = nth_inside p.hold n row_of in
               record {
-                x = (entry_at w.names (r - 1)).string;
+                x = (entry_at w.names row).string;
                 slot = own-there t p n row_of;
                 whole = refl;
                 strict = own-strict t p n row_of attr;
@@ -197,7 +192,7 @@ unfolding partitions_of
 parted attr uri = record { are = λ w store. refl }
 
 module _ (a : Alignment) {stream : List ℕ} {at : ℕ} {text : List ℕ} {stored : ℕ} {work : List ℕ}
-    {names uri : ℕ} (fit : NamePre stream at text stored work names uri) {f : Field}
+    {names uri : ℕ} (fit : NamePre stream at text stored work names uri) {f : Seen}
     (answer : f ≡ field_at unsigned stream at) (attr : Bool) (place size : ℕ) where
   pub name-refused : {k : ℕ} → f ≡ Refused k
       → NameAnswer a attr as_name stream at text stored work names uri place size text

@@ -30,7 +30,7 @@ use Rattle.mem_rows.proofs.Grown.{name-grows}
 use Rattle.mem_rows.proofs.Within.{names-count, within-local}
 use Rattle.mem_rows.proofs.Forms.{name-fresh}
 use Rattle.name_rules.proofs.Laws.{element-allowed}
-use Rattle.read_literal.specs.declared.Literal as declared
+use Rattle.read_literal.specs.View as seen
 use Rattle.read_literal.specs.Literal.{laid_at, LiteralRead}
 use Rattle.read_partition.specs.Strings.{refused_as, literal_as, Tabled}
 use Rattle.read_partition.proofs.Steps.{judge-loose, judge-name, judge-limit}
@@ -117,7 +117,7 @@ module _ {text : List ℕ} {stored : ℕ} {w : Rows} {store : Text} (t : Tabled 
 -- ---- by what `read_literal`, `seek_name` and `allowed` answer
 
 module _ {stream : List ℕ} {at : ℕ} {text : List ℕ} {stored : ℕ} {work : List ℕ}
-    {names uri n : ℕ} {text' : List ℕ} {l : declared.Literal}
+    {names uri n : ℕ} {text' : List ℕ} {l : seen.Literal}
     (fit : NamePre stream at text stored work names uri)
     (r : LiteralRead stream at text stored n text' l) (attr : Bool) {place size : ℕ} where
   pub new-refused : (l.number ≡ 0 → ⊥) → {a : Alignment}

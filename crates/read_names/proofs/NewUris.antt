@@ -24,7 +24,7 @@ use Rattle.mem_rows.proofs.Joins.{uri-joins}
 use Rattle.mem_rows.proofs.Grown.{uri-grows}
 use Rattle.mem_rows.proofs.Forms.{uri-fresh}
 use Rattle.mem_rows.proofs.Within.{within-uri}
-use Rattle.read_literal.specs.declared.Literal as declared
+use Rattle.read_literal.specs.View as seen
 use Rattle.read_literal.specs.Literal.{laid_at, LiteralRead}
 use Rattle.read_partition.specs.Strings.{refused_as, literal_as, Tabled}
 use Rattle.read_partition.proofs.Steps.{judge-loose, judge-limit}
@@ -89,7 +89,7 @@ module _ {text : List ℕ} {stored : ℕ} {w : Rows} {store : Text} (t : Tabled 
 -- ---- by what `read_literal` and `seek_uri` answer
 
 module _ {stream : List ℕ} {at : ℕ} {text : List ℕ} {stored : ℕ} {work : List ℕ} {uris n : ℕ}
-    {text' : List ℕ} {l : declared.Literal} (fit : UriPre stream at text stored work uris)
+    {text' : List ℕ} {l : seen.Literal} (fit : UriPre stream at text stored work uris)
     (r : LiteralRead stream at text stored n text' l) where
   pub new-refused : (l.number ≡ 0 → ⊥) → {a : Alignment}
       → UriPost a (as_new_uri n) stream at text stored work uris text'

@@ -25,14 +25,12 @@ use Rattle.mem_names.specs.Uris.{uri_at, uri_text, has_uri, row_of, UrisHold, Is
 use Rattle.mem_names.proofs.Tables.{uri-nth}
 use Rattle.mem_rows.specs.Rows.{Rows, tables_of}
 use Rattle.mem_rows.proofs.Forms.{uri-form}
-use Rattle.read_field.specs.declared.Field.{Field}
-use Rattle.read_field.specs.declared.Field.TheVariants.{Value, Refused}
-use Rattle.read_field.specs.View.{field_at}
+use Rattle.read_field.specs.View.{Seen, Value, Refused, field_at}
 use Rattle.read_contract.specs.Outcome.{Gotten}
 use Rattle.read_contract.proofs.Outcome.{declined-number, refused-declined, number-gotten}
 use Rattle.read_contract.proofs.Outcome.{unsigned-gotten, choice-declined, choice-gotten}
 use Rattle.read_contract.proofs.Outcome.{choice-none}
-use Rattle.read_partition.specs.declared.StringRead.{StringRead}
+use Rattle.read_partition.specs.View.{StringRead}
 use Rattle.read_partition.specs.Strings.{refused_as, found_as, Tabled, Reading}
 use Rattle.read_partition.proofs.Hits.{Chosen}
 use Rattle.read_partition.proofs.Posts.{post-refused}
@@ -115,7 +113,7 @@ UriAnswer a read stream at text stored work uris text' r =
     × UriRowed text stored work uris text' r
 
 module _ (a : Alignment) {stream : List ℕ} {at : ℕ} {text : List ℕ} {stored : ℕ} {work : List ℕ}
-    {uris : ℕ} (fit : UriPre stream at text stored work uris) {f : Field}
+    {uris : ℕ} (fit : UriPre stream at text stored work uris) {f : Seen}
     (answer : f ≡ field_at (number_field a (width (uris + 1))) stream at) where
   pub uri-refused : {k : ℕ} → f ≡ Refused k
       → UriAnswer a as_uri stream at text stored work uris text (refused_as k at 0 stored)
@@ -213,7 +211,7 @@ module _ (a : Alignment) {stream : List ℕ} {at : ℕ} {text : List ℕ} {store
 -- ---- the length of a literal
 
 module _ {stream : List ℕ} {at : ℕ} {text : List ℕ} {stored : ℕ} {work : List ℕ} {uris : ℕ}
-    (fit : UriPre stream at text stored work uris) {f : Field}
+    (fit : UriPre stream at text stored work uris) {f : Seen}
     (answer : f ≡ field_at unsigned stream at) where
   pub missed-refused : {k : ℕ} → f ≡ Refused k → {a : Alignment}
       → UriPost a as_missed stream at text stored work uris text (refused_as k at 0 stored)

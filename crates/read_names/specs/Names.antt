@@ -12,7 +12,7 @@ use Rattle.mem_names.specs.Uris.{uri_text}
 use Rattle.mem_names.specs.Names.{NamesHold}
 use Rattle.mem_rows.specs.Rows.{Rows, tables_of, with_name}
 use Rattle.read_literal.specs.Literal.{LiteralPre}
-use Rattle.read_partition.specs.declared.StringRead.{StringRead}
+use Rattle.read_partition.specs.View.{StringRead}
 use Rattle.read_partition.specs.Strings.{Hashed, Reading, as_string, as_hit, as_literal, StringPost}
 use Rattle.read_names.specs.Uris.{Spans}
 

@@ -11,7 +11,7 @@ use Rattle.mem_entries.specs.Texts.{throughout}
 use Rattle.mem_names.specs.Uris.{uri_at, UrisHold}
 use Rattle.mem_rows.specs.Rows.{Rows, with_uri}
 use Rattle.read_literal.specs.Literal.{LiteralPre}
-use Rattle.read_partition.specs.declared.StringRead.{StringRead}
+use Rattle.read_partition.specs.View.{StringRead}
 use Rattle.read_partition.specs.Strings.{judge, Reading, as_string, as_literal, StringPost}
 
 -- ---- bounds

@@ -3,32 +3,34 @@
 // accepted. What the functions ask and leave is in specs/.
 #![tactic(auto)]
 
-ghost use Rattle.std.specs.Prelude.{◌≡◌, ◌&&◌, List, ℕ, ◌≤◌};
+ghost use Rattle.std.specs.Prelude.{◌≡◌, ◌&&◌, List, ℕ, ◌≤◌, Result};
 ghost use Rattle.spec_fields.specs.Field.{Alignment};
 ghost use Rattle.text.specs.Text.{part};
 ghost use Rattle.spec_exi.specs.Sizes.{max_store};
 ghost use Rattle.spec_exi.specs.Tables.{local, name_allowed};
+ghost use Rattle.mem_chain.specs.Chain.{link_of};
 ghost use Rattle.mem_names.specs.Uris.{uri_store, FoundUri};
 ghost use Rattle.mem_names.specs.Names.{name_store, FoundName};
 ghost use Rattle.name_rules.specs.Names.{is_reserved};
 ghost use Rattle.read_field.specs.View.{alignment_of};
+ghost use Rattle.read_partition.specs.View.{string_in};
 ghost use Rattle.read_names.specs.Uris.{UriPre, SeekUriPre, as_uri, as_missed, as_new_uri};
 ghost use Rattle.read_names.specs.Uris.{UriPost, UriRowed};
 ghost use Rattle.read_names.specs.Names.{NamePre, SeekNamePre, as_name, as_own, as_new_name};
 ghost use Rattle.read_names.specs.Names.{NamePost, NameRowed};
 
-use read_field::Field;
-use read_partition::StringRead;
-use refusal::{LIMIT, LOOSE, NAME, REFERENCE};
+use read_literal::Stopped;
+use read_partition::{StringRead, dropped, found, laid, refused};
+use refusal::Refusal;
 use sizes::{MAX_NAMES, MAX_URIS};
 
 // ---- URIs
 
-// The row and 1 of the URI whose text is the n code points after the store, or 0 for none.
-fn seek_uri(text: &[u32], stored: usize, n: u32, work: &[u32], uris: u32) -> u32
+// The row of the URI whose text is the n code points after the store.
+fn seek_uri(text: &[u32], stored: usize, n: u32, work: &[u32], uris: u32) -> Option<u32>
     requires { SeekUriPre stored work.now uris }
     ensures { FoundUri work.now (uri_store text.now text.now)
-        (part text.now (record { place = stored; size = n })) uris result }
+        (part text.now (record { place = stored; size = n })) uris (link_of result) }
 {
     let x = text::look_up(text, stored as u32, n);
     mem_names::find_uri(work, text, text, x, uris)
@@ -43,24 +45,20 @@ fn new_uri(
     stored: usize,
     text: &mut [u32],
     work: &[u32],
-) -> StringRead
+) -> Result<StringRead, Stopped>
     requires { UriPre stream.now at text.old stored work.now uris }
     ensures uri_post { (a : Alignment) → UriPost a (as_new_uri n) stream.now at text.old
-        stored work.now uris text.new result }
-    ensures uri_rowed { UriRowed text.old stored work.now uris text.new result }
+        stored work.now uris text.new (string_in result) }
+    ensures uri_rowed { UriRowed text.old stored work.now uris text.new (string_in result) }
 {
-    let read = read_literal::read_literal(stream, at, text, stored, n);
-    if read.number != 0 {
-        return read_partition::refused(read.number, read.next, read.left, stored);
-    }
-    let row = seek_uri(text, stored, n, work, uris);
-    if row != 0 {
-        return read_partition::dropped(LOOSE, read.next, n, stored, text);
+    let read = read_literal::read_literal(stream, at, text, stored, n)?;
+    if let Some(_) = seek_uri(text, stored, n, work, uris) {
+        return Err(dropped(Refusal::Loose, read.next, n, stored, text));
     }
     if MAX_URIS <= uris as usize {
-        return read_partition::dropped(LIMIT, read.next, n, stored, text);
+        return Err(dropped(Refusal::Limit, read.next, n, stored, text));
     }
-    read_partition::laid(read.next, stored, n, uris, true, 0)
+    Ok(laid(read.next, stored, n, uris, Some(0)))
 }
 
 // The String of a URI that is no hit.
@@ -71,16 +69,14 @@ fn missed_uri(
     stored: usize,
     text: &mut [u32],
     work: &[u32],
-) -> StringRead
+) -> Result<StringRead, Stopped>
     requires { UriPre stream.now at text.old stored work.now uris }
     ensures uri_post { (a : Alignment) → UriPost a as_missed stream.now at text.old stored
-        work.now uris text.new result }
-    ensures uri_rowed { UriRowed text.old stored work.now uris text.new result }
+        work.now uris text.new (string_in result) }
+    ensures uri_rowed { UriRowed text.old stored work.now uris text.new (string_in result) }
 {
-    match read_field::unsigned(stream, at) {
-        Field::Refused(k) => read_partition::refused(k as u32, at, 0, stored),
-        Field::Value { value, next } => { new_uri(stream, next, value, uris, stored, text, work) }
-    }
+    let field = read_field::unsigned(stream, at).map_err(|refusal| refused(refusal, at, stored))?;
+    new_uri(stream, field.next, field.value, uris, stored, text, work)
 }
 
 // The URI of a name.
@@ -92,25 +88,24 @@ pub fn read_uri(
     stored: usize,
     text: &mut [u32],
     work: &[u32],
-) -> StringRead
+) -> Result<StringRead, Stopped>
     requires { UriPre stream.now at text.old stored work.now uris }
     ensures uri_post { UriPost (alignment_of aligned) as_uri stream.now at text.old stored
-        work.now uris text.new result }
-    ensures uri_rowed { UriRowed text.old stored work.now uris text.new result }
+        work.now uris text.new (string_in result) }
+    ensures uri_rowed { UriRowed text.old stored work.now uris text.new (string_in result) }
 {
-    match read_field::choice(aligned, stream, at, uris + 1) {
-        Field::Refused(k) => read_partition::refused(k as u32, at, 0, stored),
-        Field::Value { value, next } => {
-            if value == 0 {
-                return missed_uri(stream, next, uris, stored, text, work);
-            }
-            if uris < value {
-                return read_partition::refused(REFERENCE, at, 0, stored);
-            }
-            let u = mem_names::uri_at(work, value - 1);
-            read_partition::found(next, u.place, u.size, value - 1, stored)
-        }
+    let field = read_field::choice(aligned, stream, at, uris + 1).map_err(|refusal| refused(
+        refusal, at, stored,
+    ))?;
+    if field.value == 0 {
+        return missed_uri(stream, field.next, uris, stored, text, work);
     }
+    if uris < field.value {
+        return Err(refused(Refusal::Reference, at, stored));
+    }
+    let row = field.value - 1;
+    let u = mem_names::uri_at(work, row);
+    Ok(found(field.next, u.place, u.size, row, stored))
 }
 
 // ---- local names
@@ -141,31 +136,27 @@ fn own_name(
     stored: usize,
     text: &[u32],
     work: &[u32],
-) -> StringRead
+) -> Result<StringRead, Stopped>
     requires { NamePre stream.now at text.now stored work.now names uri }
     ensures name_post { NamePost (alignment_of aligned) attr as_own stream.now at text.now
-        stored work.now names uri place size text.now result }
-    ensures name_rowed { NameRowed text.now stored work.now names uri text.now result }
+        stored work.now names uri place size text.now (string_in result) }
+    ensures name_rowed { NameRowed text.now stored work.now names uri text.now (string_in result) }
 {
     let among = mem_names::count_names(work, uri);
-    match read_field::choice(aligned, stream, at, among) {
-        Field::Refused(k) => read_partition::refused(k as u32, at, 0, stored),
-        Field::Value { value, next } => {
-            let g = mem_names::nth_name(work, uri, value, names);
-            if g == 0 {
-                return read_partition::refused(REFERENCE, at, 0, stored);
-            }
-            let x = mem_names::name_at(work, g - 1);
-            if reserved(text, attr, place, size, x.place, x.size) {
-                return read_partition::refused(NAME, next, 0, stored);
-            }
-            read_partition::found(next, x.place, x.size, g - 1, stored)
-        }
+    let field = read_field::choice(aligned, stream, at, among).map_err(|refusal| refused(
+        refusal, at, stored,
+    ))?;
+    let Some(row) = mem_names::nth_name(work, uri, field.value, names) else {
+        return Err(refused(Refusal::Reference, at, stored));
+    };
+    let x = mem_names::name_at(work, row);
+    if reserved(text, attr, place, size, x.place, x.size) {
+        return Err(refused(Refusal::Name, field.next, stored));
     }
+    Ok(found(field.next, x.place, x.size, row, stored))
 }
 
-// The row and 1 of the name of the URI whose text is the n code points after the store, or 0 for
-// none.
+// The row of the name of the URI whose text is the n code points after the store.
 fn seek_name(
     text: &[u32],
     stored: usize,
@@ -174,10 +165,10 @@ fn seek_name(
     work: &[u32],
     names: u32,
     uri: u32,
-) -> u32
+) -> Option<u32>
     requires { SeekNamePre text.now stored n hash work.now names uri }
     ensures { FoundName work.now (name_store text.now text.now) uri
-        (part text.now (record { place = stored; size = n })) hash names result }
+        (part text.now (record { place = stored; size = n })) hash names (link_of result) }
 {
     let x = text::look_up(text, stored as u32, n);
     mem_names::find_name(work, text, text, uri, x, hash, names)
@@ -208,28 +199,24 @@ fn new_name(
     stored: usize,
     text: &mut [u32],
     work: &[u32],
-) -> StringRead
+) -> Result<StringRead, Stopped>
     requires { NamePre stream.now at text.old stored work.now names uri }
     ensures name_post { (a : Alignment) → NamePost a attr (as_new_name n) stream.now at
         text.old stored work.now names uri place size text.new
-        result }
-    ensures name_rowed { NameRowed text.old stored work.now names uri text.new result }
+        (string_in result) }
+    ensures name_rowed { NameRowed text.old stored work.now names uri text.new (string_in result) }
 {
-    let read = read_literal::read_literal(stream, at, text, stored, n);
-    if read.number != 0 {
-        return read_partition::refused(read.number, read.next, read.left, stored);
-    }
-    let row = seek_name(text, stored, n, read.hash, work, names, uri);
-    if row != 0 {
-        return read_partition::dropped(LOOSE, read.next, n, stored, text);
+    let read = read_literal::read_literal(stream, at, text, stored, n)?;
+    if let Some(_) = seek_name(text, stored, n, read.hash, work, names, uri) {
+        return Err(dropped(Refusal::Loose, read.next, n, stored, text));
     }
     if !allowed(text, attr, place, size, stored, n) {
-        return read_partition::dropped(NAME, read.next, n, stored, text);
+        return Err(dropped(Refusal::Name, read.next, n, stored, text));
     }
     if MAX_NAMES <= names as usize {
-        return read_partition::dropped(LIMIT, read.next, n, stored, text);
+        return Err(dropped(Refusal::Limit, read.next, n, stored, text));
     }
-    read_partition::laid(read.next, stored, n, names, true, read.hash)
+    Ok(laid(read.next, stored, n, names, Some(read.hash)))
 }
 
 // A local name of the URI with this row, whose text lies at this place: an attribute's where attr,
@@ -246,33 +233,21 @@ pub fn read_local(
     stored: usize,
     text: &mut [u32],
     work: &[u32],
-) -> StringRead
+) -> Result<StringRead, Stopped>
     requires { NamePre stream.now at text.old stored work.now names uri }
     ensures name_post { NamePost (alignment_of aligned) attr as_name stream.now at text.old
-        stored work.now names uri place size text.new result }
-    ensures name_rowed { NameRowed text.old stored work.now names uri text.new result }
+        stored work.now names uri place size text.new (string_in result) }
+    ensures name_rowed { NameRowed text.old stored work.now names uri text.new (string_in result) }
 {
-    match read_field::unsigned(stream, at) {
-        Field::Refused(k) => read_partition::refused(k as u32, at, 0, stored),
-        Field::Value { value, next } => {
-            if value == 0 {
-                return own_name(
-                    aligned, stream, next, attr, uri, place, size, names, stored, text, work,
-                );
-            }
-            new_name(
-                stream,
-                next,
-                value - 1,
-                attr,
-                uri,
-                place,
-                size,
-                names,
-                stored,
-                text,
-                work,
-            )
-        }
+    let field = read_field::unsigned(stream, at).map_err(|refusal| refused(refusal, at, stored))?;
+    let next = field.next;
+    if field.value == 0 {
+        return own_name(
+            aligned, stream, next, attr, uri, place, size, names, stored, text, work,
+        );
     }
+    let n = field.value - 1;
+    new_name(
+        stream, next, n, attr, uri, place, size, names, stored, text, work,
+    )
 }

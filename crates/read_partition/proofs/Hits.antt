@@ -17,9 +17,7 @@ use Rattle.spec_exi.specs.Tables.{Placed, Slot, Tables, Role, partitions_of, hit
 use Rattle.spec_exi.specs.Tables.{name_allowed, text_allowed}
 use Rattle.spec_exi.specs.Reader.{read_hit}
 use Rattle.mem_rows.specs.Rows.{Rows, tables_of}
-use Rattle.read_field.specs.declared.Field.{Field}
-use Rattle.read_field.specs.declared.Field.TheVariants.{Value, Refused}
-use Rattle.read_field.specs.View.{field_at}
+use Rattle.read_field.specs.View.{Seen, Value, Refused, field_at}
 use Rattle.read_contract.specs.Outcome.{Declined, Gotten}
 use Rattle.read_contract.proofs.Outcome.{declined-number, declined-then}
 use Rattle.read_contract.proofs.Outcome.{refused-declined}
@@ -80,7 +78,7 @@ module _ {a : Alignment} (s : Settings) (b : s.alignment ≡ a) (t : Tables) (r 
 -- ---- as a function answers it
 
 -- The number of a choice among so many.
-module _ (a : Alignment) (stream : List ℕ) (at : ℕ) {n : ℕ} {f : Field}
+module _ (a : Alignment) (stream : List ℕ) (at : ℕ) {n : ℕ} {f : Seen}
     (answer : f ≡ field_at (number_field a (width n)) stream at)
     (es : List Slot) (count : length es ≡ n) where
   number-refused : {k : ℕ} → f ≡ Refused k → Declined (choice a reference es) stream at k
@@ -98,7 +96,7 @@ module _ {a : Alignment} {Premise : Rows → Type 0} (role : Rows → Role) (j :
     (es : Rows → Text → List Slot)
     {join : Rows → Placed → Rows} {stream : List ℕ} {at : ℕ} (text : List ℕ) {stored : ℕ}
     (l : at ≤ 8 * length stream)
-    (few : stored ≤ max_store) {n : ℕ} {f : Field}
+    (few : stored ≤ max_store) {n : ℕ} {f : Seen}
     (answer : f ≡ field_at (number_field a (width n)) stream at)
     (count : (w : Rows) (store : Text) → Tabled text stored w store → Premise w
     → length (es w store) ≡ n) where

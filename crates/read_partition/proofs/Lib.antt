@@ -3,3 +3,4 @@ pub mod Steps
 pub mod Posts
 pub mod Hits
 pub mod Numbers
+pub mod Fields

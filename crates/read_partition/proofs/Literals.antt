@@ -11,7 +11,7 @@ use Rattle.text.proofs.Parts.{part-take}
 use Rattle.spec_exi.specs.Sizes.{max_store}
 use Rattle.mem_entries.specs.Texts.{Grown, Lies}
 use Rattle.mem_rows.specs.Rows.{Rows, tables_of}
-use Rattle.read_literal.specs.declared.Literal as declared
+use Rattle.read_literal.specs.View as seen
 use Rattle.read_literal.specs.Literal.{laid_at, LiteralPre, LiteralRead}
 use Rattle.read_literal.proofs.Store.{laid_none, laid-part, laid-size, laid-before}
 use Rattle.read_partition.specs.Strings.{Tabled, found_as, Laid}
@@ -60,7 +60,7 @@ lies_grown {before} {after} {stored} {place = place} {size = size} g l =
 
 -- By what `read_literal` answers.
 module _ {stream : List ℕ} {at : ℕ} {text : List ℕ} {stored n : ℕ} {text' : List ℕ}
-    {l : declared.Literal} (fit : LiteralPre stream at text stored)
+    {l : seen.Literal} (fit : LiteralPre stream at text stored)
     (r : LiteralRead stream at text stored n text' l) (z : l.number ≡ 0) where
   pub text-laid : (x : Text) → length x ≡ n → text' ≡ laid_at text stored x
       → TextLaid text stored n text' x

@@ -12,12 +12,10 @@ use Rattle.spec_exi.specs.Settings.{Settings}
 use Rattle.spec_exi.specs.Sizes.{sizes, max_store}
 use Rattle.spec_exi.specs.Tables.{Placed, Slot, Tables, Role, literals, partitions_of}
 use Rattle.mem_rows.specs.Rows.{Rows, tables_of}
-use Rattle.read_field.specs.declared.Field.{Field}
-use Rattle.read_field.specs.declared.Field.TheVariants.{Value, Refused}
-use Rattle.read_field.specs.View.{field_at}
+use Rattle.read_field.specs.View.{Seen, Value, Refused, field_at}
 use Rattle.read_contract.specs.Outcome.{Declined, Gotten, Outcome}
 use Rattle.read_contract.proofs.Outcome.{declined-number, refused-declined, unsigned-gotten}
-use Rattle.read_partition.specs.declared.StringRead.{StringRead}
+use Rattle.read_partition.specs.View.{StringRead}
 use Rattle.read_partition.specs.Strings.{refused_as, Tabled, as_string, as_hit, as_literal, StringPost}
 use Rattle.read_partition.proofs.Steps.{Comes, comes-declined, comes-gotten, number-refused, hit-comes}
 use Rattle.read_partition.proofs.Steps.{literal-comes, hit-waits, literal-waits}
@@ -39,7 +37,7 @@ pub record Parted (role : Rows → Role) (ess : Rows → Text → List (List Slo
 module _ {a : Alignment} {Premise : Rows → Type 0} {role : Rows → Role} {ess : Rows → Text → List (List Slot)}
     (e : Parted role ess)
     {join : Rows → Placed → Rows} {stream : List ℕ} {at : ℕ} {text : List ℕ} {stored : ℕ} (l : at ≤ 8 * length stream)
-    {f : Field}
+    {f : Seen}
     (answer : f ≡ field_at unsigned stream at) where
   pub post-number : stored ≤ max_store → {k : ℕ} → f ≡ Refused k
       → StringPost a Premise (λ w store. as_string (role w)) join stream at text stored text (refused_as k at 0 stored)

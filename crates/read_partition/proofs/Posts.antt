@@ -24,7 +24,7 @@ use Rattle.mem_rows.specs.Valid.{Valid}
 use Rattle.read_contract.specs.Outcome.{Declined, Gotten}
 use Rattle.read_contract.proofs.Outcome.{refused-outcome, gotten-outcome, declined-then}
 use Rattle.read_literal.proofs.Awaits.{awaits-then}
-use Rattle.read_literal.specs.declared.Literal as declared
+use Rattle.read_literal.specs.View as seen
 use Rattle.read_literal.specs.Literal.{laid_at, LiteralRead}
 use Rattle.read_literal.specs.Literal as lit
 use Rattle.read_literal.proofs.Store.{laid_none, laid-over, laid-part}
@@ -144,7 +144,7 @@ record LiteralIs (s : Settings) (t : Tables) (n : ℕ) (stream : List ℕ) (at n
   after : at ≤ next
   inside : next ≤ 8 * length stream
 
-literal-is : {n : ℕ} {stream : List ℕ} {at : ℕ} {text : List ℕ} {stored : ℕ} {text' : List ℕ} {l : declared.Literal}
+literal-is : {n : ℕ} {stream : List ℕ} {at : ℕ} {text : List ℕ} {stored : ℕ} {text' : List ℕ} {l : seen.Literal}
     → LiteralRead stream at text stored n text' l → l.number ≡ 0 → (s : Settings) (t : Tables)
     → length t.store ≡ stored
     → LiteralIs s t n stream at l.next text stored text'
@@ -174,7 +174,7 @@ pub record Passes (join : Rows → Placed → Rows) (role : Role) (w : Rows) (st
       → added (tables_of w store) role x ≡ tables_of (join w (laid (tables_of w store) x)) (store ++ x)
   pub valid : joins ≡ true → Valid (join w (laid (tables_of w store) x))
 
-module _ {n : ℕ} {stream : List ℕ} {at : ℕ} {text : List ℕ} {stored : ℕ} {text' : List ℕ} {l : declared.Literal}
+module _ {n : ℕ} {stream : List ℕ} {at : ℕ} {text : List ℕ} {stored : ℕ} {text' : List ℕ} {l : seen.Literal}
     (r : LiteralRead stream at text stored n text' l) where
   literal-laid : l.number ≡ 0 → (row : ℕ) (joins : Bool) (hash : ℕ)
       → Laid text stored text' (literal_as l.next stored n row joins hash)
@@ -218,7 +218,7 @@ literal-gotten role w store s q v =
 
 module _ {a : Alignment} {Premise : Rows → Type 0} (role : Rows → Role) {join : Rows → Placed → Rows} {n : ℕ}
     {stream : List ℕ} {at : ℕ}
-    {text : List ℕ} {stored : ℕ} {text' : List ℕ} {l : declared.Literal}
+    {text : List ℕ} {stored : ℕ} {text' : List ℕ} {l : seen.Literal}
     (r : LiteralRead stream at text stored n text' l) where
   -- It is refused, and waits for more where it was cut.
   pub literal-refused : 0 < l.number

@@ -19,21 +19,7 @@ use Rattle.mem_rows.specs.Valid.{Valid}
 use Rattle.read_contract.specs.Outcome.{Outcome}
 use Rattle.read_literal.specs.Awaits.{Waits}
 use Rattle.read_literal.specs.Literal.{laid_at, Cleared}
-use Rattle.read_partition.specs.declared.StringRead.{StringRead}
-
-abbrev pub refused_as : ℕ → ℕ → ℕ → ℕ → StringRead
-refused_as number next left stored =
-    record {
-      number = number;
-      next = next;
-      left = left;
-      place = 0;
-      size = 0;
-      row = 0;
-      stored = stored;
-      joins = false;
-      hash = 0;
-    }
+pub use Rattle.read_partition.specs.View.{StringRead, refused_as}
 
 abbrev pub found_as : ℕ → ℕ → ℕ → ℕ → ℕ → StringRead
 found_as next place size row stored =

@@ -1,19 +1,17 @@
 -- What `read_between` leaves at each `return`: an event code of a fragment's content.
 use Prim.Native.Nat.{ℕ, ◌+◌, ◌-◌, ◌*◌, ◌≤◌, ◌<◌}
 use native.Mathlib.Omega.{arith}
-use mathlib.Core.Path.{◌≡◌, refl, sym, ap, subst, ◌∙◌}
+use mathlib.Core.Path.{◌≡◌, sym, ap, subst, ◌∙◌}
 use mathlib.Core.Bool.{true≢false}
 use mathlib.Core.List.{List, [], ◌∷◌}
 use lib.ListN.{length, get_or, get_elem?, drop}
 use lib.Dec.{eqb}
 use borrow.Author.Tests.{eqb-true, eqb-false}
 use Rattle.spec_fields.proofs.Tests.{split}
-use Rattle.text.specs.Text.{Text}
 use Rattle.spec_exi.specs.Event.{Kind, SD}
 use Rattle.spec_exi.specs.Sizes.{max_stream}
 use Rattle.spec_exi.specs.Settings.{Settings}
 use Rattle.spec_exi.specs.Grammar.{kind_number}
-use Rattle.spec_exi.specs.Context.{levels_in}
 use Rattle.spec_exi.specs.Reader.{read_code}
 use Rattle.event_code.specs.Numbers.{in_fragment}
 use Rattle.grammar_codes.specs.Table.{kept_kinds, table_of, no_kinds, values_of, leads_on, fixed_levels}
@@ -24,16 +22,15 @@ use Rattle.read_field.specs.View.{NumberPre}
 use Rattle.mem_index.specs.Index.{numbers}
 use Rattle.mem_layout.specs.Layout.{name_rows, fragment_site}
 use Rattle.mem_learned.specs.Learned.{SitedPre, CountedAt}
-use Rattle.mem_rows.specs.Rows.{Rows, context_of}
+use Rattle.mem_rows.specs.Rows.{Rows}
 use Rattle.mem_rows.specs.Valid.{SiteFits, Valid}
 use Rattle.read_contract.specs.Outcome.{Outcome}
 use Rattle.grammar_match.specs.Here.{site_in, CodeRows, learned_here}
 use Rattle.grammar_match.proofs.Here.{site-fits, outer-site, count-inside, levels-here, inner-here}
 use Rattle.grammar_match.proofs.Here.{table_empty}
 use Rattle.grammar_match.proofs.Codes.{count-is}
-use Rattle.read_production.specs.declared.ProductionRead.{ProductionRead}
-use Rattle.read_production.specs.Answers.{refused_as, fixed_as}
-use Rattle.read_production.specs.Levels.{PartRead, FixedRead, KeptRead}
+use Rattle.read_production.specs.View.{ProductionRead, refused_as, fixed_as}
+use Rattle.read_production.specs.Levels.{PartRead, KeptRead}
 use Rattle.read_production.specs.Learned.{LearnedPre, IsLearned, ChildRead}
 use Rattle.read_production.specs.Production.{ProductionPre, ProductionBounds, ProductionPost}
 use Rattle.read_production.proofs.Levels.{FirstRead, table-refused, table-fixed}

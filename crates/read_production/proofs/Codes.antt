@@ -27,8 +27,7 @@ use Rattle.grammar_match.proofs.Here.{inner-here}
 use Rattle.grammar_match.proofs.Unfit.{number-kind}
 use Rattle.grammar_match.proofs.Codes.{fixed-strict, fixed-other, learned-strict}
 use Rattle.event_code.specs.Numbers.{in_fragment}
-use Rattle.read_production.specs.declared.ProductionRead.{ProductionRead}
-use Rattle.read_production.specs.Answers.{fixed_as}
+use Rattle.read_production.specs.View.{ProductionRead, fixed_as}
 use Rattle.read_production.specs.Learned.{IsLearned}
 use Rattle.read_production.specs.Production.{IsCode}
 

@@ -9,7 +9,7 @@ use Rattle.spec_fields.specs.Refusal.{number_of, code}
 use Rattle.spec_fields.specs.Field.{Alignment, number_field, width, choice}
 use Rattle.spec_exi.specs.Grammar.{Production, Code, choices, at_level, below}
 use Rattle.spec_exi.specs.Reader.{read_part, read_code}
-use Rattle.read_field.specs.declared.Field.TheVariants.{Value, Refused}
+use Rattle.read_field.specs.View.{Value, Refused}
 use Rattle.read_field.specs.View.{field_at}
 use Rattle.read_contract.specs.Outcome.{Gotten, Outcome}
 use Rattle.read_contract.proofs.Outcome.{declined-number, refused-declined, number-gotten}

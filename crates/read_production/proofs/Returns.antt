@@ -30,8 +30,7 @@ use Rattle.grammar_match.proofs.Here.{site-fits, site-low, count-asks, count-ins
 use Rattle.grammar_match.proofs.Here.{outer-here, inner-here, table_empty}
 use Rattle.grammar_match.proofs.Codes.{count-is}
 use Rattle.event_code.specs.Numbers.{in_fragment, in_tag, in_element}
-use Rattle.read_production.specs.declared.ProductionRead.{ProductionRead}
-use Rattle.read_production.specs.Answers.{refused_as, fixed_as}
+use Rattle.read_production.specs.View.{ProductionRead, refused_as, fixed_as}
 use Rattle.read_production.specs.Levels.{PartRead, FixedPre, FixedRead, FixedAt, own_count}
 use Rattle.read_production.specs.Learned.{LearnedPre, IsLearned, LearnedRead}
 use Rattle.read_production.specs.Production.{ProductionPre, ProductionBounds, IsCode}
@@ -49,8 +48,8 @@ own-most mode e =
 
 module _ {stream : List ℕ} {at top learned : ℕ} {work : List ℕ}
     (h : ProductionPre stream at top learned work) where
-  pub fixed-asks : {next : ℕ} → next ≤ 8 * length stream → FixedPre stream next at
-  fixed-asks l = record { size = h.size; place = l; start = h.place }
+  pub fixed-asks : {next : ℕ} → next ≤ 8 * length stream → FixedPre stream next
+  fixed-asks l = record { size = h.size; place = l }
 
   pub site-asks : (mode : ℕ) {site : ℕ} → site ≡ site_in mode top → SitedPre work site 0
   site-asks mode e = count-asks mode (record { room = h.room; low = h.low }) e

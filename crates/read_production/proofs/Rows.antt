@@ -1,5 +1,5 @@
 -- The learned production that a code names, by its row.
-use Prim.Native.Nat.{ℕ, suc, ◌-◌, ◌/◌, ◌≤◌, ◌<◌}
+use Prim.Native.Nat.{ℕ, suc, ◌-◌, ◌≤◌, ◌<◌}
 use native.Mathlib.Omega.{arith}
 use mathlib.Core.Path.{◌≡◌, refl, sym, ap, ◌∙◌}
 use mathlib.Core.Bool.{true}
@@ -8,7 +8,7 @@ use mathlib.Core.Option.{some}
 use lib.ListN.{length, get_elem?}
 use Rattle.spec_fields.specs.Refusal.{number_of, number_code}
 use Rattle.spec_exi.specs.Sizes.{max_learned}
-use Rattle.spec_exi.specs.Grammar.{Production, kind_number, learned_in}
+use Rattle.spec_exi.specs.Grammar.{kind_number, learned_in}
 use Rattle.mem_chain.specs.Chain.{last_that}
 use Rattle.mem_chain.proofs.Last.{last-is, last-most}
 use Rattle.mem_index.specs.Index.{tally, has_key, is_numbered}
@@ -27,9 +27,9 @@ use Rattle.mem_state.proofs.Taught.{taught-count, taught-row, learns-of}
 use Rattle.grammar_match.proofs.Unfit.{kind-number}
 use Rattle.grammar_match.proofs.Rows.{site-key, production-is, first-is}
 use Rattle.event_code.specs.Numbers.{number_of_se, number_of_ch}
-use Rattle.read_production.specs.Answers.{refused_as}
+use Rattle.read_production.specs.View.{refused_as}
 use Rattle.mem_layout.specs.Layout.{fragment_site}
-use Rattle.read_production.specs.declared.ProductionRead.{ProductionRead}
+use Rattle.read_production.specs.View.{ProductionRead}
 use Rattle.read_production.specs.Learned.{LearnedPre, IsLearned, LearnedRead, ChildRead}
 
 -- ---- the one of a site that has v newer ones
@@ -157,9 +157,9 @@ module _ {work : List ℕ} {site learned : ℕ} (h : LearnedPre work site learne
   unfolding max_learned
   nth-asks = record { room = h.room; low = h.low; few = h.few }
 
-  pub row-asks : {r : ℕ} → r ≤ learned → (r ≡ 0 → ⊥) → LearnedRowPre work (r - 1)
+  pub row-asks : {row : ℕ} → suc row ≤ learned → LearnedRowPre work row
   unfolding max_learned
-  row-asks l n = record { room = h.room; low = omega (arith, h.few) }
+  row-asks l = record { room = h.room; low = omega (arith, l, h.few) }
 
 module _ {work : List ℕ} {site count v learned r : ℕ}
     (nth : NthLearned work site count v learned r) (at next : ℕ) where
@@ -182,54 +182,62 @@ module _ {work : List ℕ} {site count v learned r : ℕ}
       (λ w x hold there counted l.
       row-there x site there hold counted l (nth.means (taught_in w) hold l) z)
 
-  module _ (n : r ≡ 0 → ⊥) {p : cell.Production} (g : ProductionAt work (r - 1) p) where
-    -- No learned production has such a kind.
-    pub learned-low : p.kind < number_of_se → LearnedRead work site count v learned at next (refused_as number_code at)
-    learned-low k =
-        refused_as_lem (λ w x hold there counted l.
-        omega (
-          arith,
-          kind-read x site there hold counted l (nth.means (taught_in w) hold l) n g,
-          (x.refers.learned (r - 1)
-              (low x site there hold counted l (nth.means (taught_in w) hold l) n)).from,
-        ))
+module _ {work : List ℕ} {site count v learned row : ℕ}
+    (nth : NthLearned work site count v learned (suc row)) (at next : ℕ) {p : cell.Production}
+    (g : ProductionAt work row p) where
+  some-row : suc row ≡ 0 → ⊥
+  some-row z = absurd (omega (arith, z))
 
-    pub learned-high : number_of_ch < p.kind → LearnedRead work site count v learned at next (refused_as number_code at)
-    learned-high k =
-        refused_as_lem (λ w x hold there counted l.
-        omega (
-          arith,
-          kind-read x site there hold counted l (nth.means (taught_in w) hold l) n g,
-          (x.refers.learned (r - 1)
-              (low x site there hold counted l (nth.means (taught_in w) hold l) n)).up_to,
-        ))
+  here : ProductionAt work (suc row - 1) p
+  here = let e : suc row - 1 ≡ row = omega arith in rw e g
 
-    pub learned-found : number_of_se ≤ p.kind → p.kind ≤ number_of_ch
-        → LearnedRead work site count v learned at next
-        (record {
-          number = 0;
-          next = next;
-          kind = p.kind;
-          learned = true;
-          name = p.name;
-          uri = p.uri;
-          local = p.local;
-        })
-    learned-found a b =
-        record {
-          refused = λ z. absurd (omega arith);
-          read = λ _. (refl, refl);
-          bounds = λ _.
-              record {
-                from = a;
-                up_to = b;
-                name = g.name_low;
-                uri = g.uri_row_low;
-                local = g.name_row_low;
-              };
-          means = λ w x hold there counted l.
-              is-learned x site there hold counted l (nth.means (taught_in w) hold l) n g next;
-        }
+  -- No learned production has such a kind.
+  pub learned-low : p.kind < number_of_se → LearnedRead work site count v learned at next (refused_as number_code at)
+  learned-low k =
+      refused_as_lem nth at next (λ w x hold there counted l.
+      omega (
+        arith,
+        kind-read x site there hold counted l (nth.means (taught_in w) hold l) some-row here,
+        (x.refers.learned (suc row - 1)
+            (low x site there hold counted l (nth.means (taught_in w) hold l) some-row)).from,
+      ))
+
+  pub learned-high : number_of_ch < p.kind → LearnedRead work site count v learned at next (refused_as number_code at)
+  learned-high k =
+      refused_as_lem nth at next (λ w x hold there counted l.
+      omega (
+        arith,
+        kind-read x site there hold counted l (nth.means (taught_in w) hold l) some-row here,
+        (x.refers.learned (suc row - 1)
+            (low x site there hold counted l (nth.means (taught_in w) hold l) some-row)).up_to,
+      ))
+
+  pub learned-found : number_of_se ≤ p.kind → p.kind ≤ number_of_ch
+      → LearnedRead work site count v learned at next
+      (record {
+        number = 0;
+        next = next;
+        kind = p.kind;
+        learned = true;
+        name = p.name;
+        uri = p.uri;
+        local = p.local;
+      })
+  learned-found a b =
+      record {
+        refused = λ z. absurd (omega arith);
+        read = λ _. (refl, refl);
+        bounds = λ _.
+            record {
+              from = a;
+              up_to = b;
+              name = g.name_low;
+              uri = g.uri_row_low;
+              local = g.name_row_low;
+            };
+        means = λ w x hold there counted l.
+            is-learned x site there hold counted l (nth.means (taught_in w) hold l) some-row here next;
+      }
 
 -- ---- in a fragment's content
 

@@ -1,5 +1,5 @@
 -- What the readers of productions that are not learned leave at each `return`.
-use Prim.Native.Nat.{ℕ, ◌+◌, ◌≤◌, ◌<◌}
+use Prim.Native.Nat.{ℕ, ◌+◌, ◌*◌, ◌≤◌, ◌<◌}
 use native.Mathlib.Omega.{arith}
 use mathlib.Core.Path.{◌≡◌, refl, sym, ap, subst, ◌∙◌}
 use mathlib.Core.List.{List, [], ◌∷◌}
@@ -14,12 +14,11 @@ use Rattle.grammar_codes.specs.Table.{Stands}
 use Rattle.grammar_codes.proofs.Fixed.{kept-stands, fixed-first, fixed-next, fixed-few}
 use Rattle.grammar_codes.proofs.Fixed.{fixed-stands}
 use Rattle.read_field.specs.View.{NumberPre}
-use Rattle.read_production.specs.declared.ProductionRead.{ProductionRead}
-use Rattle.read_production.specs.Answers.{refused_as, fixed_as}
+use Rattle.read_production.specs.View.{ProductionRead, refused_as, fixed_as}
 use Rattle.read_production.specs.Levels.{PartRead, FixedPre, FixedRead, KeptRead, FixedAt}
 use Rattle.read_production.proofs.Levels.{FirstRead, lower-refused, lower-fixed, lower-below}
 
-pub part-asks : {stream : List ℕ} {next at among : ℕ} → FixedPre stream next at → among ≤ 5
+pub part-asks : {stream : List ℕ} {next among : ℕ} → FixedPre stream next → among ≤ 5
     → NumberPre stream next among 65536
 unfolding max_stream
 part-asks h l =
@@ -31,7 +30,7 @@ part-asks h l =
 -- ---- the first part of a table's code
 
 module _ (s : Settings) (mode : ℕ) (t : List (List Kind)) {stream : List ℕ}
-    {next at number value q : ℕ} (h : FixedPre stream next at)
+    {next at number value q : ℕ} (h : at ≤ 8 * length stream)
     (g : FirstRead s.alignment [] t stream next number value q) where
   table-stopped : 0 < number → FixedRead s mode t stream next at (refused_as number at)
   table-stopped l =
@@ -39,7 +38,7 @@ module _ (s : Settings) (mode : ℕ) (t : List (List Kind)) {stream : List ℕ}
         outcome = lower-refused t g l;
         refused = λ _. refl;
         read = λ z. absurd (omega arith);
-        inside = h.start;
+        inside = h;
         stands = λ z. absurd (omega arith);
       }
 
@@ -69,7 +68,7 @@ module _ (s : Settings) (mode : ℕ) (t : List (List Kind)) {stream : List ℕ}
 -- ---- those kept
 
 module _ (s : Settings) {stream : List ℕ} {next at count number value q : ℕ}
-    (h : FixedPre stream next at) (e : count ≡ length (kept_kinds s.comments s.instructions))
+    (h : at ≤ 8 * length stream) (e : count ≡ length (kept_kinds s.comments s.instructions))
     (g : PartRead s.alignment stream next count number value q) where
   abbrev kept : List Kind
   kept = kept_kinds s.comments s.instructions
@@ -100,7 +99,7 @@ main-values s mode e f =
     (λ y. omega (arith, e, fixed-few mode, rw y at f))
 
 module _ (s : Settings) (mode : ℕ) {stream : List ℕ} {next at count on number value q : ℕ}
-    (h : FixedPre stream next at) (e : count ≡ length (fixed_kinds mode))
+    (h : at ≤ 8 * length stream) (e : count ≡ length (fixed_kinds mode))
     (f : on ≡ leads_on (drop 1 (fixed_levels s.comments s.instructions mode)))
     (g : PartRead s.alignment stream next (count + on) number value q) where
   abbrev t : List (List Kind)

@@ -15,8 +15,7 @@ use Rattle.mem_rows.specs.Rows.{Learnt, Rows, kind_at, carries, site_at, product
 use Rattle.mem_rows.specs.Rows.{learned_of}
 use Rattle.mem_rows.specs.Valid.{SiteFits, LearntFits, Valid}
 use Rattle.mem_state.specs.Holds.{taught_in}
-use Rattle.read_production.specs.declared.ProductionRead.{ProductionRead}
-use Rattle.read_production.specs.Answers.{refused_as}
+use Rattle.read_production.specs.View.{ProductionRead, refused_as}
 
 pub record LearnedPre (work : List ℕ) (site learned : ℕ) : Type 0 where
   pub room : work_cells ≤ length work

@@ -14,8 +14,7 @@ use Rattle.spec_exi.specs.Reader.{read_code}
 use Rattle.event_code.specs.Numbers.{in_element}
 use Rattle.grammar_codes.specs.Table.{kept_kinds, fixed_levels, leveled, FixedCode, Stands}
 use Rattle.read_contract.specs.Outcome.{Declined, Outcome}
-use Rattle.read_production.specs.declared.ProductionRead.{ProductionRead}
-use Rattle.read_production.specs.Answers.{refused_as, fixed_as}
+use Rattle.read_production.specs.View.{Part, ProductionRead, refused_as, fixed_as}
 
 -- ---- one part
 
@@ -31,12 +30,14 @@ pub record PartRead (a : Alignment) (stream : List ℕ) (at among number value n
   pub after : number ≡ 0 → at ≤ next
   pub inside : next ≤ 8 * length stream
 
+abbrev pub PartOf : Alignment → List ℕ → ℕ → ℕ → Part → Type 0
+PartOf a stream at among p = PartRead a stream at among p.number p.value p.next
+
 -- ---- productions that are not learned
 
-pub record FixedPre (stream : List ℕ) (next at : ℕ) : Type 0 where
+pub record FixedPre (stream : List ℕ) (next : ℕ) : Type 0 where
   pub size : length stream ≤ max_stream
   pub place : next ≤ 8 * length stream
-  pub start : at ≤ 8 * length stream
 
 -- The rest of a code that began at bit `at`, by the levels of t.
 pub record FixedRead (s : Settings) (mode : ℕ) (t : List (List Kind)) (stream : List ℕ)

@@ -1,4 +1,4 @@
-pub mod Answers
+pub mod View
 pub mod Levels
 pub mod Learned
 pub mod Production

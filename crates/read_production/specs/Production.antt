@@ -19,8 +19,7 @@ use Rattle.mem_rows.specs.Valid.{Valid}
 use Rattle.read_contract.specs.Outcome.{Outcome}
 use Rattle.grammar_match.specs.Here.{CodeRows, learned_here, code_here}
 use Rattle.grammar_match.specs.Codes.{Strict, Unlearned}
-use Rattle.read_production.specs.declared.ProductionRead.{ProductionRead}
-use Rattle.read_production.specs.Answers.{refused_as}
+use Rattle.read_production.specs.View.{ProductionRead, refused_as}
 
 -- ---- bounds
 

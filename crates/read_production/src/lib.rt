@@ -2,30 +2,28 @@
 // every function is safe and ends on any memory. What the functions ask and leave is in specs/.
 #![tactic(auto)]
 
-ghost use Rattle.std.specs.Prelude.{ℕ, ◌<◌, ◌≡◌};
+ghost use Rattle.std.specs.Prelude.{ℕ, ◌*◌, ◌≤◌, ◌<◌, ◌≡◌, length};
 ghost use Rattle.read_field.specs.View.{alignment_of, NumberPre};
 ghost use Rattle.settings.specs.Meant.{settings_from};
 ghost use Rattle.event_code.specs.Numbers.{in_fragment, in_tag};
 ghost use Rattle.mem_layout.specs.Layout.{name_rows, fragment_site};
-ghost use Rattle.read_production.specs.Levels.{PartRead, FixedPre, KeptRead, FixedAt};
+ghost use Rattle.read_production.specs.View.{part_in, production_in, unlearned_as};
+ghost use Rattle.read_production.specs.Levels.{PartOf, FixedPre, KeptRead, FixedAt};
 ghost use Rattle.read_production.specs.Levels.{own_count};
 ghost use Rattle.read_production.specs.Learned.{LearnedPre, LearnedRead, ChildRead};
-ghost use Rattle.read_production.specs.Answers.{refused_as, fixed_as};
 ghost use Rattle.read_production.specs.Production.{ProductionPre, ProductionPost};
 
 use event_code::{CH, EE, IN_ELEMENT, IN_FRAGMENT, IN_TAG, SE};
 use mem_layout::FRAGMENT_SITE;
 use read_field::Field;
-use refusal::CODE;
+use refusal::Refusal;
 use settings::Settings;
 
-// The number of a refusal or 0; the position after the code; the kind of the production that it
-// names; whether that is a learned one and, if so, the row of the name that it carries or 0, and
-// the rows of the URI and of the name that named it. After a refusal all but the number is 0, and
-// the position is where the code began.
+// The position after a code; the kind of the production that it names; whether that is a learned
+// one and, if so, the row of the name that it carries or 0, and the rows of the URI and of the name
+// that named it.
 #[derive(Clone, Copy)]
 pub struct ProductionRead {
-    pub number: u32,
     pub next: usize,
     pub kind: u32,
     pub learned: bool,
@@ -34,20 +32,11 @@ pub struct ProductionRead {
     pub local: u32,
 }
 
-// The number of a refusal or 0, the value of a part and the position after it.
-#[derive(Drop)]
-pub struct Part {
-    pub number: u32,
-    pub value: u32,
-    pub next: usize,
-}
-
 // The same, field by field: an answer that a call writes to memory goes on in registers.
 fn copied(p: ProductionRead) -> ProductionRead
     ensures { result ≡ p }
 {
     ProductionRead {
-        number: p.number,
         next: p.next,
         kind: p.kind,
         learned: p.learned,
@@ -57,26 +46,11 @@ fn copied(p: ProductionRead) -> ProductionRead
     }
 }
 
-fn refused(number: u32, at: usize) -> ProductionRead
-    ensures { result ≡ refused_as number at }
-{
-    ProductionRead {
-        number,
-        next: at,
-        kind: 0,
-        learned: false,
-        name: 0,
-        uri: 0,
-        local: 0,
-    }
-}
-
 // A production that is not learned.
 fn fixed(kind: u32, next: usize) -> ProductionRead
-    ensures { result ≡ fixed_as kind next }
+    ensures { result ≡ unlearned_as kind next }
 {
     ProductionRead {
-        number: 0,
         next,
         kind,
         learned: false,
@@ -87,64 +61,48 @@ fn fixed(kind: u32, next: usize) -> ProductionRead
 }
 
 // A value among so many.
-pub fn read_part(aligned: bool, stream: &[u8], at: usize, among: u32) -> Part
+pub fn read_part(aligned: bool, stream: &[u8], at: usize, among: u32) -> Result<Field, Refusal>
     requires { NumberPre stream.now at among 65536 }
-    ensures { PartRead (alignment_of aligned) stream.now at among result.number result.value
-        result.next }
+    ensures { PartOf (alignment_of aligned) stream.now at among (part_in at result) }
 {
-    match read_field::choice(aligned, stream, at, among) {
-        Field::Value { value, next } => {
-            if among <= value {
-                return Part {
-                    number: CODE,
-                    value: 0,
-                    next: at,
-                };
-            }
-            Part {
-                number: 0,
-                value,
-                next,
-            }
-        }
-        Field::Refused(number) => Part {
-            number: number as u32,
-            value: 0,
-            next: at,
-        },
+    let part = read_field::choice(aligned, stream, at, among)?;
+    if among <= part.value {
+        return Err(Refusal::Code);
     }
+    Ok(part)
 }
 
-// Comments and instructions, as kept: the last part, of a code that began at a position.
-fn read_kept(o: Settings, stream: &[u8], next: usize, at: usize) -> ProductionRead
-    requires { FixedPre stream.now next at }
-    ensures { KeptRead (settings_from o) stream.now next at result }
+// Comments and instructions, as kept: the last part of a code.
+fn read_kept(o: Settings, stream: &[u8], next: usize) -> Result<ProductionRead, Refusal>
+    requires { FixedPre stream.now next }
+    ensures { (at : ℕ) → at ≤ 8 * length stream.now
+        → KeptRead (settings_from o) stream.now next at (production_in at result) }
 {
     let count = grammar_codes::kept_count(o.comments, o.instructions);
-    let p = read_part(o.aligned, stream, next, count);
-    if p.number != 0 {
-        return refused(p.number, at);
-    }
+    let p = read_part(o.aligned, stream, next, count)?;
     let kind = grammar_codes::kept_at(p.value, o.comments, o.instructions);
-    fixed(kind, p.next)
+    Ok(fixed(kind, p.next))
 }
 
 // A production that is not learned, by the part of the main level: outside an element the code's
 // first, in an element its second.
-pub fn read_fixed(o: Settings, stream: &[u8], next: usize, at: usize, mode: u32) -> ProductionRead
-    requires { FixedPre stream.now next at }
-    ensures { FixedAt (settings_from o) mode stream.now next at result }
+pub fn read_fixed(
+    o: Settings,
+    stream: &[u8],
+    next: usize,
+    mode: u32,
+) -> Result<ProductionRead, Refusal>
+    requires { FixedPre stream.now next }
+    ensures { (at : ℕ) → at ≤ 8 * length stream.now
+        → FixedAt (settings_from o) mode stream.now next at (production_in at result) }
 {
     let here = grammar_codes::fixed_count(mode);
     let on = grammar_codes::leads_on(mode, o.comments, o.instructions);
-    let p = read_part(o.aligned, stream, next, here + on);
-    if p.number != 0 {
-        return refused(p.number, at);
-    }
+    let p = read_part(o.aligned, stream, next, here + on)?;
     if p.value < here {
-        return fixed(grammar_codes::fixed_kind(mode, p.value), p.next);
+        return Ok(fixed(grammar_codes::fixed_kind(mode, p.value), p.next));
     }
-    read_kept(o, stream, p.next, at)
+    read_kept(o, stream, p.next)
 }
 
 // The learned production of a site that has v newer ones, of count in all.
@@ -153,33 +111,28 @@ fn read_learned(
     count: u32,
     v: u32,
     learned: u32,
-    at: usize,
     next: usize,
     work: &[u32],
-) -> ProductionRead
+) -> Result<ProductionRead, Refusal>
     requires { LearnedPre work.now site learned }
-    ensures { LearnedRead work.now site count v learned at next result }
+    ensures { (at : ℕ) → LearnedRead work.now site count v learned at next
+        (production_in at result) }
 {
-    let row = mem_learned::nth_newest(work, site, count, v, learned);
-    if row == 0 {
-        return refused(CODE, at);
+    let Some(row) = mem_learned::nth_newest(work, site, count, v, learned) else {
+        return Err(Refusal::Code);
+    };
+    let p = mem_learned::production_at(work, row);
+    if p.kind < SE || CH < p.kind {
+        return Err(Refusal::Code);
     }
-    let p = mem_learned::production_at(work, row - 1);
-    if p.kind < SE {
-        return refused(CODE, at);
-    }
-    if CH < p.kind {
-        return refused(CODE, at);
-    }
-    ProductionRead {
-        number: 0,
+    Ok(ProductionRead {
         next,
         kind: p.kind,
         learned: true,
         name: p.name,
         uri: p.uri,
         local: p.local,
-    }
+    })
 }
 
 // The same of a fragment's content, where SE alone is learned.
@@ -187,18 +140,17 @@ fn read_child(
     count: u32,
     v: u32,
     learned: u32,
-    at: usize,
     next: usize,
     work: &[u32],
-) -> ProductionRead
+) -> Result<ProductionRead, Refusal>
     requires { LearnedPre work.now fragment_site learned }
-    ensures { ChildRead work.now count v learned at next result }
+    ensures { (at : ℕ) → ChildRead work.now count v learned at next (production_in at result) }
 {
-    let r = read_learned(FRAGMENT_SITE, count, v, learned, at, next, work);
-    if SE < r.kind {
-        return refused(CODE, at);
+    let p = read_learned(FRAGMENT_SITE, count, v, learned, next, work)?;
+    if SE < p.kind {
+        return Err(Refusal::Code);
     }
-    r
+    Ok(p)
 }
 
 // Reads an event code in a fragment's content (EXI 8.4.2).
@@ -208,26 +160,23 @@ pub fn read_between(
     at: usize,
     learned: u32,
     work: &[u32],
-) -> ProductionRead
+) -> Result<ProductionRead, Refusal>
     requires { ProductionPre stream.now at 0 learned work.now }
     ensures { (top : ℕ) → top < name_rows → ProductionPost (settings_from o) stream.now at
-        in_fragment top learned work.now result }
+        in_fragment top learned work.now (production_in at result) }
 {
     let count = mem_learned::count_at(work, FRAGMENT_SITE);
     let last = count + grammar_codes::fixed_count(IN_FRAGMENT);
     let on = grammar_codes::leads_on(IN_FRAGMENT, o.comments, o.instructions);
-    let p = read_part(o.aligned, stream, at, last + on);
-    if p.number != 0 {
-        return refused(p.number, at);
-    }
+    let p = read_part(o.aligned, stream, at, last + on)?;
     if p.value < count {
-        return read_child(count, p.value, learned, at, p.next, work);
+        return read_child(count, p.value, learned, p.next, work);
     }
     if p.value < last {
         let kind = grammar_codes::fixed_kind(IN_FRAGMENT, p.value - count);
-        return fixed(kind, p.next);
+        return Ok(fixed(kind, p.next));
     }
-    read_kept(o, stream, p.next, at)
+    read_kept(o, stream, p.next)
 }
 
 // Reads an event code outside of every element.
@@ -238,20 +187,17 @@ fn read_outer(
     mode: u32,
     learned: u32,
     work: &[u32],
-) -> ProductionRead
+) -> Result<ProductionRead, Refusal>
     requires production_pre { ProductionPre stream.now at 0 learned work.now }
     requires mode_lt_in_tag { mode < in_tag }
     ensures { (top : ℕ) → top < name_rows → ProductionPost (settings_from o) stream.now at
-        mode top learned work.now result }
+        mode top learned work.now (production_in at result) }
 {
-    if mode == IN_FRAGMENT {
-        let s = settings::copied(o);
-        let r = read_between(s, stream, at, learned, work);
-        return copied(r);
-    }
     let s = settings::copied(o);
-    let r = read_fixed(s, stream, at, at, mode);
-    copied(r)
+    if mode == IN_FRAGMENT {
+        return Ok(copied(read_between(s, stream, at, learned, work)?));
+    }
+    Ok(copied(read_fixed(s, stream, at, mode)?))
 }
 
 // Productions of an element's first level that are not learned: in its content, the end tag.
@@ -274,10 +220,10 @@ pub fn read_production(
     top: u32,
     learned: u32,
     work: &[u32],
-) -> ProductionRead
+) -> Result<ProductionRead, Refusal>
     requires { ProductionPre stream.now at top learned work.now }
     ensures { ProductionPost (settings_from o) stream.now at mode top learned
-        work.now result }
+        work.now (production_in at result) }
 {
     if mode < IN_TAG {
         return read_outer(o, stream, at, mode, learned, work);
@@ -285,17 +231,13 @@ pub fn read_production(
     let site = grammar_match::site_in(mode, top);
     let count = mem_learned::count_at(work, site);
     let last = count + own_count(mode);
-    let p = read_part(o.aligned, stream, at, last + 1);
-    if p.number != 0 {
-        return refused(p.number, at);
-    }
+    let p = read_part(o.aligned, stream, at, last + 1)?;
     if p.value < count {
-        return read_learned(site, count, p.value, learned, at, p.next, work);
+        return read_learned(site, count, p.value, learned, p.next, work);
     }
     if p.value < last {
-        return fixed(EE, p.next);
+        return Ok(fixed(EE, p.next));
     }
     let s = settings::copied(o);
-    let r = read_fixed(s, stream, p.next, at, mode);
-    copied(r)
+    Ok(copied(read_fixed(s, stream, p.next, mode)?))
 }

@@ -21,7 +21,7 @@ use Rattle.mem_rows.proofs.Within.{names-count, values-count}
 use Rattle.mem_state.specs.Strung.{Lain, Joins}
 use Rattle.read_literal.specs.Literal.{laid_at}
 use Rattle.read_literal.proofs.Store.{laid-take}
-use Rattle.read_partition.specs.declared.StringRead.{StringRead}
+use Rattle.read_partition.specs.View.{StringRead}
 use Rattle.read_partition.specs.Strings.{Hashed, Laid, Means, as_string, StringPost}
 use Rattle.read_qname.specs.Texts.{TextRead}
 use Rattle.read_qname.specs.Qnames.{joining_of, tables_at}

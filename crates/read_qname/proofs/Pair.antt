@@ -33,7 +33,7 @@ use Rattle.mem_state.specs.Holds.{Holds, Counts, Bounded}
 use Rattle.mem_state.specs.Strung.{uri_added, name_added, value_added, Lain, StringsJoin}
 use Rattle.mem_state.proofs.Joins.{holds-grown}
 use Rattle.mem_state.proofs.Strung.{uri-names, uri-values, name-uris, name-values}
-use Rattle.read_partition.specs.declared.StringRead.{StringRead}
+use Rattle.read_partition.specs.View.{StringRead}
 use Rattle.read_partition.specs.Strings.{Tabled}
 use Rattle.read_names.specs.Uris.{as_uri, UriPost, Spans, InUris, UriRowed}
 use Rattle.read_names.specs.Names.{NameRows, name_role, as_name, InNames, NameRowed}
@@ -42,7 +42,7 @@ use Rattle.read_qname.specs.Texts.{TextRead}
 use Rattle.read_qname.specs.Qnames.{pair_as, Prepared, tables_at}
 use Rattle.read_qname.specs.Qnames.{NameMeans}
 use Rattle.read_qname.proofs.Texts.{text-size, text-grown}
-use Rattle.read_qname.specs.declared.Named.{Named}
+use Rattle.read_qname.specs.View.{Named}
 use Rattle.read_qname.proofs.Got.{rows-within, Adds, StringIs, string-joins, string-text}
 use Rattle.read_qname.proofs.Got.{string-is}
 

@@ -26,11 +26,11 @@ use Rattle.mem_state.specs.Strung.{uri_added, name_added, value_added, StringsJo
 use Rattle.read_contract.specs.Outcome.{Outcome}
 use Rattle.read_contract.proofs.Outcome.{refused-outcome, return-outcome, declined-then}
 use Rattle.read_literal.specs.Literal.{LiteralPre}
-use Rattle.read_partition.specs.declared.StringRead.{StringRead}
+use Rattle.read_partition.specs.View.{StringRead}
 use Rattle.read_names.specs.Uris.{as_uri, UriPost, UriPre, UriRowed}
 use Rattle.read_names.specs.Names.{name_role, as_name, NameRowed}
 use Rattle.read_names.specs.Names as names
-use Rattle.read_qname.specs.declared.Named.{Named}
+use Rattle.read_qname.specs.View.{Named}
 use Rattle.read_qname.specs.Texts.{TextRead}
 use Rattle.read_qname.specs.Qnames.{stopped_as, carried_as, pair_as}
 use Rattle.read_qname.specs.Qnames.{CarriedPre, PairPre, NamePre, Prepared, tables_at}

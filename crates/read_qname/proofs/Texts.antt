@@ -12,7 +12,7 @@ use Rattle.spec_exi.specs.Sizes.{max_store}
 use Rattle.mem_entries.specs.Texts.{Grown}
 use Rattle.read_literal.specs.Literal.{laid_at, Cleared}
 use Rattle.read_literal.proofs.Store.{laid-before, laid-take, laid-size, laid-over, laid_none}
-use Rattle.read_partition.specs.declared.StringRead.{StringRead}
+use Rattle.read_partition.specs.View.{StringRead}
 use Rattle.read_partition.specs.Strings.{refused_as, Refused, Laid}
 use Rattle.read_qname.specs.Texts.{TextRead}
 

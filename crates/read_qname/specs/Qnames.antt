@@ -26,8 +26,8 @@ use Rattle.mem_state.specs.Holds.{in_store, Holds, Counts, Bounded}
 use Rattle.mem_state.specs.Strung.{StringsJoin}
 use Rattle.read_contract.specs.Outcome.{Outcome}
 use Rattle.read_literal.specs.Literal.{LiteralPre}
-use Rattle.read_partition.specs.declared.StringRead.{StringRead}
-use Rattle.read_qname.specs.declared.Named.{Named}
+use Rattle.read_partition.specs.View.{StringRead}
+pub use Rattle.read_qname.specs.View.{Named, no_part, stopped_as}
 use Rattle.read_qname.specs.Texts.{TextRead}
 
 -- ---- small answers
@@ -37,21 +37,6 @@ joining_of x = joining x.joins x.place x.size x.hash
 
 abbrev pub part_of : StringRead → Part
 part_of x = record { place = x.place; size = x.size }
-
-abbrev pub no_part : Part
-no_part = record { place = 0; size = 0 }
-
-abbrev pub stopped_as : ℕ → ℕ → ℕ → ℕ → Named
-stopped_as number next left stored =
-    record {
-      number = number;
-      next = next;
-      left = left;
-      stored = stored;
-      uri = no_part;
-      local = no_part;
-      strings = no_strings;
-    }
 
 -- The name that cells have, by the rows of its URI and of its local name.
 unfoldable pub carried_as : List ℕ → ℕ → ℕ → ℕ → ℕ → ℕ → Named

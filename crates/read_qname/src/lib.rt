@@ -6,20 +6,20 @@
 ghost use Rattle.std.specs.Prelude.{◌≡◌};
 ghost use Rattle.std.proofs.Math.Option.{none};
 ghost use Rattle.read_field.specs.View.{alignment_of};
-ghost use Rattle.read_qname.specs.Qnames.{part_of, stopped_as, PairPre, pair_as, NamePost};
+ghost use Rattle.read_partition.specs.View.{read_as};
+ghost use Rattle.read_qname.specs.View.{named_in, pair_of};
+ghost use Rattle.read_qname.specs.Qnames.{part_of, PairPre, NamePost};
 
 use event::Part;
 use mem_state::{Core, Strings};
+use read_literal::Stopped;
 use read_partition::StringRead;
 
-// The number of a refusal or 0; the position after the name or where it stopped, and how many code
-// points of a literal are left there; the code points in the store; where both strings lie; and
-// what is to join.
+// The position after the name; the code points in the store; where both strings lie; and what is
+// to join.
 #[derive(Drop)]
 pub struct Named {
-    pub number: u32,
     pub next: usize,
-    pub left: usize,
     pub stored: usize,
     pub uri: Part,
     pub local: Part,
@@ -28,7 +28,7 @@ pub struct Named {
 
 // Where a string lies.
 pub fn part_of(s: StringRead) -> Part
-    ensures { result ≡ part_of s }
+    ensures { result ≡ part_of (read_as s) }
 {
     Part {
         place: s.place,
@@ -36,42 +36,23 @@ pub fn part_of(s: StringRead) -> Part
     }
 }
 
-fn stopped(number: u32, next: usize, left: usize, stored: usize) -> Named
-    ensures { result ≡ stopped_as number next left stored }
-{
-    let uri = Part { place: 0, size: 0 };
-    let local = Part { place: 0, size: 0 };
-    let strings = mem_state::no_strings();
-    Named {
-        number,
-        next,
-        left,
-        stored,
-        uri,
-        local,
-        strings,
-    }
-}
-
 // Both strings, read.
 fn paired(u: StringRead, l: StringRead) -> Named
-    ensures { result ≡ pair_as u l }
+    ensures { result ≡ pair_of u l }
 {
     let mut strings = mem_state::no_strings();
     strings.uri_place = u.place;
     strings.uri_size = u.size;
-    strings.new_uri = u.joins;
+    strings.new_uri = u.joins.is_some();
     strings.name_place = l.place;
     strings.name_size = l.size;
-    strings.name_hash = l.hash;
-    strings.new_name = l.joins;
+    strings.name_hash = l.joins.unwrap_or(0);
+    strings.new_name = l.joins.is_some();
     strings.uri_row = u.row;
     strings.name_row = l.row;
     strings.owner = l.row;
     Named {
-        number: 0,
         next: l.next,
-        left: 0,
         stored: l.stored,
         uri: part_of(u),
         local: part_of(l),
@@ -88,20 +69,14 @@ pub fn read_name(
     c: Core,
     text: &mut [u32],
     work: &[u32],
-) -> Named
+) -> Result<Named, Stopped>
     requires { PairPre stream.now at text.old work.now c }
     ensures { NamePost (alignment_of aligned) attr (λ w. Unit {0}) (λ w. none) stream.now at
-        text.old work.now c text.new result }
+        text.old work.now c text.new (named_in result) }
 {
-    let u = read_names::read_uri(aligned, stream, at, c.uris, c.stored, text, work);
-    if u.number != 0 {
-        return stopped(u.number, u.next, u.left, u.stored);
-    }
+    let u = read_names::read_uri(aligned, stream, at, c.uris, c.stored, text, work)?;
     let l = read_names::read_local(
         aligned, stream, u.next, attr, u.row, u.place, u.size, c.names, u.stored, text, work,
-    );
-    if l.number != 0 {
-        return stopped(l.number, l.next, l.left, l.stored);
-    }
-    paired(u, l)
+    )?;
+    Ok(paired(u, l))
 }

@@ -12,7 +12,7 @@ use Rattle.spec_exi.specs.Event.{Kind, EE}
 use Rattle.spec_exi.specs.Grammar.{kind_number}
 use Rattle.event_code.specs.Numbers.{number_of_ed, in_tag, in_element, number_of_se, number_of_at, number_of_ee, number_of_ch}
 use Rattle.mem_state.specs.declared.Core.{Core}
-use Rattle.read_production.specs.declared.ProductionRead.{ProductionRead}
+use Rattle.read_production.specs.View.{ProductionRead}
 use Rattle.read_production.specs.Production.{ProductionBounds}
 use Rattle.read_event.specs.Step.{StepPre}
 use Rattle.read_known.specs.Known.{LearnedPre}

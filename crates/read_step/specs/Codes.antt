@@ -2,7 +2,7 @@
 use Rattle.std.specs.Prelude.{ℕ, ◌≡◌, Bool, List}
 use Rattle.spec_exi.specs.Settings.{Settings}
 use Rattle.mem_state.specs.declared.Core.{Core}
-use Rattle.read_production.specs.declared.ProductionRead.{ProductionRead}
+use Rattle.read_production.specs.View.{ProductionRead}
 use Rattle.read_event.specs.Judge.{CodeRead}
 
 -- p is the production of the code, and is learned or not.

@@ -4,6 +4,7 @@
 
 ghost use Rattle.std.specs.Prelude.{true, false};
 ghost use Rattle.settings.specs.Meant.{settings_from};
+ghost use Rattle.read_production.specs.View.{seen_of};
 ghost use Rattle.read_event.specs.Step.{StepPre, StepPost};
 ghost use Rattle.read_step.specs.Codes.{ByCodePre};
 
@@ -26,15 +27,17 @@ fn general(
     work: &mut [u32],
 ) -> Stepped
     requires step_pre { StepPre stream.now events.old text.old work.old c cell n }
-    requires by_code_pre { ByCodePre false (settings_from o) stream.now work.old c p }
+    requires by_code_pre { ByCodePre false (settings_from o) stream.now work.old c (seen_of p) }
     ensures { StepPost (settings_from o) stream.now events.old text.old
         work.old c cell n events.new text.new work.new
         result }
 {
-    let r = read_event::read_event(o, stream, p, c, text, work);
-    if r.number != 0 {
-        return grammar_stepped::answer(r.number, c);
-    }
+    let r = match read_event::read_event(o, stream, p, c, text, work) {
+        Ok(r) => r,
+        Err(refusal) => {
+            return grammar_stepped::answer(refusal.number(), c);
+        }
+    };
     mem_state::join_strings(work, c, r.strings);
     mem_state::grow(work, c, r.growth);
     let event = r.event;
@@ -56,7 +59,7 @@ fn learned(
     work: &mut [u32],
 ) -> Stepped
     requires step_pre { StepPre stream.now events.old text.old work.old c cell n }
-    requires by_code_pre { ByCodePre true (settings_from o) stream.now work.old c p }
+    requires by_code_pre { ByCodePre true (settings_from o) stream.now work.old c (seen_of p) }
     ensures { StepPost (settings_from o) stream.now events.old text.old
         work.old c cell n events.new text.new work.new
         result }
@@ -83,7 +86,7 @@ fn fixed(
     work: &mut [u32],
 ) -> Stepped
     requires step_pre { StepPre stream.now events.old text.old work.old c cell n }
-    requires by_code_pre { ByCodePre false (settings_from o) stream.now work.old c p }
+    requires by_code_pre { ByCodePre false (settings_from o) stream.now work.old c (seen_of p) }
     ensures { StepPost (settings_from o) stream.now events.old text.old
         work.old c cell n events.new text.new work.new
         result }
@@ -120,10 +123,11 @@ pub fn step(
         work.old c cell n events.new text.new work.new
         result }
 {
-    let p = read_production::read_production(o, stream, c.at, c.mode, c.top, c.learned, work);
-    if p.number != 0 {
-        return grammar_stepped::answer(p.number, c);
-    }
+    let code = read_production::read_production(o, stream, c.at, c.mode, c.top, c.learned, work);
+    let p = match code {
+        Ok(p) => p,
+        Err(refusal) => return grammar_stepped::answer(refusal.number(), c),
+    };
     if p.learned {
         return learned(o, stream, p, c, cell, n, events, text, work);
     }

@@ -33,7 +33,7 @@ use Rattle.grammar_match.proofs.Found.{found-outside, found-low}
 use Rattle.grammar_update.specs.Growth.{growth_of, fits_in}
 use Rattle.grammar_stepped.specs.Stepped.{stepped_as, moved_on}
 use Rattle.grammar_stepped.proofs.Moved.{moved-core, other-allowed}
-use Rattle.read_production.specs.declared.ProductionRead.{ProductionRead}
+use Rattle.read_production.specs.View.{ProductionRead}
 use Rattle.read_content.specs.Contents.{plain_as, ContentPost}
 use Rattle.read_content.proofs.Contents.{kind-is}
 use Rattle.read_content.proofs.Returns.{bare-read}

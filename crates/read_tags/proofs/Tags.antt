@@ -28,10 +28,10 @@ use Rattle.grammar_match.specs.Here.{site_in}
 use Rattle.grammar_update.specs.Growth.{growth_of, fits_in}
 use Rattle.grammar_stepped.specs.Stepped.{stepped_as, moved_on}
 use Rattle.grammar_stepped.proofs.Moved.{known_strings, moved-core, other-allowed, growth-by}
-use Rattle.read_production.specs.declared.ProductionRead.{ProductionRead}
+use Rattle.read_production.specs.View.{ProductionRead}
 use Rattle.read_qname.specs.Qnames.{carried_as, Carried, NamePost}
 use Rattle.read_qname.proofs.Returns.{carried-read, as-carried}
-use Rattle.read_content.specs.declared.Content.{Content}
+use Rattle.read_content.specs.View.{Content}
 use Rattle.read_content.specs.Contents.{ContentPost}
 use Rattle.read_content.proofs.Contents.{kind-is}
 use Rattle.read_content.proofs.Returns.{name-asks, element-read}

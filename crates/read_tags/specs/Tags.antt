@@ -12,7 +12,7 @@ use Rattle.mem_state.specs.declared.Core.{Core}
 use Rattle.mem_state.specs.Holds.{Bounded}
 use Rattle.mem_state.specs.Joining.{no_strings}
 use Rattle.grammar_stepped.specs.Stepped.{stepped_as, moved_on}
-use Rattle.read_production.specs.declared.ProductionRead.{ProductionRead}
+use Rattle.read_production.specs.View.{ProductionRead}
 use Rattle.read_production.specs.Production.{ProductionBounds}
 use Rattle.grammar_stepped.specs.declared.Stepped.{Stepped}
 use Rattle.read_event.specs.Judge.{LooseHere, CodeRead}

@@ -12,6 +12,7 @@ ghost use Rattle.mem_layout.specs.Layout.{work_cells};
 ghost use Rattle.mem_names.specs.Uris.{UriRowPre};
 ghost use Rattle.mem_names.specs.Names.{NameRowPre};
 ghost use Rattle.mem_state.specs.Holds.{Bounded};
+ghost use Rattle.read_production.specs.View.{seen_of};
 ghost use Rattle.read_known.specs.Known.{uri_part, local_part};
 ghost use Rattle.read_tags.specs.Tags.{has_room, TagPre, Stored, PlainPost, TagPost};
 
@@ -56,10 +57,10 @@ pub fn known_element(
     events: &mut [u32],
     work: &mut [u32],
 ) -> Stepped
-    requires tag_pre { TagPre kind_se events.old c cell n p }
+    requires tag_pre { TagPre kind_se events.old c cell n (seen_of p) }
     requires work_cells_in_bounds { work_cells ≤ length work.old }
     requires learned_value { p.learned ≡ true }
-    ensures { (fragment : Bool) → TagPost fragment events.old work.old c cell n p
+    ensures { (fragment : Bool) → TagPost fragment events.old work.old c cell n (seen_of p)
         events.new work.new result }
 {
     let enters = !mem_learned::has_grammar(work, p.name);
@@ -115,8 +116,8 @@ pub fn known_end(
     n: usize,
     events: &mut [u32],
 ) -> Stepped
-    requires { TagPre kind_ee events.old c cell n p }
-    ensures { PlainPost fragment events.old c cell n p events.new result }
+    requires { TagPre kind_ee events.old c cell n (seen_of p) }
+    ensures { PlainPost fragment events.old c cell n (seen_of p) events.new result }
 {
     let mode = mem_state::mode_after(fragment, EE, c.mode, c.depth);
     bare(
@@ -141,14 +142,14 @@ pub fn end_tag(
     events: &mut [u32],
     work: &[u32],
 ) -> Stepped
-    requires tag_pre { TagPre kind_ee events.old c cell n p }
+    requires tag_pre { TagPre kind_ee events.old c cell n (seen_of p) }
     requires work_cells_in_bounds { work_cells ≤ length work.now }
     requires learned_value { p.learned ≡ false }
     requires mode_value { c.mode ≡ in_element }
-    ensures { TagPost fragment events.old work.now c cell n p events.new
+    ensures { TagPost fragment events.old work.now c cell n (seen_of p) events.new
         work.now result }
 {
-    if grammar_match::find_learned(c.mode, c.top, EE, 0, c.learned, work) != 0 {
+    if let Some(_) = grammar_match::find_learned(c.mode, c.top, EE, 0, c.learned, work) {
         return grammar_stepped::answer(LOOSE, c);
     }
     known_end(fragment, p, c, cell, n, events)
@@ -163,8 +164,8 @@ pub fn start_document(
     n: usize,
     events: &mut [u32],
 ) -> Stepped
-    requires { TagPre kind_sd events.old c cell n p }
-    ensures { PlainPost fragment events.old c cell n p events.new result }
+    requires { TagPre kind_sd events.old c cell n (seen_of p) }
+    ensures { PlainPost fragment events.old c cell n (seen_of p) events.new result }
 {
     let mode = mem_state::mode_after(fragment, SD, c.mode, c.depth);
     bare(
@@ -187,8 +188,8 @@ pub fn end_document(
     n: usize,
     events: &mut [u32],
 ) -> Stepped
-    requires { TagPre kind_ed events.old c cell n p }
-    ensures { (fragment : Bool) → PlainPost fragment events.old c cell n p
+    requires { TagPre kind_ed events.old c cell n (seen_of p) }
+    ensures { (fragment : Bool) → PlainPost fragment events.old c cell n (seen_of p)
         events.new result }
 {
     bare(

@@ -9,13 +9,11 @@ use Rattle.spec_exi.specs.Sizes.{max_stream, max_store}
 use Rattle.mem_values.specs.Window.{Replaced, Newest}
 use Rattle.mem_values.specs.Hold.{ValueAtPre, FindRowPre, NthLocalPre}
 use Rattle.mem_values.specs.Forms.{Order}
-use Rattle.read_field.specs.declared.Field.{Field}
-use Rattle.read_field.specs.declared.Field.TheVariants.{Value}
-use Rattle.read_field.specs.View.{field_at, InStream, NumberPre}
+use Rattle.read_field.specs.View.{Seen, Value, field_at, InStream, NumberPre}
 use Rattle.read_contract.proofs.Outcome.{unsigned-gotten}
-use Rattle.read_literal.specs.declared.Literal as declared
+use Rattle.read_literal.specs.View as seen
 use Rattle.read_literal.specs.Literal.{LiteralPre, LiteralRead}
-use Rattle.read_partition.specs.declared.StringRead.{StringRead}
+use Rattle.read_partition.specs.View.{StringRead}
 use Rattle.mem_index.specs.Index.{numbers}
 use Rattle.read_values.specs.Values.{HitPre, NewPre, ValuePre, SoughtPre, JoinsWithin}
 
@@ -26,7 +24,7 @@ in-stream fit = omega (arith, fit.size, fit.place)
 
 -- After a number.
 pub number_fits : {stream : List ℕ} {at : ℕ} {text : List ℕ} {stored : ℕ}
-    → LiteralPre stream at text stored → {f : Field}
+    → LiteralPre stream at text stored → {f : Seen}
     → f ≡ field_at unsigned stream at → {v q : ℕ} → f ≡ Value v q → LiteralPre stream q text stored
 number_fits {stream} {at} fit answer z =
     record {
@@ -75,14 +73,14 @@ find-asks fit = record { room = fit.room; few = omega (arith, fit.few, fit.store
 
 pub seek-asks : {stream : List ℕ} {at : ℕ} {text : List ℕ} {stored : ℕ} {work : List ℕ} {values : ℕ}
     → NewPre stream at text stored work values
-    → {n : ℕ} {text' : List ℕ} {l : declared.Literal} → LiteralRead stream at text stored n text' l
+    → {n : ℕ} {text' : List ℕ} {l : seen.Literal} → LiteralRead stream at text stored n text' l
     → l.number ≡ 0 → SoughtPre text' stored n l.hash work values
 seek-asks fit r z =
     record { is = r.hashed.is z; store = fit.literal.few; room = fit.room; few = fit.few }
 
 -- A value after its number.
 module _ {stream : List ℕ} {at : ℕ} {text : List ℕ} {stored : ℕ} {work : List ℕ} {values owner : ℕ}
-    (fit : ValuePre stream at text stored work values owner) {f : Field}
+    (fit : ValuePre stream at text stored work values owner) {f : Seen}
     (answer : f ≡ field_at unsigned stream at)
     {v q : ℕ} (z : f ≡ Value v q) where
   pub new-asks : NewPre stream q text stored work values

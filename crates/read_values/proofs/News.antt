@@ -31,7 +31,7 @@ use Rattle.mem_rows.specs.Valid.{gone_in}
 use Rattle.mem_rows.proofs.Joins.{value-joins, nothing-joins}
 use Rattle.mem_rows.proofs.Grown.{value_grows}
 use Rattle.mem_rows.proofs.Within.{values-count, within-value, within_none, room-bounded}
-use Rattle.read_literal.specs.declared.Literal as declared
+use Rattle.read_literal.specs.View as seen
 use Rattle.read_literal.specs.Literal.{laid_at, LiteralRead}
 use Rattle.read_partition.specs.Strings.{refused_as, literal_as, Tabled}
 use Rattle.read_partition.proofs.Literals.{TextLaid, laid-found, store-grown, text-laid}
@@ -196,7 +196,7 @@ module _ {text : List ℕ} {stored : ℕ} {w : Rows} {store : Text} (t : Tabled 
 
 module _ {stream : List ℕ} {at : ℕ} {text : List ℕ} {stored : ℕ} {work : List ℕ} {values n : ℕ}
     {text' : List ℕ}
-    {l : declared.Literal} (fit : NewPre stream at text stored work values)
+    {l : seen.Literal} (fit : NewPre stream at text stored work values)
     (r : LiteralRead stream at text stored n text' l)
     (z : l.number ≡ 0) where
   module _ {longest capacity row : ℕ}

@@ -1,7 +1,7 @@
 -- What the functions that read a value answer, return by return.
-use Prim.Native.Nat.{ℕ, ◌-◌, ◌≤◌, ◌<◌}
+use Prim.Native.Nat.{ℕ, suc, ◌-◌, ◌≤◌, ◌<◌}
 use native.Mathlib.Omega.{arith}
-use mathlib.Core.Path.{◌≡◌, refl, sym, ◌∙◌}
+use mathlib.Core.Path.{◌≡◌, refl, sym, subst, ◌∙◌}
 use mathlib.Core.List.{List, [], ◌∷◌}
 use mathlib.Core.Option.{some}
 use lib.ListN.{length, get_elem?}
@@ -15,10 +15,8 @@ use Rattle.mem_values.specs.Window.{Replaced, Newest}
 use Rattle.mem_values.specs.Hold.{FoundLocal, CountedLocal, ValueAt}
 use Rattle.mem_values.specs.Forms.{nth_of}
 use Rattle.mem_rows.specs.Rows.{Rows, name_at, tables_of}
-use Rattle.read_field.specs.declared.Field.{Field}
-use Rattle.read_field.specs.declared.Field.TheVariants.{Value, Refused}
-use Rattle.read_field.specs.View.{field_at}
-use Rattle.read_partition.specs.declared.StringRead.{StringRead}
+use Rattle.read_field.specs.View.{Seen, Value, Refused, field_at}
+use Rattle.read_partition.specs.View.{StringRead}
 use Rattle.read_partition.specs.Strings.{refused_as, found_as, Tabled, as_hit}
 use Rattle.read_partition.proofs.Hits.{post-choice, post-missing, post-loose, post-chosen}
 use Rattle.read_partition.proofs.Numbers.{Parted, post-number, post-number-hit, post-number-literal}
@@ -46,7 +44,7 @@ counted {values = values} c {text} {stored} w store t p =
 
 module _ {a : Alignment} {stream : List ℕ} {at stored : ℕ} {work : List ℕ} {values owner : ℕ}
     (fit : HitPre stream at stored work values owner) {among : ℕ}
-    (c : CountedLocal work owner among) {f : Field}
+    (c : CountedLocal work owner among) {f : Seen}
     (answer : f ≡ field_at (number_field a (width among)) stream at) (text : List ℕ)
     {longest capacity : ℕ} where
   pub own-refused : {k : ℕ} → f ≡ Refused k
@@ -64,19 +62,25 @@ module _ {a : Alignment} {stream : List ℕ} {at stored : ℕ} {work : List ℕ}
         (counted c) z
         (λ w store t p x s. own-missing t p gone n e x s)
 
-    pub own-found : (r ≡ 0 → ⊥) → {v : table.Value} → ValueAt work (r - 1) v
+    pub own-found : {row : ℕ} → r ≡ suc row → {v : table.Value} → ValueAt work row v
         → ValuePost a as_own stream at text stored work values longest capacity owner text
-        (found_as q v.place v.size (r - 1) stored)
-    own-found e {v} h =
+        (found_as q v.place v.size row stored)
+    own-found {row} e {v} h =
         post-chosen (value_role owner) 0 (own_list owner) text fit.place fit.store answer
-        (counted c) z v.place v.size (r - 1)
-        (λ w store t p. own-chosen t p gone n (omega arith) h)
+        (counted c) z v.place v.size row
+        (λ w store t p. own-chosen t p gone n e h)
 
 -- ---- among all values
 
+-- A row by its number and 1.
+at_row : {work : List ℕ} {r row : ℕ} {v : table.Value} → r ≡ suc row → ValueAt work row v
+    → ValueAt work (r - 1) v
+at_row {work} {r} {row} {v} e h =
+    let same : r - 1 ≡ row = omega (arith, e) in subst (λ n. ValueAt work n v) (sym same) h
+
 module _ {a : Alignment} {stream : List ℕ} {at stored : ℕ} {work : List ℕ} {values owner : ℕ}
     (fit : HitPre stream at stored work values owner) {capacity low : ℕ}
-    (gone : Replaced values capacity low) {f : Field}
+    (gone : Replaced values capacity low) {f : Seen}
     (answer : f ≡ field_at (number_field a (width (values - low))) stream at) (text : List ℕ)
     {longest : ℕ} where
   pub any-refused : {k : ℕ} → f ≡ Refused k
@@ -98,23 +102,27 @@ module _ {a : Alignment} {stream : List ℕ} {at stored : ℕ} {work : List ℕ}
         (omega (arith, any-count t p gone, nth-none values low newer i n e)) in
         let w : ◌≡◌ {A = ℕ} 0 1 = cc in omega arith)
 
-    module _ (found : r ≡ 0 → ⊥) {v : table.Value} (h : ValueAt work (r - 1) v) where
+    module _ {row : ℕ} (found : r ≡ suc row) {v : table.Value} (h : ValueAt work row v) where
       pub any-own : v.owner ≡ owner
           → ValuePost a as_any stream at text stored work values longest capacity owner text
           (refused_as (number_of loose) q 0 stored)
       any-own e =
           post-loose (value_role owner) 1 any_list text fit.place fit.store answer
           (λ w store t p. any-count t p gone) z
-          (λ w store t p. any-loose t p gone new (nth-some values low newer i n found) h e)
+          (λ w store t p.
+          any-loose t p gone new (nth-some values low newer i n (omega (arith, found)))
+          (at_row found h) e)
 
       pub any_found : (v.owner ≡ owner → ⊥)
           → ValuePost a as_any stream at text stored work values longest capacity owner text
-          (found_as q v.place v.size (r - 1) stored)
+          (found_as q v.place v.size row stored)
       any_found e =
           post-chosen (value_role owner) 1 any_list text fit.place fit.store answer
           (λ w store t p. any-count t p gone) z
-          v.place v.size (r - 1)
-          (λ w store t p. any-chosen t p gone new (nth-some values low newer i n found) h e)
+          v.place v.size row
+          (λ w store t p.
+          any-chosen t p gone new (nth-some values low newer i n (omega (arith, found)))
+          (at_row found h) e)
 
 -- ---- from the number on
 
@@ -125,7 +133,7 @@ parted owner = record { are = λ w store. refl }
 
 module _ {a : Alignment} {stream : List ℕ} {at : ℕ} {text : List ℕ} {stored : ℕ} {work : List ℕ}
     {values owner : ℕ}
-    (fit : ValuePre stream at text stored work values owner) {longest capacity : ℕ} {f : Field}
+    (fit : ValuePre stream at text stored work values owner) {longest capacity : ℕ} {f : Seen}
     (answer : f ≡ field_at unsigned stream at) where
   pub value-refused : {k : ℕ} → f ≡ Refused k
       → ValuePost a as_value stream at text stored work values longest capacity owner text (refused_as k at 0 stored)

@@ -14,15 +14,14 @@ use Rattle.spec_exi.specs.Tables.{laid, name_allowed, text_allowed}
 use Rattle.mem_rows.specs.Rows.{Rows, tables_of}
 use Rattle.mem_rows.proofs.Joins.{nothing-joins}
 use Rattle.mem_rows.proofs.Within.{within_none}
-use Rattle.name_rules.specs.Texts.{role_of, fault_of}
-use Rattle.name_rules.proofs.Texts.{Alone, alone, fault-text, fault-name, fault-none, fault-passed}
-use Rattle.read_field.specs.declared.Field.{Field}
-use Rattle.read_field.specs.declared.Field.TheVariants.{Value, Refused}
-use Rattle.read_field.specs.View.{field_at}
+use Rattle.name_rules.specs.declared.Role as code
+use Rattle.name_rules.specs.Texts.{role_in, fault_of}
+use Rattle.name_rules.proofs.Texts.{Alone, alone-in, fault-text, fault-name, fault-none, fault-passed}
+use Rattle.read_field.specs.View.{Seen, Value, Refused, field_at}
 use Rattle.read_contract.specs.Outcome.{Declined}
-use Rattle.read_literal.specs.declared.Literal as declared
+use Rattle.read_literal.specs.View as seen
 use Rattle.read_literal.specs.Literal.{laid_at, LiteralPre, LiteralRead}
-use Rattle.read_partition.specs.declared.StringRead.{StringRead}
+use Rattle.read_partition.specs.View.{StringRead}
 use Rattle.read_partition.specs.Strings.{refused_as, literal_as, Tabled, judge, as_string, as_literal}
 use Rattle.read_partition.specs.Strings.{StringPost}
 use Rattle.read_partition.proofs.Steps.{judge-character, judge-name}
@@ -68,10 +67,10 @@ module _ {role : Role} (k : Alone role) where
       (λ a. rw (fault-text role x a) (judge-character t role (literal, laid t x) a))
 
 module _ {stream : List ℕ} {at : ℕ} {text : List ℕ} {stored n : ℕ} {text' : List ℕ}
-    {l : declared.Literal} (fit : LiteralPre stream at text stored)
-    (r : LiteralRead stream at text stored n text' l) (number : ℕ) where
+    {l : seen.Literal} (fit : LiteralPre stream at text stored)
+    (r : LiteralRead stream at text stored n text' l) (kind : code.Role) where
   abbrev role : Role
-  role = role_of number
+  role = role_in kind
 
   pub text-cut : (l.number ≡ 0 → ⊥)
       → TextPost (as_literal role n) stream at text stored text'
@@ -96,7 +95,7 @@ module _ {stream : List ℕ} {at : ℕ} {text : List ℕ} {stored n : ℕ} {text
           let same : fault_of role x ≡ k = ap (fault_of role) (sym (laid-is x e f)) ∙ sym tested in
           subst (Declined (judge (tables_of w store) role (literal, laid (tables_of w store) x))
           stream l.next) same
-          (text-declined (alone number) (tables_of w store) x stream l.next
+          (text-declined (alone-in kind) (tables_of w store) x stream l.next
           (λ y. ne (sym same ∙ y))))
 
       pub text-laid : k ≡ 0
@@ -105,26 +104,26 @@ module _ {stream : List ℕ} {at : ℕ} {text : List ℕ} {stored n : ℕ} {text
       text-laid y a =
           literal-passed (λ w. role) r z fit.room 0 false 0
           (λ w store t p x e f.
-          text-passes (alone number) w store t x e (r.ends z)
+          text-passes (alone-in kind) w store t x e (r.ends z)
           (ap (fault_of role) (sym (laid-is x e f)) ∙ sym tested ∙ y))
 
 -- ---- its number
 
 module _ {stream : List ℕ} {at : ℕ} {text : List ℕ} {stored : ℕ}
-    (fit : LiteralPre stream at text stored) {f : Field}
-    (answer : f ≡ field_at unsigned stream at) (number : ℕ) where
-  parted : Parted (λ w. role_of number) (λ w store. [])
-  parted = record { are = λ w store. (alone number).parts (tables_of w store) }
+    (fit : LiteralPre stream at text stored) {f : Seen}
+    (answer : f ≡ field_at unsigned stream at) (kind : code.Role) where
+  parted : Parted (λ w. role_in kind) (λ w store. [])
+  parted = record { are = λ w store. (alone-in kind).parts (tables_of w store) }
 
   pub number-refused : {k : ℕ} → f ≡ Refused k
-      → TextPost (as_string (role_of number)) stream at text stored text (refused_as k at 0 stored)
+      → TextPost (as_string (role_in kind)) stream at text stored text (refused_as k at 0 stored)
   number-refused z a = post-number parted fit.place answer fit.few z
 
   pub number_read : {v q : ℕ} → f ≡ Value v q → {text' : List ℕ} {r : StringRead}
-      → TextPost (as_literal (role_of number) v) stream q text stored text' r
-      → TextPost (as_string (role_of number)) stream at text stored text' r
+      → TextPost (as_literal (role_in kind) v) stream q text stored text' r
+      → TextPost (as_string (role_in kind)) stream at text stored text' r
   number_read {v} {q} z {text'} {r} p a =
       post-number-literal parted fit.place answer z 0 (λ w store. refl) (λ w store. refl)
       (let y : v - 0 ≡ v = omega arith in
-      subst (λ n. StringPost a (λ w. Unit {0}) (λ w store. as_literal (role_of number) n)
+      subst (λ n. StringPost a (λ w. Unit {0}) (λ w store. as_literal (role_in kind) n)
       (λ w x. w) stream q text stored text' r) (sym y) (p a))

@@ -2,7 +2,7 @@
 -- comment.
 use Rattle.std.specs.Prelude.{ℕ, List}
 use Rattle.spec_fields.specs.Field.{Alignment}
-use Rattle.read_partition.specs.declared.StringRead.{StringRead}
+use Rattle.read_partition.specs.View.{StringRead}
 use Rattle.read_partition.specs.Strings.{Reading, StringPost}
 
 -- Over any rows, in any alignment.

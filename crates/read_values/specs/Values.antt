@@ -11,7 +11,7 @@ use Rattle.mem_values.specs.Window.{newest_in}
 use Rattle.mem_values.specs.Forms.{ValuesStand}
 use Rattle.mem_rows.specs.Rows.{Rows, name_at, tables_of, with_value}
 use Rattle.read_literal.specs.Literal.{LiteralPre}
-use Rattle.read_partition.specs.declared.StringRead.{StringRead}
+use Rattle.read_partition.specs.View.{StringRead}
 use Rattle.read_partition.specs.Strings.{Hashed, Reading, as_string, as_hit, as_literal, StringPost}
 
 -- ---- bounds

@@ -23,16 +23,14 @@ use Rattle.settings.specs.Meant.{numbers_of, settings_meant, settings_from}
 use Rattle.settings.proofs.Laws.{settings-from, capacity-few}
 use Rattle.settings.specs.declared.SettingNumbers.{SettingNumbers}
 use Rattle.settings.specs.declared.Settings.{Settings}
-use Rattle.read_header.specs.Header.{Passes}
-use Rattle.read_header.specs.declared.Passed.{Passed}
+use Rattle.read_header.specs.Header.{Passed, Passes}
 use Rattle.read_body.specs.Reply as body
-use Rattle.read_body.specs.Reply.{events_filled, text_filled, Filled, refusal_of}
-use Rattle.read_body.specs.declared.BodyReply as declared
+use Rattle.read_body.specs.Reply.{BodyReply, events_filled, text_filled, Filled, refusal_of}
 use Rattle.reader.specs.Read.{lent, reader_room, answer_of, reply_of, ReadPost, Cleared}
 use Rattle.reader.specs.Read.{ReadStreamPre}
 
 -- Over cells that are zero, a refusal of the whole leaves them.
-filled-refused : {x : Answer Reading} {events text : List ℕ} {r : declared.BodyReply}
+filled-refused : {x : Answer Reading} {events text : List ℕ} {r : BodyReply}
     → Cleared events text → (k : Refusal) (number : ℕ) → x ≡ refused k 0 → number ≡ number_of k
     → r ≡ refusal_of number 0 → Filled x events text events text r
 unfolding body.reply_of read_reply refusal_of events_filled text_filled
@@ -41,7 +39,7 @@ filled-refused h k number e a is =
 
 -- The same answer, for the same lengths.
 pub filled-as : {x y : Answer Reading} {events text events₀ text₀ events' text' : List ℕ}
-    {r : declared.BodyReply} → x ≡ y → length events ≡ length events₀ → length text ≡ length text₀
+    {r : BodyReply} → x ≡ y → length events ≡ length events₀ → length text ≡ length text₀
     → Filled x events text events' text' r → Filled y events₀ text₀ events' text' r
 filled-as e a b h =
     record {
@@ -55,7 +53,7 @@ filled-as e a b h =
 module _ (s : format.Settings) {stream : List ℕ} {p : Passed}
     (passes : Passes (header_of s) stream p) where
   pub header_refused : {events text : List ℕ} → Cleared events text → (p.number ≡ 0 → ⊥)
-      → {r : declared.BodyReply} → r ≡ refusal_of p.number 0
+      → {r : BodyReply} → r ≡ refusal_of p.number 0
       → Filled (read_stream sizes s stream) events text events text r
   unfolding read_stream read_body
   header_refused h some is =
@@ -100,7 +98,7 @@ module _ (s : SettingNumbers) (stream : List ℕ) {events text : List ℕ} (work
       ≡ not (short events text work)
   lent_is = enough (length events) (length text) (length work) event_cells max_store reader_work
 
-  pub no_room : short events text work ≡ true → {r : declared.BodyReply} → r ≡ refusal_of number_room 0
+  pub no_room : short events text work ≡ true → {r : BodyReply} → r ≡ refusal_of number_room 0
       → Filled (answer_of s stream (lent events text work)) events text events text r
   unfolding answer_of reader_room format-reader.read read_sized enough_to_read event_cells
       max_events max_store reader_work number_of
@@ -108,14 +106,14 @@ module _ (s : SettingNumbers) (stream : List ℕ) {events text : List ℕ} (work
 
   module _ (few : short events text work ≡ false) {asked : Bool}
       (meant : asked ≡ meaningful (numbers_of s)) where
-    pub no-meaning : not asked ≡ true → {r : declared.BodyReply} → r ≡ refusal_of number_settings 0
+    pub no-meaning : not asked ≡ true → {r : BodyReply} → r ≡ refusal_of number_settings 0
         → Filled (answer_of s stream (lent events text work)) events text events text r
     unfolding answer_of reader_room format-reader.read read_sized enough_to_read event_cells
         max_events max_store reader_work number_of
     no-meaning f is = filled-refused h settings number_settings (rw (lent_is, few, ← meant, f)) refl is
 
     module _ (fine : not asked ≡ false) where
-      pub too_long : max_stream < length stream → {r : declared.BodyReply} → r ≡ refusal_of number_long 0
+      pub too_long : max_stream < length stream → {r : BodyReply} → r ≡ refusal_of number_long 0
           → Filled (answer_of s stream (lent events text work)) events text events text r
       unfolding answer_of reader_room format-reader.read read_sized enough_to_read event_cells
           max_events max_store reader_work max_stream number_of
@@ -143,7 +141,7 @@ module _ (s : SettingNumbers) (stream : List ℕ) {events text : List ℕ} (work
             max_events max_store reader_work max_stream
         answer-stream = rw (lent_is, few, ← meant, fine, le-leb (length stream) max_stream small)
 
-        pub stream-answered : {o : Settings} {events' text' : List ℕ} {r : declared.BodyReply}
+        pub stream-answered : {o : Settings} {events' text' : List ℕ} {r : BodyReply}
             → o ≡ settings_meant s
             → Filled (read_stream sizes (settings_from o) stream) events text events' text' r
             → Filled (answer_of s stream (lent events text work)) events text events' text' r
@@ -173,7 +171,7 @@ module _ (s : SettingNumbers) (stream events text work : List ℕ) {events₁ te
   unfolding answer_of reader_room
   same_answer = rw (same_length events e, same_length text t)
 
-  pub read_whole : {events' text' work' : List ℕ} {r : declared.BodyReply}
+  pub read_whole : {events' text' work' : List ℕ} {r : BodyReply}
       → Filled (answer_of s stream (lent events₁ text₁ work)) events₁ text₁ events' text' r
       → work' ≡ replicate (length work) 0
       → ReadPost s stream (lent events text work) (lent events' text' work')

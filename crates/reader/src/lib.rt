@@ -7,12 +7,12 @@ ghost use Rattle.std.specs.Prelude.{◌+◌, ◌≤◌};
 ghost use Rattle.spec_exi.specs.Sizes.{sizes, max_values};
 ghost use Rattle.spec_exi.specs.Reader.{read_stream};
 ghost use Rattle.settings.specs.Meant.{settings_from};
-ghost use Rattle.read_body.specs.Reply.{Filled};
+ghost use Rattle.read_body.specs.Reply.{Filled, body_in};
 ghost use Rattle.reader.specs.Read.{ReadPost, lent, answer_of, Cleared, ReadStreamPre};
 
 pub use read_body as the_read_body;
-use read_body::BodyReply;
 pub use read_body::the_read_run as the_read_run;
+use read_body::{Counts, Stop};
 use refusal::{LONG, ROOM, SETTINGS};
 use settings::{SettingNumbers, Settings};
 use sizes::{EVENT_CELLS, MAX_STORE, MAX_STREAM, READER_WORK};
@@ -35,20 +35,20 @@ fn read_stream(
     events: &mut [u32],
     text: &mut [u32],
     work: &mut [u32],
-) -> BodyReply
+) -> Result<Counts, Stop>
     requires read_stream_pre { ReadStreamPre stream.now events.old text.old work.old }
     requires capacity_bound { o.capacity ≤ max_values + 1 }
     ensures { Filled (read_stream sizes (settings_from o) stream.now)
-        events.old text.old events.new text.new result }
+        events.old text.old events.new text.new (body_in result) }
 {
-    let h = read_header::read_header(o, stream);
-    if h.number != 0 {
-        return read_body::refused(h.number, 0);
-    }
+    let at = match read_header::read_header(o, stream) {
+        Ok(at) => at,
+        Err(refusal) => return Err(read_body::refused(refusal.number(), 0)),
+    };
     mem_initial::clear_counts(work);
     mem_initial::lay_rows(work, 0);
     mem_initial::lay_text(text, 0);
-    let st = grammar_open::none_open(mem_initial::start(h.at, o.longest, o.capacity));
+    let st = grammar_open::none_open(mem_initial::start(at, o.longest, o.capacity));
     read_body::read_events(o, stream, st, events, text, work)
 }
 
@@ -59,20 +59,20 @@ fn read_cleared(
     events: &mut [u32],
     text: &mut [u32],
     work: &mut [u32],
-) -> BodyReply
+) -> Result<Counts, Stop>
     requires { Cleared events.old text.old }
     ensures { Filled (answer_of s stream.now
         (lent events.old text.old work.old))
-        events.old text.old events.new text.new result }
+        events.old text.old events.new text.new (body_in result) }
 {
     if (events.len() < EVENT_CELLS) | (text.len() < MAX_STORE) | (work.len() < READER_WORK) {
-        return read_body::refused(ROOM, 0);
+        return Err(read_body::refused(ROOM, 0));
     }
     if !settings::are_meaningful(s) {
-        return read_body::refused(SETTINGS, 0);
+        return Err(read_body::refused(SETTINGS, 0));
     }
     if MAX_STREAM < stream.len() {
-        return read_body::refused(LONG, 0);
+        return Err(read_body::refused(LONG, 0));
     }
     read_stream(settings::settings_of(s), stream, events, text, work)
 }
@@ -94,10 +94,18 @@ pub fn read(
     mem_clear::cells(text);
     let r = read_cleared(s, stream, events, text, work);
     mem_clear::cells(work);
-    ReadReply {
-        number: r.number,
-        index: r.index,
-        events: r.events,
-        code_points: r.code_points,
+    match r {
+        Ok(counts) => ReadReply {
+            number: 0,
+            index: 0,
+            events: counts.events,
+            code_points: counts.code_points,
+        },
+        Err(x) => ReadReply {
+            number: x.number,
+            index: x.index,
+            events: 0,
+            code_points: 0,
+        },
     }
 }

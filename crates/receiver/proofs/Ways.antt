@@ -1,16 +1,18 @@
 -- What the two calls leave, by the course.
-use mathlib.Core.Path.{◌≡◌, sym, ap, ◌∙◌}
+use mathlib.Core.Path.{◌≡◌, refl, sym, ap, ◌∙◌}
 use mathlib.Core.Bool.{Bool}
 use mathlib.Core.List.{List}
 use Prim.Native.Nat.{ℕ}
 use native.Mathlib.Omega.{arith}
-use lib.ListN.{length}
+use lib.Dec.{eqb}
+use lib.ListN.{length, length-replicate}
 use borrow.Author.Tests.{eq-eqb, ne_eqb}
 use Rattle.spec_fields.specs.Refusal.{number_of}
+use Rattle.spec_fields.proofs.Tests.{split}
 use Rattle.receiver_piece.specs.reader.declared.ReadReply.{ReadReply}
 use Rattle.receiver_piece.specs.receiver_record.declared.Receiver.{Receiver}
 use Rattle.receiver_piece.specs.receiver_record.declared.Handed.{Handed}
-use Rattle.receiver_piece.specs.receiver_record.Record.{refusal_at, Lent, Left, left, handed}
+use Rattle.receiver_piece.specs.receiver_record.Record.{refusal_at, Lent, cleared, Left, left, handed}
 use Rattle.receiver_piece.specs.receiver_course.declared.Course.{Course}
 use Rattle.receiver_piece.specs.receiver_course.declared.Course.TheVariants.{Repeats, Refused, Reads}
 use Rattle.receiver_piece.specs.receiver_course.Course.{course_of}
@@ -52,6 +54,31 @@ way_of : (r : Receiver) (k : ℕ) (m : Lent) {way : Course} {roomy : Bool} → r
     → way ≡ course_of r k roomy → course_of r k (room_in m) ≡ way
 way_of r k m a b = ap (λ (t : Bool). course_of r k t) (sym a) ∙ sym b
 
+-- ---- lengths that a call keeps
+
+cleared-lengths : (m : Lent) → SameLengths m (cleared m)
+unfolding cleared
+cleared-lengths m =
+    record {
+      held = length-replicate (length m.held) 0;
+      events = length-replicate (length m.events) 0;
+      text = length-replicate (length m.text) 0;
+      work = length-replicate (length m.work) 0;
+    }
+
+module _ (r : Receiver) (m : Lent) {r' : Receiver} {m' : Lent} {y : ReadReply} where
+  repeated-lengths : left r' m' y ≡ repeated r m → SameLengths m m'
+  unfolding repeated
+  repeated-lengths e =
+      let h = ap (λ (x : Left). x.lent) e in
+      split (eqb r.reply.number 0)
+      (λ a. rw (h, a) (record { held = refl; events = refl; text = refl; work = refl }))
+      (λ a. rw (h, a) (cleared-lengths m))
+
+  refused-lengths : (z : ReadReply) (k : ℕ) → left r' m' y ≡ refused r z k m → SameLengths m m'
+  unfolding refused
+  refused-lengths z k e = rw (ap (λ (x : Left). x.lent) e) (cleared-lengths m)
+
 -- ---- a piece
 
 module _ (r : Receiver) (p : List ℕ) (m : Lent) {way : Course} {roomy : Bool}
@@ -72,7 +99,7 @@ module _ (r : Receiver) (p : List ℕ) (m : Lent) {way : Course} {roomy : Bool}
         few = h.few;
       }
 
-  module _ {r' : Receiver} {m' : Lent} {y : ReadReply} (same : SameLengths m m') where
+  module _ {r' : Receiver} {m' : Lent} {y : ReadReply} where
     pub fed-repeats : way ≡ Repeats → left r' m' y ≡ repeated r m → Fed r p m r' m' y
     unfolding repeated
     fed-repeats k e =
@@ -83,7 +110,7 @@ module _ (r : Receiver) (p : List ℕ) (m : Lent) {way : Course} {roomy : Bool}
           starts = λ c. not-reads (sym is ∙ c);
           goes_on = λ c. not-reads (sym is ∙ c);
           settings = ap (λ (x : Left). x.receiver.settings) e;
-          lengths = same;
+          lengths = repeated-lengths r m e;
         }
 
     pub fed-refused : {z : ReadReply} → way ≡ Refused z
@@ -98,7 +125,7 @@ module _ (r : Receiver) (p : List ℕ) (m : Lent) {way : Course} {roomy : Bool}
           starts = λ c. refused-not-reads (sym is ∙ c);
           goes_on = λ c. refused-not-reads (sym is ∙ c);
           settings = ap (λ (x : Left). x.receiver.settings) e;
-          lengths = same;
+          lengths = refused-lengths r m z (length p) e;
         }
 
   pub fed-reads : {f : Handed} {m' : Lent} → SameLengths m m' → way ≡ Reads

@@ -4,12 +4,13 @@
 #![tactic(auto)]
 
 ghost use Rattle.std.specs.Prelude.{◌≡◌};
-ghost use Rattle.receiver_piece.specs.receiver_record.Record.{lent, handed};
+ghost use Rattle.receiver_piece.specs.receiver_record.Record.{lent, lent_in, SameParts, handed};
 ghost use Rattle.receiver.specs.Calls.{closed_now, Fed, Closed};
 
 use event_code::IS_OVER;
-use receiver_piece::the_receiver_course::Course;
-use receiver_piece::the_receiver_record::{Handed, Receiver, STARTED};
+use receiver_piece::the_receiver_course::{Course, course_of, has_room, refusal_at};
+use receiver_piece::the_receiver_phases::{close_refused, close_whole, refuse, repeat};
+use receiver_piece::the_receiver_record::{Handed, Memory, Receiver, STARTED};
 pub use receiver_piece::{the_reader as the_reader, the_receiver_record as the_receiver_record};
 use refusal::ENDED;
 
@@ -30,49 +31,46 @@ pub fn fed(
         result.reply }
 {
     let k = piece.len();
-    let a = held.len();
-    let b = events.len();
-    let c = text.len();
-    let d = work.len();
-    let roomy = receiver_piece::the_receiver_course::has_room(a, b, c, d);
-    let way = receiver_piece::the_receiver_course::course_of(before, k, roomy);
+    let roomy = has_room(held.len(), events.len(), text.len(), work.len());
+    let way = course_of(before, k, roomy);
     match way {
-        Course::Repeats => {
-            return receiver_piece::the_receiver_phases::repeat(before, held, events, text, work);
-        }
-        Course::Refused(y) => {
-            return receiver_piece::the_receiver_phases::refuse(
-                before, y, k, held, events, text, work,
-            );
-        }
-        Course::Reads => {
-            return receiver_piece::read_piece(before, piece, held, events, text, work);
-        }
+        Course::Reads => receiver_piece::read_piece(before, piece, held, events, text, work),
+        Course::Repeats => repeat(
+            before,
+            &mut Memory {
+                held,
+                events,
+                text,
+                work,
+            },
+        ),
+        Course::Refused(y) => refuse(
+            before,
+            y,
+            k,
+            &mut Memory {
+                held,
+                events,
+                text,
+                work,
+            },
+        ),
     }
 }
 
 // Closes a receiver that could read on: the octets are whole, or ENDED.
-fn close_now(
-    r: Receiver,
-    held: &mut [u8],
-    events: &mut [u32],
-    text: &mut [u32],
-    work: &mut [u32],
-) -> Handed
-    ensures { handed result
-        (lent held.new events.new text.new work.new)
-        ≡ closed_now r (lent held.old events.old text.old
-        work.old) }
+fn close_now(r: Receiver, m: &mut Memory<'_>) -> Handed
+    ensures same { SameParts m.old m.new }
+    ensures value { handed result (lent_in m.new) ≡ closed_now r (lent_in m.old) }
 {
     if r.phase == STARTED {
-        let y = receiver_piece::the_receiver_course::refusal_at(ENDED, 0);
-        return receiver_piece::the_receiver_phases::close_refused(r, y, held, events, text, work);
+        close_refused(r, refusal_at(ENDED, 0), m)
+    } else if r.state.core.mode == IS_OVER {
+        close_whole(r, m)
+    } else {
+        let y = refusal_at(ENDED, r.reply.events);
+        close_refused(r, y, m)
     }
-    if r.state.core.mode == IS_OVER {
-        return receiver_piece::the_receiver_phases::close_whole(r, held, events, text, work);
-    }
-    let y = receiver_piece::the_receiver_course::refusal_at(ENDED, r.reply.events);
-    receiver_piece::the_receiver_phases::close_refused(r, y, held, events, text, work)
 }
 
 // Closes: reply and memory are the whole reader's. The octets that were held and work memory are
@@ -90,23 +88,17 @@ pub fn closed(
         (lent held.new events.new text.new work.new)
         result.reply }
 {
-    let a = held.len();
-    let b = events.len();
-    let c = text.len();
-    let d = work.len();
-    let roomy = receiver_piece::the_receiver_course::has_room(a, b, c, d);
-    let way = receiver_piece::the_receiver_course::course_of(before, 0, roomy);
+    let roomy = has_room(held.len(), events.len(), text.len(), work.len());
+    let way = course_of(before, 0, roomy);
+    let mut m = Memory {
+        held,
+        events,
+        text,
+        work,
+    };
     match way {
-        Course::Repeats => {
-            return receiver_piece::the_receiver_phases::repeat(before, held, events, text, work);
-        }
-        Course::Refused(y) => {
-            return receiver_piece::the_receiver_phases::close_refused(
-                before, y, held, events, text, work,
-            );
-        }
-        Course::Reads => {
-            return close_now(before, held, events, text, work);
-        }
+        Course::Repeats => repeat(before, &mut m),
+        Course::Refused(y) => close_refused(before, y, &mut m),
+        Course::Reads => close_now(before, &mut m),
     }
 }

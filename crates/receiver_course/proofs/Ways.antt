@@ -19,13 +19,16 @@ use Rattle.mem_state.specs.declared.Core.{Core}
 use Rattle.mem_state.specs.Holds.{Bounded}
 use Rattle.receiver_record.specs.reader.declared.ReadReply.{ReadReply}
 use Rattle.receiver_record.specs.declared.Receiver.{Receiver}
-use Rattle.receiver_record.specs.Record.{is_started, going_on, refusal_at}
+use Rattle.receiver_record.specs.Record.{is_started, going_on, is_refused, is_closed, refusal_at}
 use Rattle.receiver_course.specs.declared.Course.{Course}
 use Rattle.receiver_course.specs.declared.Course.TheVariants.{Repeats, Refused, Reads}
 use Rattle.receiver_course.specs.Course.{has_room, values_in, tables_in, elements_in, numbers_in}
 use Rattle.receiver_course.specs.Course.{is_sound, course_of, Within}
 
 -- ---- soundness
+
+pub not-closed : {n : ℕ} → n ≡ is_refused → n ≡ is_closed → ⊥
+not-closed e f = let z : ◌≡◌ {A = ℕ} 2 3 = sym e ∙ f in absurd (omega arith)
 
 pub going-not-started : {n : ℕ} → n ≡ going_on → n ≡ is_started → ⊥
 going-not-started e f = let z : ◌≡◌ {A = ℕ} 1 0 = sym e ∙ f in absurd (omega arith)
@@ -35,23 +38,20 @@ module _ (r : Receiver) where
   unfolding is_sound
   started-sound e = rw (eq-eqb r.phase 0 e)
 
-  module _ (a : r.phase ≡ 0 → ⊥) where
-    pub other-phase : (r.phase ≡ 1 → ⊥) → false ≡ is_sound r
-    unfolding is_sound
-    other-phase b = rw (ne_eqb r.phase 0 a, ne_eqb r.phase 1 b)
+  pub other-phase : (r.phase ≡ 0 → ⊥) → (r.phase ≡ 1 → ⊥) → false ≡ is_sound r
+  unfolding is_sound
+  other-phase a b = rw (ne_eqb r.phase 0 a, ne_eqb r.phase 1 b)
 
-    pub too_many : r.phase ≡ 1 → 16384 < r.octets → false ≡ is_sound r
+  module _ (b : r.phase ≡ 1) where
+    pub too_many : 16384 < r.octets → false ≡ is_sound r
     unfolding is_sound max_stream
-    too_many b h =
-        rw (ne_eqb r.phase 0 a, eq-eqb r.phase 1 b, lt-leb r.octets 16384 h)
+    too_many h =
+        rw (ne_eqb r.phase 0 (going-not-started b), eq-eqb r.phase 1 b, lt-leb r.octets 16384 h)
 
-    pub going_on_lem : {t u : Bool} → r.phase ≡ 1 → r.octets ≤ 16384 → t ≡ tables_in r.state.core
-        → u ≡ elements_in r.state.core
-        → (t && u && leb r.state.core.at (8 * r.octets) && leb r.reply.events 4096
-        && leb r.wait.at (8 * r.octets) && leb r.wait.left 4096) ≡ is_sound r
-    unfolding is_sound numbers_in max_stream max_events max_string
-    going_on_lem b h e f =
-        rw (ne_eqb r.phase 0 a, eq-eqb r.phase 1 b, le-leb r.octets 16384 h, e, f)
+    pub going_on_lem : r.octets ≤ 16384 → numbers_in r ≡ is_sound r
+    unfolding is_sound max_stream
+    going_on_lem h =
+        rw (ne_eqb r.phase 0 (going-not-started b), eq-eqb r.phase 1 b, le-leb r.octets 16384 h)
 
   pub sound-few : is_sound r ≡ true → r.octets ≤ 16384
   unfolding is_sound max_stream

@@ -1,5 +1,8 @@
 -- Which way a call goes, by the record, the piece's length and the lengths of what is lent.
 use Rattle.std.specs.Prelude.{ℕ, ◌+◌, ◌*◌, ◌≤◌, Bool, false, cond, ◌&&◌, ◌||◌, leb, ltb, eqb}
+use Rattle.std.specs.Prelude.{Result, Ok, Err}
+use Rattle.refusal.specs.declared.Refusal.{Refusal}
+use Rattle.refusal.specs.Numbers.{number_in}
 use Rattle.spec_exi.specs.Sizes.{max_stream, max_events, max_open, max_uris, max_names, max_values}
 use Rattle.spec_exi.specs.Sizes.{max_grammars, max_learned, max_string, max_store, event_cells}
 use Rattle.spec_exi.specs.Sizes.{reader_work}
@@ -73,6 +76,11 @@ course_of r k roomy =
     (Refused (refusal_at (number_of settings) 0)))
     (Refused (refusal_at (number_of settings) 0)))
     (Refused (refusal_at (number_of room) 0))))
+
+-- The course of a call of a receiver that is not closed or refused, by why it is refused, if so.
+abbrev pub course_by : {A : Type 0} → Result A Refusal → Course
+course_by (Ok _) = Reads
+course_by (Err e) = Refused (refusal_at (number_in e) 0)
 
 -- The octets so far: one more than a stream may have, where there are more.
 unfoldable pub counted : ℕ → ℕ → ℕ

@@ -2,11 +2,12 @@
 // length, and the lengths of what is lent. What the contracts cite is in specs/Course.antt.
 #![tactic(auto)]
 
-ghost use Rattle.std.specs.Prelude.{◌≡◌};
-ghost use Rattle.receiver_record.specs.Record.{refusal_at};
+ghost use Rattle.std.specs.Prelude.{◌≡◌, ◌≢◌, ◌≤◌};
+ghost use Rattle.spec_exi.specs.Sizes.{max_stream};
+ghost use Rattle.receiver_record.specs.Record.{is_closed, is_refused, refusal_at};
 ghost use Rattle.receiver_course.specs.Course.{has_room, values_in, tables_in, elements_in};
-ghost use Rattle.receiver_course.specs.Course.{is_sound};
-ghost use Rattle.receiver_course.specs.Course.{course_of, counted, refused_after};
+ghost use Rattle.receiver_course.specs.Course.{numbers_in, is_sound};
+ghost use Rattle.receiver_course.specs.Course.{course_by, course_of, counted, refused_after};
 
 use event_code::{IN_ELEMENT, IN_TAG};
 use mem_layout::NAME_ROWS;
@@ -15,7 +16,7 @@ pub use receiver_record as the_receiver_record;
 pub use receiver_record::the_reader as the_reader;
 use receiver_record::the_reader::ReadReply;
 use receiver_record::{CLOSED, GOING_ON, REFUSED, Receiver, STARTED};
-use refusal::{LONG, ROOM, SETTINGS};
+use refusal::{LONG, ROOM, Refusal, SETTINGS};
 use sizes::{
     EVENT_CELLS, MAX_EVENTS, MAX_GRAMMARS, MAX_LEARNED, MAX_NAMES, MAX_OPEN, MAX_STORE, MAX_STREAM,
     MAX_STRING, MAX_URIS, MAX_VALUES, READER_WORK,
@@ -85,19 +86,11 @@ fn elements_in(c: Core) -> bool
         & ((c.mode < IN_TAG) | (0 < c.depth))
 }
 
-// Whether a call can go on from the record: it is started, or its numbers are within their bounds.
-pub fn is_sound(r: Receiver) -> bool
-    ensures { result ≡ is_sound r }
+// Whether the numbers of a record that goes on are within their bounds, positions within the octets.
+fn numbers_in(r: Receiver) -> bool
+    requires { r.octets ≤ max_stream }
+    ensures { result ≡ numbers_in r }
 {
-    if r.phase == STARTED {
-        return r.octets == 0;
-    }
-    if r.phase != GOING_ON {
-        return false;
-    }
-    if MAX_STREAM < r.octets {
-        return false;
-    }
     let end = 8 * r.octets;
     let core = r.state.core;
     let tables = tables_in(core);
@@ -110,36 +103,51 @@ pub fn is_sound(r: Receiver) -> bool
         & (r.wait.left <= MAX_STRING)
 }
 
-// In order: closed; refused; ROOM; SETTINGS, of the record's own numbers too; LONG.
-pub fn course_of(r: Receiver, k: usize, roomy: bool) -> Course
-    ensures { result ≡ course_of r k roomy }
+// Whether a call can go on from the record: it is started, or its numbers are within their bounds.
+pub fn is_sound(r: Receiver) -> bool
+    ensures { result ≡ is_sound r }
 {
-    if r.phase == CLOSED {
-        return Course::Repeats;
+    match r.phase {
+        STARTED => r.octets == 0,
+        GOING_ON => r.octets <= MAX_STREAM && numbers_in(r),
+        _ => false,
     }
-    if r.phase == REFUSED {
-        let y = r.reply;
-        return Course::Refused(y);
-    }
+}
+
+// In order: ROOM; SETTINGS, of the record's own numbers too; LONG.
+fn admit(r: Receiver, k: usize, roomy: bool) -> Result<(), Refusal>
+    ensures { r.phase ≢ is_closed → r.phase ≢ is_refused
+        → course_by result ≡ course_of r k roomy }
+{
     if !roomy {
-        let y = refusal_at(ROOM, 0);
-        return Course::Refused(y);
+        return Err(Refusal::Room);
     }
     let meant = settings::are_meaningful(r.settings);
     if !meant {
-        let y = refusal_at(SETTINGS, 0);
-        return Course::Refused(y);
+        return Err(Refusal::Settings);
     }
     let sound = is_sound(r);
     if !sound {
-        let y = refusal_at(SETTINGS, 0);
-        return Course::Refused(y);
+        return Err(Refusal::Settings);
     }
     if MAX_STREAM - r.octets < k {
-        let y = refusal_at(LONG, 0);
-        return Course::Refused(y);
+        return Err(Refusal::Long);
     }
-    Course::Reads
+    Ok(())
+}
+
+// A closed receiver repeats its answer, and a refused one stays so, before anything is judged.
+pub fn course_of(r: Receiver, k: usize, roomy: bool) -> Course
+    ensures { result ≡ course_of r k roomy }
+{
+    match r.phase {
+        CLOSED => Course::Repeats,
+        REFUSED => Course::Refused(r.reply),
+        _ => match admit(r, k, roomy) {
+            Ok(()) => Course::Reads,
+            Err(e) => Course::Refused(refusal_at(e.number(), 0)),
+        },
+    }
 }
 
 // ---- octets are counted after a refusal, too
@@ -148,13 +156,7 @@ pub fn course_of(r: Receiver, k: usize, roomy: bool) -> Course
 pub fn count(n: usize, k: usize) -> usize
     ensures { result ≡ counted n k }
 {
-    if MAX_STREAM < n {
-        return MAX_STREAM + 1;
-    }
-    if MAX_STREAM - n < k {
-        return MAX_STREAM + 1;
-    }
-    n + k
+    n.saturating_add(k).min(MAX_STREAM + 1)
 }
 
 // The refusal after n octets: past the longest stream it is LONG, if not ROOM or SETTINGS.

@@ -19,7 +19,7 @@ use Rattle.spec_exi.specs.Reader.{read_string, readName, readContent}
 use Rattle.spec_exi.proofs.Steady.{steady-string, steady-name}
 use Rattle.mem_rows.specs.Rows.{kind_at, tables_of}
 use Rattle.read_contract.proofs.Outcome.{return-gotten}
-use Rattle.receiver_strings.specs.declared.Looked.{Looked}
+use Rattle.receiver_strings.specs.View.{Looked}
 use Rattle.receiver_strings.specs.Cuts.{Sees}
 use Rattle.receiver_strings.specs.Strings.{StringSeen}
 use Rattle.receiver_strings.proofs.Cuts.{passes-return, sees-then, sees-after}

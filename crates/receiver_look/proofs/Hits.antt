@@ -22,8 +22,8 @@ use Rattle.spec_exi.specs.Tables.{Placed, Slot, Tables, hit, uri, local, compact
 use Rattle.spec_exi.specs.Tables.{partitions_of, names_of, tables_after}
 use Rattle.spec_exi.specs.Reader.{read_by_literals, read_in, read_hit, read_entry, read_form}
 use Rattle.spec_exi.specs.Reader.{read_string, readName}
-use Rattle.read_field.specs.declared.Field.{Field}
-use Rattle.read_field.specs.declared.Field.TheVariants.{Value}
+use Rattle.read_field.specs.View.{Seen}
+use Rattle.read_field.specs.View.{Value}
 use Rattle.read_field.specs.View.{field_at, NumberPre}
 use Rattle.mem_layout.specs.Layout.{uri_rows}
 use Rattle.mem_names.specs.Uris.{uri_at, uri_text}
@@ -33,7 +33,7 @@ use Rattle.mem_rows.proofs.Forms.{own-count}
 use Rattle.read_contract.specs.Outcome.{Gotten}
 use Rattle.read_contract.proofs.Outcome.{need-true, choice-gotten, choice-none}
 use Rattle.read_contract.proofs.Outcome.{number-gotten, unsigned-gotten}
-use Rattle.receiver_strings.specs.declared.Looked.{Looked}
+use Rattle.receiver_strings.specs.View.{Looked}
 use Rattle.receiver_strings.specs.Cuts.{Passes, faulty, reads, Sees}
 use Rattle.receiver_strings.specs.Strings.{SpotPre, LookBounds}
 use Rattle.receiver_strings.proofs.Cuts.{passes-return, passes_then, faulty-then, sees-field}
@@ -178,7 +178,7 @@ module _ {stream work : List ℕ} {at : ℕ} (pre : HitPre stream work at) where
   unfolding max_stream max_uris
   uri-asks l = omega (arith, pre.spot)
 
-  module _ (a : Alignment) {row among : ℕ} (c : CountedNames work row among) {f : Field}
+  module _ (a : Alignment) {row among : ℕ} (c : CountedNames work row among) {f : Seen}
       (answer : f ≡ field_at (number_field a (width among)) stream at) {v q : ℕ} (z : f ≡ Value v q)
     where
       abbrev field : Gotten (number_field a (width among)) stream at q
@@ -203,7 +203,7 @@ module _ {stream work : List ℕ} {at : ℕ} (pre : HitPre stream work at) where
                 });
           }
 
-  module _ {f : Field} (answer : f ≡ field_at unsigned stream at) {v q : ℕ} (z : f ≡ Value v q) where
+  module _ {f : Seen} (answer : f ≡ field_at unsigned stream at) {v q : ℕ} (z : f ≡ Value v q) where
     abbrev first : Gotten unsigned stream at q
     first = unsigned-gotten stream at pre.spot.place (sym answer ∙ z)
 
@@ -228,7 +228,7 @@ module _ {stream work : List ℕ} {at : ℕ} (pre : HitPre stream work at) where
 -- ---- the URI before it
 
 module _ {stream work : List ℕ} {at : ℕ} (pre : HitPre stream work at) (a : Alignment) (uris : ℕ)
-    {f : Field} (answer : f ≡ field_at (number_field a (width (uris + 1))) stream at) {v q : ℕ}
+    {f : Seen} (answer : f ≡ field_at (number_field a (width (uris + 1))) stream at) {v q : ℕ}
     (z : f ≡ Value v q) where
   abbrev field-uri : Gotten (number_field a (width (uris + 1))) stream at q
   field-uri = number-gotten stream at pre.spot.place a (width (uris + 1)) (sym answer ∙ z)

@@ -19,12 +19,12 @@ use Rattle.spec_exi.specs.Sizes.{sizes, max_stream, max_uris}
 use Rattle.spec_exi.specs.Tables.{Slot, Tables, Role, uri, local, compact, literals, partitions_of}
 use Rattle.spec_exi.specs.Reader.{read_by_literals, read_entry, read_form, read_string, readName}
 use Rattle.spec_exi.proofs.Steady.{steady-string}
-use Rattle.read_field.specs.declared.Field.{Field}
-use Rattle.read_field.specs.declared.Field.TheVariants.{Value}
+use Rattle.read_field.specs.View.{Seen}
+use Rattle.read_field.specs.View.{Value}
 use Rattle.read_field.specs.View.{field_at, NumberPre}
 use Rattle.read_contract.specs.Outcome.{Declined, Gotten}
 use Rattle.read_contract.proofs.Outcome.{number-gotten, choice-gotten, choice-none}
-use Rattle.receiver_strings.specs.declared.Looked.{Looked}
+use Rattle.receiver_strings.specs.View.{Looked}
 use Rattle.receiver_strings.specs.Cuts.{Faulty, Passes, faulty, reads, Sees}
 use Rattle.receiver_strings.specs.Strings.{SpotPre, LookBounds, StringSeen}
 use Rattle.receiver_strings.proofs.Cuts.{passes-return, passes-need, passes-behind, faulty-then}
@@ -134,7 +134,7 @@ module _ {stream : List ℕ} {at uris : ℕ} (pre : UriPre stream at uris) where
         sees = λ s b t e. sees-nothing s _ stream at at;
       }
 
-  module _ (a : Alignment) {f : Field}
+  module _ (a : Alignment) {f : Seen}
       (answer : f ≡ field_at (number_field a (width (uris + 1))) stream at) {v q : ℕ}
       (z : f ≡ Value v q) where
     abbrev field : Gotten (number_field a (width (uris + 1))) stream at q

@@ -29,10 +29,10 @@ use Rattle.event_code.specs.Numbers.{in_tag}
 use Rattle.grammar_update.proofs.Represented.{code-rows, inner-state}
 use Rattle.grammar_match.specs.Here.{CodeRows}
 use Rattle.read_contract.specs.Outcome.{Declined, Gotten, Outcome}
-use Rattle.read_production.specs.declared.ProductionRead.{ProductionRead}
+use Rattle.read_production.specs.View.{ProductionRead}
 use Rattle.read_production.specs.Levels.{FixedPre, FixedAt}
 use Rattle.read_production.specs.Production.{ProductionPre, IsCode, ProductionPost}
-use Rattle.receiver_strings.specs.declared.Looked.{Looked}
+use Rattle.receiver_strings.specs.View.{Looked}
 use Rattle.receiver_strings.specs.Cuts.{Passes, CutAt, Sees}
 use Rattle.receiver_strings.specs.Strings.{StringSeen}
 use Rattle.receiver_strings.proofs.Cuts.{passes-return, passes-need, passes_then, passes-behind}
@@ -45,8 +45,8 @@ use Rattle.receiver_look.proofs.Events.{content-characters}
 -- ---- the rest of a code that names no learned production
 
 module _ {stream work : List ℕ} {next : ℕ} {c : Core} (pre : FixedLookPre stream work next c) where
-  pub rest-asks : FixedPre stream next c.at
-  rest-asks = record { size = pre.spot.size; place = pre.place; start = pre.spot.place }
+  pub rest-asks : FixedPre stream next
+  rest-asks = record { size = pre.spot.size; place = pre.place }
 
   pub fixed-nothing : (s : Settings)
       → FixedSeen s stream work next c (record { past = false; at = c.at; left = 0 })

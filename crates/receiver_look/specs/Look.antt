@@ -24,9 +24,9 @@ use Rattle.mem_state.specs.Holds.{in_store, Bounded, Topped, Represents, context
 use Rattle.event_code.specs.Numbers.{number_of_at, number_of_ch}
 use Rattle.read_contract.specs.Outcome.{Declined}
 use Rattle.read_literal.specs.Awaits.{Awaits}
-use Rattle.read_production.specs.declared.ProductionRead.{ProductionRead}
+use Rattle.read_production.specs.View.{ProductionRead}
 use Rattle.read_production.specs.Levels.{FixedAt}
-use Rattle.receiver_strings.specs.declared.Looked.{Looked}
+use Rattle.receiver_strings.specs.View.{Looked}
 use Rattle.receiver_strings.specs.Cuts.{Passes, Sees}
 use Rattle.receiver_strings.specs.Strings.{SpotPre, LookBounds, StringSeen}
 

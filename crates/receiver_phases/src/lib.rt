@@ -3,66 +3,45 @@
 #![tactic(auto)]
 
 ghost use Rattle.std.specs.Prelude.{◌≡◌, ◌+◌, ◌≤◌, length};
-ghost use Rattle.receiver_course.specs.receiver_record.Record.{Lent, lent, cleared, handed};
+ghost use Rattle.receiver_course.specs.receiver_record.Record.{lent_in, SameParts, cleared, handed};
 ghost use Rattle.receiver_phases.specs.Phases.{kept, repeated, refused, closed_by};
 ghost use Rattle.receiver_phases.specs.Phases.{closed_whole};
 
 pub use receiver_course as the_receiver_course;
 use receiver_course::the_reader::ReadReply;
-use receiver_course::the_receiver_record::{CLOSED, Handed, REFUSED, Receiver};
+use receiver_course::the_receiver_record::{CLOSED, Handed, Memory, REFUSED, Receiver};
 pub use receiver_course::{the_reader as the_reader, the_receiver_record as the_receiver_record};
 
 // Clears all that is lent.
-fn clear_all(held: &mut [u8], events: &mut [u32], text: &mut [u32], work: &mut [u32])
-    ensures { ◌≡◌ {A = Lent}
-        (lent held.new events.new text.new work.new)
-        (cleared (lent held.old events.old text.old
-        work.old)) }
+fn clear_all(m: &mut Memory<'_>)
+    ensures same { SameParts m.old m.new }
+    ensures value { lent_in m.new ≡ cleared (lent_in m.old) }
 {
-    mem_clear::octets(held);
-    mem_clear::cells(events);
-    mem_clear::cells(text);
-    mem_clear::cells(work);
+    mem_clear::octets(m.held);
+    mem_clear::cells(m.events);
+    mem_clear::cells(m.text);
+    mem_clear::cells(m.work);
 }
 
 // Repeats the answer of a receiver that is closed: memory stays as it is, or after a refusal is
 // cleared.
-pub fn repeat(
-    r: Receiver,
-    held: &mut [u8],
-    events: &mut [u32],
-    text: &mut [u32],
-    work: &mut [u32],
-) -> Handed
-    ensures { handed result
-        (lent held.new events.new text.new work.new)
-        ≡ repeated r (lent held.old events.old text.old
-        work.old) }
+pub fn repeat(r: Receiver, m: &mut Memory<'_>) -> Handed
+    ensures same { SameParts m.old m.new }
+    ensures value { handed result (lent_in m.new) ≡ repeated r (lent_in m.old) }
 {
     let reply = r.reply;
-    if reply.number == 0 {
-        return Handed { receiver: r, reply };
+    if reply.number != 0 {
+        clear_all(m);
     }
-    clear_all(held, events, text, work);
     Handed { receiver: r, reply }
 }
 
 // Refuses, or stays refused: the piece is counted, and all that is lent is cleared.
-pub fn refuse(
-    r: Receiver,
-    y: ReadReply,
-    k: usize,
-    held: &mut [u8],
-    events: &mut [u32],
-    text: &mut [u32],
-    work: &mut [u32],
-) -> Handed
-    ensures { handed result
-        (lent held.new events.new text.new work.new)
-        ≡ refused r y k (lent held.old events.old text.old
-        work.old) }
+pub fn refuse(r: Receiver, y: ReadReply, k: usize, m: &mut Memory<'_>) -> Handed
+    ensures same { SameParts m.old m.new }
+    ensures value { handed result (lent_in m.new) ≡ refused r y k (lent_in m.old) }
 {
-    clear_all(held, events, text, work);
+    clear_all(m);
     let n = receiver_course::count(r.octets, k);
     let reply = receiver_course::refused_after(n, y);
     let mut receiver = r;
@@ -73,20 +52,11 @@ pub fn refuse(
 }
 
 // Closes with a refusal: all that is lent is cleared.
-pub fn close_refused(
-    r: Receiver,
-    y: ReadReply,
-    held: &mut [u8],
-    events: &mut [u32],
-    text: &mut [u32],
-    work: &mut [u32],
-) -> Handed
-    ensures { handed result
-        (lent held.new events.new text.new work.new)
-        ≡ closed_by r y (lent held.old events.old text.old
-        work.old) }
+pub fn close_refused(r: Receiver, y: ReadReply, m: &mut Memory<'_>) -> Handed
+    ensures same { SameParts m.old m.new }
+    ensures value { handed result (lent_in m.new) ≡ closed_by r y (lent_in m.old) }
 {
-    clear_all(held, events, text, work);
+    clear_all(m);
     let mut receiver = r;
     receiver.phase = CLOSED;
     receiver.reply = y;
@@ -94,20 +64,12 @@ pub fn close_refused(
 }
 
 // Closes a stream that is whole: the octets that were held and work memory are cleared.
-pub fn close_whole(
-    r: Receiver,
-    held: &mut [u8],
-    events: &mut [u32],
-    text: &mut [u32],
-    work: &mut [u32],
-) -> Handed
-    ensures { handed result
-        (lent held.new events.new text.new work.new)
-        ≡ closed_whole r (lent held.old events.old text.old
-        work.old) }
+pub fn close_whole(r: Receiver, m: &mut Memory<'_>) -> Handed
+    ensures same { SameParts m.old m.new }
+    ensures value { handed result (lent_in m.new) ≡ closed_whole r (lent_in m.old) }
 {
-    mem_clear::octets(held);
-    mem_clear::cells(work);
+    mem_clear::octets(m.held);
+    mem_clear::cells(m.work);
     let reply = r.reply;
     let mut receiver = r;
     receiver.phase = CLOSED;
@@ -119,9 +81,5 @@ pub fn keep(held: &mut [u8], n: usize, piece: &[u8])
     requires { n + length piece.now ≤ length held.old }
     ensures { held.new ≡ kept held.old n piece.now }
 {
-    let mut i = 0;
-    while i < piece.len() {
-        held[n + i] = piece[i];
-        i += 1;
-    }
+    held[n..n + piece.len()].copy_from_slice(piece);
 }

@@ -38,7 +38,7 @@ use Rattle.receiver_phases.specs.receiver_course.Course.{counted, refused_after,
 use Rattle.receiver_phases.proofs.receiver_course.Ways.{Roomy, roomy-is, sound-within, going-not-started}
 use Rattle.receiver_phases.proofs.receiver_course.Ways.{within-sound}
 use Rattle.receiver_phases.specs.Phases.{kept, refused}
-use Rattle.receiver_strings.specs.declared.Skipped.{Skipped}
+use Rattle.receiver_strings.specs.View.{Skipped}
 use Rattle.receiver_strings.specs.Strings.{SkipPost}
 use Rattle.receiver_wait.specs.receiver_read.On.{BeginPre, BeginPost, Underway, Stands, Awaiting, Onward, OnPost}
 use Rattle.receiver_wait.proofs.receiver_read.Longer.{underway-longer}

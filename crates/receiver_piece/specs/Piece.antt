@@ -1,5 +1,5 @@
 -- What a receiver's record and memory hold, and what a piece that is read leaves.
-use Rattle.std.specs.Prelude.{ℕ, ◌+◌, ◌≤◌, ◌<◌, ◌≡◌, Bool, true, cond, ◌||◌, List, ◌++◌, length, take, drop, leb, eqb}
+use Rattle.std.specs.Prelude.{ℕ, ◌+◌, ◌≤◌, ◌<◌, ◌≡◌, Bool, true, cond, ◌||◌, List, ◌++◌, length, take, drop, leb, eqb, Err}
 use Rattle.spec_fields.specs.Refusal.{number_of, ended, Answer}
 use Rattle.spec_exi.specs.Settings.{meaningful, settings_of}
 use Rattle.spec_exi.specs.Sizes.{max_stream, max_events, max_open, max_store, event_cells}
@@ -18,7 +18,8 @@ use Rattle.receiver_phases.specs.receiver_record.Record.{with_reply, Lent, clear
 use Rattle.receiver_phases.specs.receiver_course.Course.{has_room, is_sound, Within}
 use Rattle.receiver_phases.specs.Phases.{refused}
 use Rattle.receiver_wait.specs.receiver_read.On.{BeginPost, Underway, Stands, Awaiting}
-use Rattle.receiver_strings.specs.declared.Skipped.{Skipped}
+use Rattle.receiver_strings.specs.declared.Stopped as strings
+use Rattle.receiver_strings.specs.View.{Skipped, skipped_in}
 
 -- ---- room
 
@@ -123,6 +124,9 @@ concluded r k a w m =
     (refused r (refusal_at a.number a.index) k m)
 
 -- Where code points are awaited, and one is refused.
+abbrev pub stopped_as : strings.Stopped → Skipped
+stopped_as x = skipped_in (Err x)
+
 abbrev pub stayed : Receiver → Skipped → Advanced
 stayed r s = record { number = s.number; index = r.reply.events; state = r.state }
 

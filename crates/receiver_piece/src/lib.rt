@@ -8,18 +8,18 @@ ghost use Rattle.receiver_phases.specs.receiver_record.Record.{lent, handed};
 ghost use Rattle.receiver_wait.specs.receiver_read.On.{BeginPre, OnPost};
 ghost use Rattle.receiver_wait.specs.Wait.{CutPre, CutPost};
 ghost use Rattle.receiver_piece.specs.Piece.{went_on, concluded, ConcludePre, AdvancedPre};
-ghost use Rattle.receiver_piece.specs.Piece.{stayed, awaited};
+ghost use Rattle.receiver_piece.specs.Piece.{stopped_as, stayed, awaited};
 ghost use Rattle.receiver_piece.specs.Piece.{GoOnPre, GoOnPost, BegunPost};
 ghost use Rattle.receiver_piece.specs.Piece.{PiecePre, PiecePost};
 
 pub use receiver_phases as the_receiver_phases;
 use receiver_phases::the_reader::ReadReply;
-use receiver_phases::the_receiver_record::{GOING_ON, Handed, Receiver, STARTED, Wait};
+use receiver_phases::the_receiver_record::{GOING_ON, Handed, Memory, Receiver, STARTED, Wait};
 pub use receiver_phases::{
     the_reader as the_reader, the_receiver_course as the_receiver_course,
     the_receiver_record as the_receiver_record,
 };
-use receiver_strings::Skipped;
+use receiver_strings::Stopped;
 use receiver_wait::the_read_run::Advanced;
 use refusal::ENDED;
 
@@ -67,29 +67,35 @@ fn conclude(
         return went_on(r, k, a, w);
     }
     let y = receiver_phases::the_receiver_course::refusal_at(a.number, a.index as u32);
-    receiver_phases::refuse(r, y, k, held, events, text, work)
+    let mut m = Memory {
+        held,
+        events,
+        text,
+        work,
+    };
+    receiver_phases::refuse(r, y, k, &mut m)
 }
 
 // Answers where code points are awaited, and one is refused: ENDED is no refusal yet.
 fn stay(
     r: Receiver,
     k: usize,
-    s: Skipped,
+    s: Stopped,
     held: &mut [u8],
     events: &mut [u32],
     text: &mut [u32],
     work: &mut [u32],
 ) -> Handed
-    requires { ConcludePre r k (stayed r s) }
+    requires { ConcludePre r k (stayed r (stopped_as s)) }
     ensures { handed result
         (lent held.new events.new text.new work.new)
-        ≡ concluded r k (stayed r s) (awaited s) (lent held.old events.old
+        ≡ concluded r k (stayed r (stopped_as s)) (awaited (stopped_as s)) (lent held.old events.old
         text.old work.old) }
 {
     let state = r.state;
     let index = r.reply.events as usize;
     let a = Advanced {
-        number: s.number,
+        number: s.refusal.number(),
         index,
         state,
     };
@@ -151,8 +157,7 @@ fn go_on(
     let k = piece.len();
     receiver_phases::keep(held, n, piece);
     let row = receiver_wait::the_receiver_read::outermost(r.state);
-    let s = receiver_wait::still(held, n + k, r.wait.at, r.wait.left);
-    if s.number != 0 {
+    if let Err(s) = receiver_wait::still(held, n + k, r.wait.at, r.wait.left) {
         return stay(r, k, s, held, events, text, work);
     }
     let a = advanced(r, held, n + k, events, text, work);

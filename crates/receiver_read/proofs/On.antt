@@ -27,7 +27,7 @@ use Rattle.read_literal.specs.Literal.{ZeroFrom}
 use Rattle.read_literal.proofs.Store.{laid-size}
 use Rattle.grammar_open.specs.declared.State.{State}
 use Rattle.grammar_open.specs.Opened.{opened_in}
-use Rattle.read_header.specs.declared.Passed.{Passed}
+use Rattle.read_header.specs.Header.{Passed}
 use Rattle.reader.specs.read_run.declared.Advanced.{Advanced}
 use Rattle.reader.specs.read_run.Events.{Steps, none_read}
 use Rattle.reader.specs.read_run.Run.{Running, AdvancePre, AdvancePost}

@@ -5,15 +5,15 @@
 ghost use Rattle.std.specs.Prelude.{◌≡◌, ◌≤◌, length, take};
 ghost use Rattle.spec_exi.specs.Sizes.{max_stream};
 ghost use Rattle.settings.specs.Meant.{settings_from};
+ghost use Rattle.read_header.specs.Header.{view};
 ghost use Rattle.reader.specs.read_run.Run.{AdvancePre};
 ghost use Rattle.receiver_read.specs.On.{BeginPre, BeginPost, OutermostPost, HeaderPost};
 ghost use Rattle.receiver_read.specs.On.{OnPost};
 
 use grammar_open::State;
-use read_header::Passed;
 pub use reader::the_read_run as the_read_run;
 use reader::the_read_run::Advanced;
-use refusal::TAIL;
+use refusal::{Refusal, TAIL};
 use settings::Settings;
 
 // Lays what memory holds before the first event: no event cell, the initial entries in text store
@@ -39,14 +39,14 @@ pub fn outermost(st: State) -> u16
 }
 
 // Reads the header, if it is not read yet: the position is 0.
-fn pass_header(o: Settings, stream: &[u8], at: usize) -> Passed
+fn pass_header(o: Settings, stream: &[u8], at: usize) -> Result<usize, Refusal>
     requires { length stream.now ≤ max_stream }
-    ensures { HeaderPost (settings_from o) stream.now at result }
+    ensures { HeaderPost (settings_from o) stream.now at (view result) }
 {
     if at == 0 {
         return read_header::read_header(o, stream);
     }
-    Passed { number: 0, at }
+    Ok(at)
 }
 
 // Reads on from a state, before which so many events were read: the header, the events, and the
@@ -65,16 +65,17 @@ pub fn read_on(
         work.old st first events.new text.new work.new
         result }
 {
-    let h = pass_header(o, stream, st.core.at);
-    if h.number != 0 {
-        return Advanced {
-            number: h.number,
-            index: first,
-            state: st,
-        };
-    }
     let mut t = st;
-    t.core.at = h.at;
+    match pass_header(o, stream, st.core.at) {
+        Ok(at) => t.core.at = at,
+        Err(refusal) => {
+            return Advanced {
+                number: refusal.number(),
+                index: first,
+                state: st,
+            };
+        }
+    }
     let r = reader::the_read_run::advance(o, stream, t, first, events, text, work);
     if r.number != 0 {
         return r;

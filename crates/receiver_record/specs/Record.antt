@@ -1,10 +1,11 @@
 -- A receiver's record, what is lent beside it, and what a call leaves of both.
-use Rattle.std.specs.Prelude.{ℕ, List, length, replicate}
+use Rattle.std.specs.Prelude.{ℕ, ◌≡◌, List, length, replicate}
 use Rattle.settings.specs.declared.SettingNumbers.{SettingNumbers}
 use Rattle.mem_initial.specs.Initial.{start_at}
 use Rattle.grammar_open.specs.Opened.{none_open}
 use Rattle.reader.specs.declared.ReadReply.{ReadReply}
 use Rattle.receiver_record.specs.declared.Receiver.{Receiver}
+use Rattle.receiver_record.specs.declared.Memory.{Memory}
 use Rattle.receiver_record.specs.declared.Handed.{Handed}
 
 -- ---- the record
@@ -62,6 +63,16 @@ pub record Lent : Type 0 where
 abbrev pub lent : List ℕ → List ℕ → List ℕ → List ℕ → Lent
 lent held events text work =
     record { held = held; events = events; text = text; work = work }
+
+-- What the parts hold.
+abbrev pub lent_in : Memory → Lent
+lent_in m = lent m.held.now m.events.now m.text.now m.work.now
+
+-- Each part is the same memory after a call as before it.
+abbrev pub SameParts : Memory → Memory → Type 0
+SameParts m m' =
+    (m'.held.ghost_name ≡ m.held.ghost_name) × (m'.events.ghost_name ≡ m.events.ghost_name)
+    × (m'.text.ghost_name ≡ m.text.ghost_name) × (m'.work.ghost_name ≡ m.work.ghost_name)
 
 abbrev pub zeros : List ℕ → List ℕ
 zeros l = replicate (length l) 0

@@ -10,7 +10,7 @@ pub use reader as the_reader;
 use reader::ReadReply;
 use settings::SettingNumbers;
 
-// The phases by their numbers.
+// The phases by their numbers: C lends the record, which may hold any.
 pub const STARTED: u32 = 0;
 
 pub const GOING_ON: u32 = 1;
@@ -39,6 +39,15 @@ pub struct Receiver {
     pub reply: ReadReply,
     pub state: State,
     pub wait: Wait,
+}
+
+// What is lent beside a record: the octets that are held, event cells, text store, work memory.
+#[derive(Drop)]
+pub struct Memory<'a> {
+    pub held: &'a mut [u8],
+    pub events: &'a mut [u32],
+    pub text: &'a mut [u32],
+    pub work: &'a mut [u32],
 }
 
 // What a call answers: the record for the next one, and the reply.

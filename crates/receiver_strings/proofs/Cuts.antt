@@ -16,7 +16,7 @@ use Rattle.read_contract.specs.Outcome.{Declined, Gotten}
 use Rattle.read_contract.proofs.Outcome.{need-true}
 use Rattle.read_literal.specs.Awaits.{Awaits}
 use Rattle.read_literal.proofs.Awaits.{awaits-then, awaits-behind, awaits-need}
-use Rattle.receiver_strings.specs.declared.Looked.{Looked}
+use Rattle.receiver_strings.specs.View.{Looked}
 use Rattle.receiver_strings.specs.Cuts.{Faulty, Passes, faulty, reads, CutAt, cut, Sees}
 
 -- ---- a value that is returned, and tests

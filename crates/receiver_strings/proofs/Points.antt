@@ -13,8 +13,8 @@ use Rattle.spec_fields.proofs.Steady.{Steady, steady_then, steady-guard, steady-
 use Rattle.text.specs.Text.{is_char}
 use Rattle.spec_exi.specs.Sizes.{max_stream}
 use Rattle.spec_exi.specs.Reader.{read_character}
-use Rattle.read_field.specs.declared.Field.{Field}
-use Rattle.read_field.specs.declared.Field.TheVariants.{Value, Refused}
+use Rattle.read_field.specs.View.{Seen}
+use Rattle.read_field.specs.View.{Value, Refused}
 use Rattle.read_field.specs.View.{field_at, InStream}
 use Rattle.read_contract.specs.Outcome.{Gotten}
 use Rattle.read_contract.proofs.Outcome.{declined-number, refused-declined, times-empty, times-gotten}
@@ -22,7 +22,7 @@ use Rattle.read_literal.specs.Awaits.{Awaits}
 use Rattle.read_literal.specs.Literal.{base}
 use Rattle.read_literal.proofs.Laws.{character-gotten, character-not, character-refused}
 use Rattle.read_literal.proofs.Awaits.{awaits-all, awaits-one}
-use Rattle.receiver_strings.specs.declared.Point.{Point}
+use Rattle.receiver_strings.specs.View.{Point}
 use Rattle.receiver_strings.specs.Strings.{SpotPre, PointRead, SkipPost}
 
 -- ---- a code point
@@ -36,7 +36,7 @@ module _ {stream : List ℕ} {at : ℕ} (pre : SpotPre stream at) where
   unfolding max_stream
   spot-asks = record { size = omega (arith, pre.size); place = pre.place }
 
-  module _ {f : Field} (answer : f ≡ field_at unsigned stream at) where
+  module _ {f : Seen} (answer : f ≡ field_at unsigned stream at) where
     pub point-refused : {n : ℕ} → f ≡ Refused n → PointRead stream at (record { number = n; next = at })
     point-refused z =
         let d = refused-declined (read_character base) stream at

@@ -1,29 +1,26 @@
 -- A string by partitions for literals, as a look sees it.
 use Prim.Native.Nat.{ℕ, zero, suc, ◌-◌, ◌≤◌, ◌<◌}
 use mathlib.Core.Path.{◌≡◌, refl, sym, ◌∙◌}
-use mathlib.Core.Bool.{false}
+use mathlib.Core.Bool.{Bool, true, false}
 use mathlib.Core.List.{List, [], ◌∷◌}
 use mathlib.Core.Option.{none}
 use native.Mathlib.Omega.{arith}
 use native.Mathlib.Decide.{ℕ_discrete}
 use lib.ListN.{length, drop, get_elem?}
-use lib.Dec.{eqb}
-use borrow.Author.Tests.{eqb-true}
 use Rattle.spec_fields.specs.Bits.{unpack}
 use Rattle.spec_fields.specs.Refusal.{ended, limit, number_of}
 use Rattle.spec_fields.specs.Field.{unsigned}
 use Rattle.spec_fields.proofs.Steady.{steady-unsigned}
 use Rattle.spec_exi.specs.Settings.{Settings}
 use Rattle.spec_exi.specs.Sizes.{sizes, max_string}
-use Rattle.spec_exi.specs.Tables.{Tables, literal}
+use Rattle.spec_exi.specs.Tables.{Tables}
 use Rattle.spec_exi.specs.Reader.{read_character, read_literal, read_in, read_by_literals}
-use Rattle.read_field.specs.declared.Field.{Field}
-use Rattle.read_field.specs.declared.Field.TheVariants.{Value}
+use Rattle.read_field.specs.View.{Seen}
+use Rattle.read_field.specs.View.{Value}
 use Rattle.read_field.specs.View.{field_at}
 use Rattle.read_contract.specs.Outcome.{Gotten}
 use Rattle.read_contract.proofs.Outcome.{unsigned-gotten}
-use Rattle.receiver_strings.specs.declared.Skipped.{Skipped}
-use Rattle.receiver_strings.specs.declared.Looked.{Looked}
+use Rattle.receiver_strings.specs.View.{Skipped, Looked}
 use Rattle.receiver_strings.specs.Cuts.{Passes, reads, CutAt, cut}
 use Rattle.receiver_strings.specs.Strings.{SpotPre, SkipPost, StringSeen}
 use Rattle.receiver_strings.specs.Strings.{NumberSeen}
@@ -64,38 +61,24 @@ none-at (x ∷ l) zero h = absurd (omega arith)
 none-at (x ∷ l) (suc i) h = none-at l i (omega arith)
 
 module _ {stream : List ℕ} {at : ℕ} (pre : SpotPre stream at) (v k : ℕ) where
-  pub number-nothing : NumberSeen stream at v k (record { past = false; at = at; left = 0 })
-  number-nothing =
-      record {
-        bounds = record { inside = pre.place; few = omega arith };
-        sees = λ s t ess e. sees-nothing s _ stream at at;
-      }
-
   module _ (h : k ≤ v) (few : v - k ≤ max_string) {y : Skipped} (post : SkipPost stream at (v - k) y)
     where
-      pub number-seen :
-          NumberSeen stream at v k (record { past = eqb y.number 0; at = y.at; left = y.left })
+      pub number-seen : (past : Bool) → (past ≡ true → y.number ≡ 0)
+          → NumberSeen stream at v k (record { past = past; at = y.at; left = y.left })
       unfolding read_in
-      number-seen =
+      number-seen past none_is =
           record {
             bounds = record { inside = post.inside; few = omega (arith, post.few) };
             sees = λ s t ess e.
                 rw (none-at ess v (omega arith))
                 (record {
-                  past = λ z. literal-passes post s t (eqb-true y.number 0 z);
+                  past = λ z. literal-passes post s t (none_is z);
                   cut = literal-cut post s t;
                 });
           }
 
 module _ {stream : List ℕ} {at : ℕ} (pre : SpotPre stream at) where
-  pub string-nothing : (k : ℕ) → StringSeen stream at k (record { past = false; at = at; left = 0 })
-  string-nothing k =
-      record {
-        bounds = record { inside = pre.place; few = omega arith };
-        sees = λ s t ess e. sees-nothing s _ stream at at;
-      }
-
-  module _ {f : Field} (answer : f ≡ field_at unsigned stream at) {v q : ℕ} (z : f ≡ Value v q) where
+  module _ {f : Seen} (answer : f ≡ field_at unsigned stream at) {v q : ℕ} (z : f ≡ Value v q) where
     abbrev gotten : Gotten unsigned stream at q
     gotten = unsigned-gotten stream at pre.place (sym answer ∙ z)
 

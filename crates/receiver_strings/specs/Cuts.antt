@@ -7,7 +7,7 @@ use Rattle.spec_fields.specs.Parser.{bad, got, Parser}
 use Rattle.spec_exi.specs.Settings.{Settings}
 use Rattle.spec_exi.specs.Reader.{read_character}
 use Rattle.read_literal.specs.Awaits.{Awaits}
-use Rattle.receiver_strings.specs.declared.Looked.{Looked}
+use Rattle.receiver_strings.specs.View.{Looked}
 
 module _ {A : Type 0} (p : Parser A) (bs : Bits) where
   -- Refused, but not because the bits end.

@@ -8,9 +8,7 @@ use Rattle.spec_exi.specs.Tables.{Slot, Tables}
 use Rattle.spec_exi.specs.Reader.{read_character, read_in, read_by_literals}
 use Rattle.read_contract.specs.Outcome.{Declined, Gotten}
 use Rattle.read_literal.specs.Literal.{base, Cut}
-use Rattle.receiver_strings.specs.declared.Point.{Point}
-use Rattle.receiver_strings.specs.declared.Skipped.{Skipped}
-use Rattle.receiver_strings.specs.declared.Looked.{Looked}
+use Rattle.receiver_strings.specs.View.{Point, Skipped, Looked}
 use Rattle.receiver_strings.specs.Cuts.{Sees}
 
 -- A bit position in a stream or at its end.

@@ -2,125 +2,103 @@
 // What the functions ask and leave is in specs/.
 #![tactic(auto)]
 
+ghost use Rattle.std.specs.Prelude.{◌≡◌};
+ghost use Rattle.receiver_strings.specs.View.{point_in, skipped_in, looked_in};
 ghost use Rattle.receiver_strings.specs.Strings.{SpotPre, PointRead, SkipPost, StringSeen};
 ghost use Rattle.receiver_strings.specs.Strings.{NumberSeen};
 
-use read_field::Field;
-use refusal::CHARACTER;
+use refusal::Refusal;
 use sizes::MAX_STRING;
 
-// The number of a refusal or 0, and the position after the code point.
+// Why code points were not passed over, the position of the one that is refused, and how many are
+// left with it.
 #[derive(Clone, Copy)]
-struct Point {
-    number: u32,
-    next: usize,
-}
-
-// The number of a refusal or 0; the position after the code points, or that of the first that is
-// refused; how many are left with it.
-#[derive(Clone, Copy)]
-pub struct Skipped {
-    pub number: u32,
+pub struct Stopped {
+    pub refusal: Refusal,
     pub at: usize,
     pub left: usize,
 }
 
-// Whether a string, or all strings so far, are passed, and the position after them; or where code
-// points are left the position of the first of these, and how many they are.
+// Why a string, or all strings so far, are not passed: code points are left, by the position of the
+// first of these and how many they are; or, where none is left, nothing is known of what stands at
+// the position.
 #[derive(Clone, Copy)]
-pub struct Looked {
-    pub past: bool,
+pub struct Cut {
     pub at: usize,
     pub left: usize,
 }
 
-// The code point at a position.
-fn code_point(stream: &[u8], at: usize) -> Point
-    requires { SpotPre stream.now at }
-    ensures { PointRead stream.now at result }
-{
-    match read_field::unsigned(stream, at) {
-        Field::Refused(number) => Point {
-            number: number as u32,
-            next: at,
-        },
-        Field::Value { value, next } => {
-            if !text::is_char(value) {
-                return Point {
-                    number: CHARACTER,
-                    next: at,
-                };
-            }
-            Point { number: 0, next }
-        }
+impl Cut {
+    // Nothing is known of what stands at a position.
+    pub fn unknown(at: usize) -> Self
+        ensures { result ≡ record { at = at; left = 0 } }
+    {
+        Cut { at, left: 0 }
     }
 }
 
-// Passes over n code points.
-pub fn skip(stream: &[u8], at: usize, n: usize) -> Skipped
+// The position after the code point at one.
+fn code_point(stream: &[u8], at: usize) -> Result<usize, Refusal>
     requires { SpotPre stream.now at }
-    ensures { SkipPost stream.now at n result }
+    ensures { PointRead stream.now at (point_in at result) }
+{
+    let field = read_field::unsigned(stream, at)?;
+    if !text::is_char(field.value) {
+        return Err(Refusal::Character);
+    }
+    Ok(field.next)
+}
+
+// The position after n code points.
+pub fn skip(stream: &[u8], at: usize, n: usize) -> Result<usize, Stopped>
+    requires { SpotPre stream.now at }
+    ensures { SkipPost stream.now at n (skipped_in result) }
 {
     let mut place = at;
-    let mut left = n;
-    while 0 < left {
-        let p = code_point(stream, place);
-        if p.number != 0 {
-            return Skipped {
-                number: p.number,
-                at: place,
-                left,
-            };
+    for i in 0..n {
+        match code_point(stream, place) {
+            Ok(next) => place = next,
+            Err(refusal) => {
+                return Err(Stopped {
+                    refusal,
+                    at: place,
+                    left: n - i,
+                });
+            }
         }
-        place = p.next;
-        left -= 1;
     }
-    Skipped {
-        number: 0,
-        at: place,
-        left: 0,
-    }
+    Ok(place)
 }
 
-// The string after a number v, by k partitions for literals (EXI 7.3.3). A hit is not passed.
-fn by_number(stream: &[u8], next: usize, v: u32, k: u32) -> Looked
+// The position after the string that a number v begins, by k partitions for literals (EXI 7.3.3).
+// A hit is not passed.
+fn by_number(stream: &[u8], next: usize, v: u32, k: u32) -> Result<usize, Cut>
     requires { SpotPre stream.now next }
-    ensures { NumberSeen stream.now next v k result }
+    ensures { NumberSeen stream.now next v k (looked_in result) }
 {
     if v < k {
-        return Looked {
-            past: false,
-            at: next,
-            left: 0,
-        };
+        return Err(Cut::unknown(next));
     }
     let n = (v - k) as usize;
     if MAX_STRING < n {
-        return Looked {
-            past: false,
-            at: next,
-            left: 0,
-        };
+        return Err(Cut::unknown(next));
     }
-    let s = skip(stream, next, n);
-    Looked {
-        past: s.number == 0,
-        at: s.at,
-        left: s.left,
+    match skip(stream, next, n) {
+        Ok(behind) => Ok(behind),
+        Err(s) => Err(Cut {
+            at: s.at,
+            left: s.left,
+        }),
     }
 }
 
-// A string by k partitions for literals.
-pub fn string(stream: &[u8], at: usize, k: u32) -> Looked
+// The position after a string by k partitions for literals.
+pub fn string(stream: &[u8], at: usize, k: u32) -> Result<usize, Cut>
     requires { SpotPre stream.now at }
-    ensures { StringSeen stream.now at k result }
+    ensures { StringSeen stream.now at k (looked_in result) }
 {
-    match read_field::unsigned(stream, at) {
-        Field::Refused(number) => Looked {
-            past: false,
-            at,
-            left: 0,
-        },
-        Field::Value { value, next } => by_number(stream, next, value, k),
-    }
+    let Ok(number) = read_field::unsigned(stream, at) else {
+        return Err(Cut::unknown(at));
+    };
+    by_number(stream, number.next, number.value, k)
 }

@@ -9,7 +9,7 @@ use Rattle.spec_fields.specs.Refusal.{number_of}
 use Rattle.spec_exi.specs.Settings.{Settings}
 use Rattle.mem_state.specs.declared.Core.{Core}
 use Rattle.receiver_record.specs.declared.Wait.{Wait}
-use Rattle.receiver_strings.specs.declared.Looked.{Looked}
+use Rattle.receiver_strings.specs.View.{Looked}
 use Rattle.receiver_strings.specs.Strings.{SpotPre}
 use Rattle.receiver_look.specs.Look.{LookPre, LookPost}
 use Rattle.receiver_wait.specs.Wait.{StillPre, CutPre, CutPost}

@@ -4,6 +4,7 @@
 
 ghost use Rattle.std.specs.Prelude.{◌≡◌, take};
 ghost use Rattle.settings.specs.Meant.{settings_from};
+ghost use Rattle.receiver_strings.specs.View.{skipped_in};
 ghost use Rattle.receiver_strings.specs.Strings.{SkipPost};
 ghost use Rattle.receiver_wait.specs.Wait.{StillPre, CutPre, CutPost};
 
@@ -11,14 +12,14 @@ use mem_state::Core;
 pub use receiver_read as the_receiver_read;
 pub use receiver_read::the_read_run as the_read_run;
 use receiver_record::Wait;
-use receiver_strings::Skipped;
+use receiver_strings::Stopped;
 use refusal::ENDED;
 use settings::Settings;
 
 // Passes over the code points that are awaited, in the first n octets that are held.
-pub fn still(held: &[u8], n: usize, at: usize, left: usize) -> Skipped
+pub fn still(held: &[u8], n: usize, at: usize, left: usize) -> Result<usize, Stopped>
     requires { StillPre held.now n at }
-    ensures { SkipPost (take n held.now) at left result }
+    ensures { SkipPost (take n held.now) at left (skipped_in result) }
 {
     receiver_strings::skip(&held[0..n], at, left)
 }
@@ -42,9 +43,11 @@ pub fn cut_at(o: Settings, held: &[u8], n: usize, number: u32, c: Core, work: &[
     if c.at == 0 {
         return nothing();
     }
-    let l = receiver_look::look(o, &held[0..n], c, work);
-    Wait {
-        at: l.at,
-        left: l.left,
+    match receiver_look::look(o, &held[0..n], c, work) {
+        Ok(at) => Wait { at, left: 0 },
+        Err(cut) => Wait {
+            at: cut.at,
+            left: cut.left,
+        },
     }
 }

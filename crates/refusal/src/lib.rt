@@ -1,11 +1,65 @@
-// The refusals' numbers and names. The definitions that the contract cites are in specs/Names.antt.
+// The refusals, their numbers and names. What the contracts cite is in specs/.
 #![tactic(auto)]
 
 ghost use Rattle.std.specs.Prelude.{◌≡◌};
 ghost use Rattle.refusal.specs.Names.{name_at};
+ghost use Rattle.refusal.specs.Numbers.{number_in};
 
-// The numbers (crates/spec_fields/specs/Refusal.antt). Functions that answer one have it in their
-// contract.
+// Why a stream, a list or readings are refused, in the order of the numbers.
+#[derive(Clone, Copy, PartialEq, Eq)]
+pub enum Refusal {
+    Room,
+    Settings,
+    Long,
+    Header,
+    Ended,
+    Code,
+    Number,
+    Character,
+    Reference,
+    Loose,
+    Name,
+    Limit,
+    Tail,
+    Shape,
+    Place,
+    // those of readings
+    Structure,
+    BadStamp,
+    BadMovement,
+    NotLater,
+}
+
+impl Refusal {
+    // The number by which a reply tells it (crates/spec_fields/specs/Refusal.antt).
+    pub fn number(self) -> u32
+        ensures { result ≡ number_in self }
+    {
+        match self {
+            Refusal::Room => ROOM,
+            Refusal::Settings => SETTINGS,
+            Refusal::Long => LONG,
+            Refusal::Header => HEADER,
+            Refusal::Ended => ENDED,
+            Refusal::Code => CODE,
+            Refusal::Number => NUMBER,
+            Refusal::Character => CHARACTER,
+            Refusal::Reference => REFERENCE,
+            Refusal::Loose => LOOSE,
+            Refusal::Name => NAME,
+            Refusal::Limit => LIMIT,
+            Refusal::Tail => TAIL,
+            Refusal::Shape => SHAPE,
+            Refusal::Place => PLACE,
+            Refusal::Structure => STRUCTURE,
+            Refusal::BadStamp => BAD_STAMP,
+            Refusal::BadMovement => BAD_MOVEMENT,
+            Refusal::NotLater => NOT_LATER,
+        }
+    }
+}
+
+// The numbers.
 pub const ROOM: u32 = 1;
 
 pub const SETTINGS: u32 = 2;

@@ -57,6 +57,9 @@ pub fn are_meaningful(s: SettingNumbers) -> bool
         & (s.grammar_cap == 0)
 }
 
+// A receiver tests the numbers in one call and asks for the settings in others: no `TryFrom` does
+// both.
+#[tactic(auto, unfolding(crate::specs::Meant::settings_meant))]
 pub fn settings_of(s: SettingNumbers) -> Settings
     ensures { result ≡ settings_meant s }
 {
@@ -71,7 +74,8 @@ pub fn settings_of(s: SettingNumbers) -> Settings
     }
 }
 
-// The same, field by field: a copy to be lent to a call, so that these stay in registers.
+// The same, field by field: a copy to be lent to a call, so that these stay in registers
+// (docs/decisions/speed.md).
 pub fn copied(o: Settings) -> Settings
     ensures { result ≡ o }
 {

@@ -1,13 +1,12 @@
--- `is_char` by its tests: a number that passes one of them, and one that passes none.
+-- `is_char` by its tests: a number in the range of most texts, and one that passes no test.
 use native.Mathlib.Decide.{dec_le}
 use mathlib.Core.Path.{◌≡◌, refl, sym, subst}
 use mathlib.Core.Bool.{Bool, true, false, ◌||◌, ◌&&◌}
-use mathlib.Core.Logic.{⊎_elim}
 use Prim.Native.Nat.{ℕ, ◌≤◌}
-use native.Mathlib.Nat.{eq-or-lt_of_le, lt_of_not-le}
+use native.Mathlib.Nat.{lt_of_not-le}
 use native.Mathlib.Omega.{arith}
 use lib.Dec.{leb, T}
-use borrow.Author.Tests.{le-leb, eq-eqb, ne_eqb, leb-true}
+use borrow.Author.Tests.{le-leb, ne_eqb, leb-true}
 use Rattle.text.specs.Text.{is_char}
 
 or-true : (b : Bool) → (b || true) ≡ true
@@ -20,32 +19,10 @@ and-false true false h = refl
 and-false false b h = refl
 
 module _ (p : ℕ) where
-  -- Tab and line feed are Chars.
-  pub tab-or-feed : 9 ≤ p → p ≤ 10 → true ≡ is_char p
-  unfolding is_char
-  tab-or-feed g h =
-      ⊎_elim (λ e. simp (eq-eqb p 9 (sym e))) (λ l. let e : p ≡ 10 = omega arith in simp (or-true, eq-eqb p 10 e))
-      (eq-or-lt_of_le g)
-
-  -- So is the carriage return.
-  pub return : p ≡ 13 → true ≡ is_char p
-  unfolding is_char
-  return e = simp (or-true, eq-eqb p 13 e)
-
   -- From the space up to the surrogates.
   pub low : 32 ≤ p → p ≤ 55295 → true ≡ is_char p
   unfolding is_char
   low g h = simp (or-true, le-leb 32 p g, le-leb p 55295 h)
-
-  -- From behind the surrogates up to U+FFFD.
-  pub middle : 57344 ≤ p → p ≤ 65533 → true ≡ is_char p
-  unfolding is_char
-  middle g h = simp (or-true, le-leb 57344 p g, le-leb p 65533 h)
-
-  -- From U+10000 on.
-  pub high : 65536 ≤ p → p ≤ 1114111 → true ≡ is_char p
-  unfolding is_char
-  high g h = simp (or-true, le-leb 65536 p g, le-leb p 1114111 h)
 
   -- In none of the ranges.
   pub record None : Type 0 where

@@ -1,13 +1,13 @@
 -- Strings in a store: the part that a span names where it lies inside, and that a longer store changes no text.
 use mathlib.Core.Path.{◌≡◌, sym}
 use mathlib.Core.Bool.{true}
-use mathlib.Core.List.{[], ◌++◌}
-use Prim.Native.Nat.{ℕ, ◌+◌, ◌≤◌, ◌<◌}
+use mathlib.Core.List.{◌++◌}
+use Prim.Native.Nat.{ℕ, ◌+◌, ◌≤◌}
 use native.Mathlib.Omega.{arith}
 use lib.Dec.{T, leb→le}
 use lib.ListN.{length, take, drop, length-append, length-take, length-drop, take-append-drop}
 use lib.Seq.{take-append-le, drop-append-le}
-use borrow.Author.Tests.{le-leb, lt-leb}
+use borrow.Author.Tests.{le-leb}
 use Rattle.text.specs.Text.{Text, Span, inside, part}
 
 module _ (store : Text) (x : Span) where
@@ -15,11 +15,6 @@ module _ (store : Text) (x : Span) where
   pub inside-fits : T (inside store x) → x.place + x.size ≤ length store
   unfolding inside
   inside-fits t = leb→le _ _ t
-
-  -- Outside the store a string is empty.
-  pub part-outside : length store < x.place + x.size → part store x ≡ []
-  unfolding part inside
-  part-outside h = rw (lt-leb _ _ h)
 
   module _ (fits : x.place + x.size ≤ length store) where
     -- What fits lies inside.

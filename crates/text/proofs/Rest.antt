@@ -1,33 +1,35 @@
--- What is left of a text at a position: how `all_chars` goes on there, stops and ends; texts that are the
--- same at both ends.
+-- How `all_chars` is decided; texts that are the same at both ends.
 use mathlib.Core.Path.{◌≡◌, refl, sym, ap}
-use mathlib.Core.Bool.{Bool, true, false}
-use Prim.Native.Nat.{ℕ, ◌+◌, ◌-◌, ◌≤◌, ◌<◌}
+use mathlib.Core.Bool.{Bool, true, false, ◌&&◌}
+use Prim.Native.Nat.{ℕ, zero, suc, ◌+◌, ◌-◌, ◌≤◌, ◌<◌}
 use native.Mathlib.Omega.{arith}
 use native.Mathlib.Decide.{dec_le}
-use native.Mathlib.Numerals.{add-one}
-use lib.ListN.{length, get_or, drop, drop_of_length-le}
-use lib.Seq.{drop-cons, ext_get_or}
+use mathlib.Core.List.{[], ◌∷◌}
+use lib.ListN.{length, get_or}
+use lib.Seq.{ext_get_or}
+use Rattle.std.specs.Prelude.{MatchBool}
+use Rattle.std.specs.List.{AllWithin, HoldsAt}
 use lib.Dec.{T}
 use Rattle.text.proofs.Equal.{eq_text-refl, eq_text-no}
 use Rattle.text.specs.Text.{Text, is_char, all_chars, eq_text}
 
-module _ (x : Text) (i : ℕ) where
-  -- Nothing is left.
-  pub chars-end : length x ≤ i → true ≡ all_chars (drop i x)
-  unfolding all_chars
-  chars-end h = rw (drop_of_length-le x h)
+and-no : (a : Bool) {b : Bool} → false ≡ b → false ≡ (a && b)
+and-no true e = e
+and-no false e = refl
 
-  module _ (h : i < length x) where
-    -- The first that is left is no Char.
-    pub chars-stop : is_char (get_or x i 0) ≡ false → false ≡ all_chars (drop i x)
-    unfolding all_chars
-    chars-stop e = rw (drop-cons x i 0 h, e)
-
-    -- It is one, and the others decide.
-    pub chars-on : is_char (get_or x i 0) ≡ true → all_chars (drop (i + 1) x) ≡ all_chars (drop i x)
-    unfolding all_chars
-    chars-on e = rw (add-one, drop-cons x i 0 h, e)
+-- No code point but Chars, or one that is none, decides a text.
+pub chars-decide : (r : Bool) (x : Text)
+    → MatchBool r (AllWithin (λ p. is_char p ≡ true) x 0 (length x))
+    ((k : ℕ) × (k < length x) × HoldsAt (λ p. is_char p ≡ false) x k)
+    → r ≡ all_chars x
+unfolding all_chars
+chars-decide true [] h = refl
+chars-decide false [] (k, l, h) = absurd (omega arith)
+chars-decide true (p ∷ x) h =
+    rw (h 0 0 (omega arith) (omega arith))
+    (chars-decide true x (λ k d l m. h (suc k) d (omega arith) (omega arith)))
+chars-decide false (p ∷ x) (zero, l, h) = rw (h 0)
+chars-decide false (p ∷ x) (suc k, l, h) = and-no (is_char p) (chars-decide false x (k, omega arith, h))
 
 -- Texts of two lengths are not the same.
 pub lengths_differ : (a b : Text) → (length a ≡ length b → ⊥) → false ≡ eq_text a b

@@ -28,12 +28,11 @@ use Rattle.mem_state.specs.Holds.{Bounded}
 use Rattle.mem_state.specs.Strung.{StringsJoin}
 use Rattle.write_partition.specs.Writable.{Writable, tables_in}
 use Rattle.write_partition.specs.Judged.{fault_number}
-use Rattle.write_qname.specs.declared.NameJudged.{NameJudged}
 use Rattle.write_qname.specs.Premise.{list_stores, Prepared, Inside}
-use Rattle.write_qname.specs.Qnames.{NoName, name_as, NameHits, NameMeans}
+use Rattle.write_qname.specs.Qnames.{NameAnswer, NoName, name_as, NameHits, NameMeans}
 use Rattle.write_qname.proofs.Items.{ItemsMean}
 use Rattle.write_qname.proofs.Carried.{carried-bits, name-after}
-use Rattle.write_content.specs.declared.Content.{Content}
+use Rattle.write_content.specs.Answer.{ContentAnswer}
 use Rattle.write_content.specs.Writing.{named_bits, contentBits}
 use Rattle.write_content.specs.Contents.{stopped_as, items_as, NamedHits, NamedAt, UnnamedAt}
 use Rattle.write_content.specs.Contents.{ContentMeans, ContentPost}
@@ -91,7 +90,7 @@ pub carried-is : (written : Bool) → written ≡ false → not written ≡ true
 carried-is written e = rw e
 
 module _ {opening text : List ℕ} {e : declared.Event} {c : Core} {work : List ℕ} {w : Rows}
-    {st : State} {x : Event Text} {r : Content} {rows : Rows}
+    {st : State} {x : Event Text} {r : ContentAnswer} {rows : Rows}
     (j : StringsJoin (list_stores opening text) r.strings w rows) (v : Writable rows) where
   pub unnamed-means : {is : List Item} {bits : Alignment → Bits}
       → ItemsMean (tables_in w c.stored) is r.number (tables_in rows r.stored) bits
@@ -148,7 +147,7 @@ module _ {opening text : List ℕ} {e : declared.Event} {c : Core} {work : List 
 -- ---- a name, written or carried
 
 module _ {opening text : List ℕ} {attr : Bool} {q : QName Text} {c : Core} {work : List ℕ}
-    {w : Rows} {n : NameJudged} (m : NameMeans opening text attr q c work w n)
+    {w : Rows} {n : NameAnswer} (m : NameMeans opening text attr q c work w n)
     (z : n.number ≡ 0) where
   pub named-items : (written carried : Bool) → (written ≡ true → carried ≡ false)
       → (written ≡ false → carried ≡ true)

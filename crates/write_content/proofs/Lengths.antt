@@ -26,12 +26,12 @@ use Rattle.write_values.specs.Values.{own, all, value_bits}
 use Rattle.write_qname.specs.Premise.{part_at}
 use Rattle.write_qname.proofs.Puts.{count-length}
 use Rattle.write_string.specs.Fits.{max_string_bits}
-use Rattle.write_content.specs.declared.Content.{Content}
+use Rattle.write_content.specs.Answer.{ContentAnswer}
 use Rattle.write_content.specs.Writing.{named_bits, valued_bits, contentBits}
 use Rattle.write_content.specs.Writing.{ValuePuttable, Puttable, PutContentPre}
 use Rattle.write_content.proofs.Puts.{named-length, named-asks}
 
-module _ (c : Core) (x : Content) (text work : List ℕ) (few : c.values ≤ max_store) (a : Alignment)
+module _ (c : Core) (x : ContentAnswer) (text work : List ℕ) (few : c.values ≤ max_store) (a : Alignment)
   where
     value-length : (v : Part) → ValuePuttable x (part_at text v)
         → length (valued_bits work c x (part_at text v) a) ≤ max_string_bits
@@ -56,7 +56,7 @@ module _ (c : Core) (x : Content) (text work : List ℕ) (few : c.values ≤ max
           (p.literal (eqb-false x.partition own e) (eqb-false x.partition all f)).short,
         ))))
 
-module _ (carried : Bool) {stream : List ℕ} {at : ℕ} {c : Core} {x : Content}
+module _ (carried : Bool) {stream : List ℕ} {at : ℕ} {c : Core} {x : ContentAnswer}
     {text work : List ℕ} (a : Alignment) where
   pub content-length : (e : declared.Event) → PutContentPre stream at e c x text work
       → length (contentBits text work e carried c x a) ≤ 3 * max_string_bits

@@ -23,11 +23,9 @@ use Rattle.mem_state.specs.Strung.{value_added}
 use Rattle.mem_state.proofs.Strung.{value-names}
 use Rattle.write_partition.specs.Writable.{Few, tables_in}
 use Rattle.write_partition.specs.Judged.{StringMeans}
-use Rattle.write_values.specs.declared.ValueJudged.{ValueJudged}
-use Rattle.write_values.specs.Values.{value_bits, ValuePre, ValuePost}
-use Rattle.write_qname.specs.declared.NameJudged.{NameJudged}
+use Rattle.write_values.specs.Values.{ValueAnswer, value_bits, ValuePre, ValuePost}
 use Rattle.write_qname.specs.Premise.{Prepared, Inside, part_at}
-use Rattle.write_qname.specs.Qnames.{name_as, qname_bits, NameMeans, NamePost}
+use Rattle.write_qname.specs.Qnames.{NameAnswer, name_as, qname_bits, NameMeans, NamePost}
 use Rattle.write_qname.proofs.Items.{ItemsMean, one-item, items-first, items-then, items-passed}
 use Rattle.write_qname.proofs.Lain.{placed_in}
 use Rattle.write_content.specs.Writing.{named_bits, valued_bits, contentBits, Puttable}
@@ -41,7 +39,7 @@ use Rattle.write_content.proofs.Contents.{named-means, named-items, carried-not,
 module _ {opening text work : List ℕ} {c : Core} (pre : ContentPre work c) where
   -- ---- a start element
 
-  module _ {uri local : Part} {n : NameJudged}
+  module _ {uri local : Part} {n : NameAnswer}
       (post : NamePost opening text false uri local c work n) where
     element-means : {w : Rows} → Prepared opening text work c w
         → every (inside text) (strings_of (meaning (StartElement uri local))) ≡ true
@@ -89,7 +87,7 @@ module _ {opening text work : List ℕ} {c : Core} (pre : ContentPre work c) whe
 
   -- ---- an attribute
 
-  module _ {uri local : Part} {n : NameJudged}
+  module _ {uri local : Part} {n : NameAnswer}
       (post : NamePost opening text true uri local c work n) where
     pub value-asks : n.number ≡ 0
         → ValuePre work n.strings.name_row c.values c.capacity n.stored
@@ -142,7 +140,7 @@ module _ {opening text work : List ℕ} {c : Core} (pre : ContentPre work c) whe
           {bits₁ = λ a. []}).fault)
 
       module _ (z : n.number ≡ 0) {y : Text}
-          (look : y ≡ part text (record { place = x.place; size = x.size })) {v : ValueJudged}
+          (look : y ≡ part text (record { place = x.place; size = x.size })) {v : ValueAnswer}
           (given : ValuePost text y n.strings.name_row c.values c.longest c.capacity
           n.stored work v) where
         module _ {w : Rows} (p : Prepared opening text work c w)

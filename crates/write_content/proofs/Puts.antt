@@ -27,7 +27,7 @@ use Rattle.write_values.specs.Values.{value_bits, PutValuePre}
 use Rattle.write_qname.specs.Premise.{part_at}
 use Rattle.write_qname.specs.Qnames.{qname_bits}
 use Rattle.write_qname.proofs.Puts.{qname-length}
-use Rattle.write_content.specs.declared.Content.{Content}
+use Rattle.write_content.specs.Answer.{ContentAnswer}
 use Rattle.write_content.specs.Writing.{named_bits, valued_bits, contentBits}
 use Rattle.write_content.specs.Writing.{NamePuttable, ValuePuttable, Puttable, PutNamedPre}
 use Rattle.write_content.specs.Writing.{PutValuedPre, PutTextPre, PutContentPre}
@@ -57,7 +57,7 @@ module _ {stream : List ℕ} {at : ℕ} {uri local : Part} {c : Core} {s : Strin
 
 -- ---- a value
 
-module _ {stream : List ℕ} {at : ℕ} {value : Part} {c : Core} {x : Content} {text work : List ℕ}
+module _ {stream : List ℕ} {at : ℕ} {value : Part} {c : Core} {x : ContentAnswer} {text work : List ℕ}
     (h : PutValuedPre stream at value c x text work) {y : Text}
     (look : y ≡ part text (record { place = value.place; size = value.size })) where
   pub value-put-asks :
@@ -107,7 +107,7 @@ module _ {stream : List ℕ} {at : ℕ} {x : Part} {text : List ℕ} (h : PutTex
 
 -- ---- all strings
 
-module _ {stream : List ℕ} {at : ℕ} {e : declared.Event} {c : Core} {x : Content}
+module _ {stream : List ℕ} {at : ℕ} {e : declared.Event} {c : Core} {x : ContentAnswer}
     {text work : List ℕ} (h : PutContentPre stream at e c x text work) where
   pub named-asks : {uri local : Part}
       → NamePuttable c x.strings (part_at text uri) (part_at text local)
@@ -141,19 +141,19 @@ module _ {stream : List ℕ} {at : ℕ} {e : declared.Event} {c : Core} {x : Con
       }
 
 -- By its kind.
-pub of-kind : {stream : List ℕ} {at : ℕ} {e f : declared.Event} {c : Core} {x : Content}
+pub of-kind : {stream : List ℕ} {at : ℕ} {e f : declared.Event} {c : Core} {x : ContentAnswer}
     {text work : List ℕ} → e ≡ f → PutContentPre stream at e c x text work
     → PutContentPre stream at f c x text work
 of-kind {stream} {at} {c = c} {x = x} {text = text} {work = work} k h =
     subst (λ e. PutContentPre stream at e c x text work) k h
 
-module _ {stream : List ℕ} {at : ℕ} {uri local : Part} {c : Core} {x : Content}
+module _ {stream : List ℕ} {at : ℕ} {uri local : Part} {c : Core} {x : ContentAnswer}
     {text work : List ℕ} (h : PutContentPre stream at (StartElement uri local) c x text work) where
   pub element-asks : PutNamedPre stream at uri local c x.strings text work
   unfolding Puttable
   element-asks = named-asks h h.puttable
 
-module _ {stream : List ℕ} {at : ℕ} {v : Part} {c : Core} {x : Content} {text work : List ℕ} where
+module _ {stream : List ℕ} {at : ℕ} {v : Part} {c : Core} {x : ContentAnswer} {text work : List ℕ} where
   pub characters-asks : PutContentPre stream at (Characters v) c x text work
       → PutValuedPre stream at v c x text work
   unfolding Puttable
@@ -164,7 +164,7 @@ module _ {stream : List ℕ} {at : ℕ} {v : Part} {c : Core} {x : Content} {tex
   comment-asks h =
       record { blank = h.blank; near = omega (arith, h.near); written = h.puttable }
 
-module _ {stream : List ℕ} {at : ℕ} {uri local v : Part} {c : Core} {x : Content}
+module _ {stream : List ℕ} {at : ℕ} {uri local v : Part} {c : Core} {x : ContentAnswer}
     {text work : List ℕ} (h : PutContentPre stream at (Attribute uri local v) c x text work) where
   pub attribute-name-asks : PutNamedPre stream at uri local c x.strings text work
   unfolding Puttable
@@ -187,7 +187,7 @@ module _ {stream : List ℕ} {at : ℕ} {uri local v : Part} {c : Core} {x : Con
       unfolding contentBits
       attribute-put q = put_then p q
 
-module _ {stream : List ℕ} {at : ℕ} {t v : Part} {c : Core} {x : Content}
+module _ {stream : List ℕ} {at : ℕ} {t v : Part} {c : Core} {x : ContentAnswer}
     {text work : List ℕ} (h : PutContentPre stream at (Instruction t v) c x text work) where
   pub target-asks : PutTextPre stream at t text
   unfolding Puttable

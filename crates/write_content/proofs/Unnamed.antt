@@ -25,11 +25,9 @@ use Rattle.mem_state.specs.declared.Core.{Core}
 use Rattle.mem_state.specs.Joining.{no_strings}
 use Rattle.mem_state.specs.Strung.{value_added, StringsJoin}
 use Rattle.mem_state.proofs.Strung.{none-join}
-use Rattle.write_partition.specs.declared.StringJudged.{StringJudged}
 use Rattle.write_partition.specs.Writable.{tables_in}
-use Rattle.write_partition.specs.Judged.{fault_number, StringMeans}
-use Rattle.write_values.specs.declared.ValueJudged.{ValueJudged}
-use Rattle.write_values.specs.Values.{value_bits, ValuePost}
+use Rattle.write_partition.specs.Judged.{StringAnswer, fault_number, StringMeans}
+use Rattle.write_values.specs.Values.{ValueAnswer, value_bits, ValuePost}
 use Rattle.write_values.specs.Texts.{TextPost}
 use Rattle.write_qname.specs.Premise.{list_stores, Prepared, Inside, part_at}
 use Rattle.write_qname.proofs.Items.{ItemsMean, no_items, one-item, items-first, items-then, items-passed}
@@ -55,7 +53,7 @@ characters-items : (text : List ℕ) (x : Part) (st : State) {r : Role} → char
 unfolding meaning map_event items_as
 characters-items text x st e written = ap (λ r. item r (part_at text x) ∷ []) e
 
-module _ {opening text work : List ℕ} {c : Core} (pre : ContentPre work c) (x : Part) {v : ValueJudged}
+module _ {opening text work : List ℕ} {c : Core} (pre : ContentPre work c) (x : Part) {v : ValueAnswer}
     (post : ValuePost text (part_at text x) c.top c.values c.longest c.capacity c.stored
     work v) where
   module _ {w : Rows} (p : Prepared opening text work c w) (row : c.top < length w.names) where
@@ -75,7 +73,7 @@ module _ {opening text work : List ℕ} {c : Core} (pre : ContentPre work c) (x 
         p.writable (few-rows pre.bounded p.counts p.valid) row
 
 module _ {opening text work : List ℕ} {c : Core} (pre : ContentPre work c) (x : Part) {y : Text}
-    (look : y ≡ part text (record { place = x.place; size = x.size })) {v : ValueJudged}
+    (look : y ≡ part text (record { place = x.place; size = x.size })) {v : ValueAnswer}
     (given : ValuePost text y c.top c.values c.longest c.capacity c.stored work v) where
   pub characters-refused : 0 < v.number
       → ContentPost opening text (Characters x) c work (stopped_as v.number c.stored)
@@ -176,18 +174,18 @@ bare-judged {c = c} pre e same bits k put =
 
 text_at : (text : Text) {y : Text} (x : Part)
     → y ≡ part text (record { place = x.place; size = x.size })
-    → {role : Role} {stored : ℕ} {r : StringJudged} → TextPost role y stored r
+    → {role : Role} {stored : ℕ} {r : StringAnswer} → TextPost role y stored r
     → TextPost role (part_at text x) stored r
 unfolding as_span
 text_at text x e {role} {stored} {r} p = subst (λ t. TextPost role t stored r) e p
 
-text-grows : {role : Role} {x : Text} {stored : ℕ} {r : StringJudged} → TextPost role x stored r
+text-grows : {role : Role} {x : Text} {stored : ℕ} {r : StringAnswer} → TextPost role x stored r
     → r.number ≡ 0 → stored ≤ r.stored
-text-grows p z = omega (arith, ap (λ (r : StringJudged). r.stored) (p.judged z))
+text-grows p z = omega (arith, ap (λ (r : StringAnswer). r.stored) (p.judged z))
 
 module _ {opening text work : List ℕ} {c : Core} (pre : ContentPre work c) where
   -- A text, where the store has so many code points.
-  text-items : {role : Role} {x : Text} {stored : ℕ} {r : StringJudged} → TextPost role x stored r
+  text-items : {role : Role} {x : Text} {stored : ℕ} {r : StringAnswer} → TextPost role x stored r
       → {w : Rows} → Prepared opening text work c w
       → ItemsMean (tables_in w stored) (item role x ∷ []) r.number (tables_in w r.stored)
       (λ a. string_bits 0 x)
@@ -195,7 +193,7 @@ module _ {opening text work : List ℕ} {c : Core} (pre : ContentPre work c) whe
       one-item (post.meant w p.valid p.writable (few-rows pre.bounded p.counts p.valid))
 
   module _ (x : Part) {y : Text} (look : y ≡ part text (record { place = x.place; size = x.size }))
-      {r : StringJudged} (given : TextPost comment_text y c.stored r) where
+      {r : StringAnswer} (given : TextPost comment_text y c.stored r) where
     pub comment-refused : 0 < r.number
         → ContentPost opening text (Comment x) c work (stopped_as r.number c.stored)
     unfolding meaning map_event items_as
@@ -213,7 +211,7 @@ module _ {opening text work : List ℕ} {c : Core} (pre : ContentPre work c) whe
         (λ w p. items-passed (text-items post p) z)
 
   module _ (t x : Part) {y : Text} (look : y ≡ part text (record { place = t.place; size = t.size }))
-      {r : StringJudged} (given : TextPost target y c.stored r) where
+      {r : StringAnswer} (given : TextPost target y c.stored r) where
     pub target-refused : 0 < r.number
         → ContentPost opening text (Instruction t x) c work (stopped_as r.number c.stored)
     unfolding meaning map_event items_as
@@ -223,7 +221,7 @@ module _ {opening text work : List ℕ} {c : Core} (pre : ContentPre work c) whe
         (item instruction_text (part_at text x) ∷ []) {u = tables_in w c.stored} {bits₁ = λ a. []}).fault)
 
     module _ (z : r.number ≡ 0) {v : Text}
-        (look₂ : v ≡ part text (record { place = x.place; size = x.size })) {q : StringJudged}
+        (look₂ : v ≡ part text (record { place = x.place; size = x.size })) {q : StringAnswer}
         (given₂ : TextPost instruction_text v r.stored q) where
       both-items : {w : Rows} → Prepared opening text work c w
           → ItemsMean (tables_in w c.stored)

@@ -23,12 +23,11 @@ use Rattle.mem_state.proofs.Strung.{uris-counted, names-counted, strings-ahead, 
 use Rattle.mem_state.proofs.Strung.{value-more}
 use Rattle.write_partition.specs.Writable.{Writable, Few}
 use Rattle.write_partition.specs.Judged.{StringMeans}
-use Rattle.write_values.specs.declared.ValueJudged.{ValueJudged}
-use Rattle.write_values.specs.Values.{value_bits, ValueBounds, ValuesMeant, ValuePost}
+use Rattle.write_values.specs.Values.{ValueAnswer, value_bits, ValueBounds, ValuesMeant, ValuePost}
 use Rattle.write_qname.specs.Premise.{list_stores, Prepared, Inside, part_at}
 use Rattle.write_qname.specs.Qnames.{joining_of}
 use Rattle.write_qname.proofs.Lain.{placed_in, lain-in}
-use Rattle.write_content.specs.declared.Content.{Content}
+use Rattle.write_content.specs.Answer.{ContentAnswer}
 use Rattle.write_content.specs.Writing.{ValuePuttable}
 use Rattle.write_content.specs.Contents as contents
 
@@ -55,7 +54,7 @@ few-strings {s = s} b n j uris names =
 -- As a part of the list's store.
 pub value-at : {text y : Text} (x : Part)
     → y ≡ part text (record { place = x.place; size = x.size })
-    → {owner values longest capacity stored : ℕ} {work : List ℕ} {v : ValueJudged}
+    → {owner values longest capacity stored : ℕ} {work : List ℕ} {v : ValueAnswer}
     → ValuePost text y owner values longest capacity stored work v
     → ValuePost text (part_at text x) owner values longest capacity stored work v
 unfolding as_span
@@ -89,7 +88,7 @@ module _ {opening text work : List ℕ} {c : Core} {w : Rows} (p : Prepared open
         capacity-is = p.counts.capacity ∙ sym (strings-ahead j).capacity;
       }
 
-  module _ (x : Part) {owner stored : ℕ} {v : ValueJudged}
+  module _ (x : Part) {owner stored : ℕ} {v : ValueAnswer}
       (post : ValuePost text (part_at text x) owner c.values c.longest c.capacity stored work v)
       (writable : Writable w₂) (few : Few w₂) (row : owner < length w₂.names) where
     pub value-means : StringMeans (value (name_at w₂ owner)) w₂
@@ -107,8 +106,8 @@ module _ {opening text work : List ℕ} {c : Core} {w : Rows} (p : Prepared open
 
 -- ---- what the writing asks
 
-pub value-puttable : {x : Text} {values stored : ℕ} {v : ValueJudged} → ValueBounds x values stored v
-    → (r : Content) → r.partition ≡ v.partition → ValuePuttable r x
+pub value-puttable : {x : Text} {values stored : ℕ} {v : ValueAnswer} → ValueBounds x values stored v
+    → (r : ContentAnswer) → r.partition ≡ v.partition → ValuePuttable r x
 value-puttable {v = v} b r e =
     record {
       literal = λ f g.

@@ -1,5 +1,5 @@
 -- What judging the content of an event asks and leaves (EXI 4).
-use Rattle.std.specs.Prelude.{ℕ, ◌≤◌, ◌<◌, ◌≡◌, Bool, true, false, List, [], ◌∷◌, ◌++◌, length}
+use Rattle.std.specs.Prelude.{ℕ, ◌≤◌, ◌<◌, ◌≡◌, Bool, true, false, List, [], ◌∷◌, ◌++◌, length, Result, Ok, Err}
 use Rattle.std.proofs.Math.Option.{some}
 use Rattle.spec_fields.specs.Field.{Alignment}
 use Rattle.text.specs.Text.{Text, inside, part}
@@ -14,9 +14,12 @@ use Rattle.spec_exi.specs.Strict.{items_bits}
 use Rattle.spec_exi.specs.Lists.{every}
 use Rattle.spec_exi.specs.Writer.{first_failed, content_tests}
 use Rattle.spec_exi.specs.Alike.{AlikeTables}
+use Rattle.refusal.specs.declared.Refusal.{Refusal}
+use Rattle.refusal.specs.Numbers.{number_in}
 use Rattle.event.specs.declared.Part.{Part}
 use Rattle.event.specs.declared.Event as declared
 use Rattle.event.specs.Cells.{meaning}
+use Rattle.mem_values.specs.declared.Form.TheVariants.{Absent}
 use Rattle.mem_layout.specs.Layout.{uri_rows, name_rows, work_cells}
 use Rattle.mem_entries.specs.Entries.{key_at}
 use Rattle.mem_rows.specs.Rows.{Rows, name_at, carries}
@@ -28,23 +31,24 @@ use Rattle.mem_state.specs.Strung.{StringsJoin}
 use Rattle.write_partition.specs.Writable.{Writable, tables_in}
 use Rattle.write_partition.specs.Judged.{fault_number}
 use Rattle.write_values.specs.declared.ValueJudged.{ValueJudged}
-use Rattle.write_values.specs.Values.{neither}
+use Rattle.write_values.specs.Values.{ValueAnswer, neither}
 use Rattle.write_qname.specs.Premise.{list_stores, Prepared}
 use Rattle.write_qname.specs.Qnames.{joining_of, NoName, name_as, NameHits}
 use Rattle.write_content.specs.declared.Content.{Content}
+use Rattle.write_content.specs.Answer.{ContentAnswer, told_content}
 use Rattle.write_content.specs.Writing.{contentBits, Puttable}
 
 -- ---- the answers
 
-abbrev pub plain_as : ℕ → Strings → Content
+abbrev pub plain_as : ℕ → Strings → ContentAnswer
 plain_as stored strings =
     record { number = 0; stored = stored; strings = strings; partition = neither; id = 0 }
 
-abbrev pub stopped_as : ℕ → ℕ → Content
+abbrev pub stopped_as : ℕ → ℕ → ContentAnswer
 stopped_as number stored =
     record { number = number; stored = stored; strings = no_strings; partition = neither; id = 0 }
 
-abbrev pub with_value : Strings → ℕ → Part → ValueJudged → Content
+abbrev pub with_value : Strings → ℕ → Part → ValueAnswer → ContentAnswer
 with_value s owner p v =
     record {
       number = 0;
@@ -53,6 +57,22 @@ with_value s owner p v =
       partition = v.partition;
       id = v.id;
     }
+
+abbrev pub plain_in : ℕ → Strings → Content
+plain_in stored strings = record { stored = stored; strings = strings; form = Absent }
+
+abbrev pub valued_in : Strings → ℕ → Part → ValueJudged → Content
+valued_in s owner p v =
+    record {
+      stored = v.stored;
+      strings = valued_strings s owner (joining_of p v.joins v.hash);
+      form = v.form;
+    }
+
+-- A refusal leaves the store, and nothing joins.
+abbrev pub content_answer : ℕ → Result Content Refusal → ContentAnswer
+content_answer stored (Ok x) = told_content x
+content_answer stored (Err k) = stopped_as (number_in k) stored
 
 -- ---- the strings of an event
 
@@ -107,7 +127,7 @@ pub record UnnamedAt (s : Strings) : Type 0 where
 
 -- The bits and the tables after them, where the name is written, or carried and joins nothing.
 pub record ContentForm (written : Bool) (e : declared.Event) (text work : List ℕ) (c : Core)
-    (w rows : Rows) (st : State) (x : Event Text) (r : Content) : Type 0 where
+    (w rows : Rows) (st : State) (x : Event Text) (r : ContentAnswer) : Type 0 where
   pub bits : (carried : Bool) → (written ≡ true → carried ≡ false)
       → (written ≡ false → carried ≡ true) → (a : Alignment)
       → items_bits a (tables_in w c.stored) (items_as written st x)
@@ -116,7 +136,7 @@ pub record ContentForm (written : Bool) (e : declared.Event) (text work : List �
       (tables_in rows r.stored)
 
 pub record ContentLeaves (opening text : List ℕ) (e : declared.Event) (c : Core) (work : List ℕ)
-    (w : Rows) (st : State) (x : Event Text) (r : Content) : Type 0 where
+    (w : Rows) (st : State) (x : Event Text) (r : ContentAnswer) : Type 0 where
   pub rows : Rows
   pub joins : StringsJoin (list_stores opening text) r.strings w rows
   pub writable : Writable rows
@@ -128,7 +148,7 @@ pub record ContentLeaves (opening text : List ℕ) (e : declared.Event) (c : Cor
   pub unnamed : carries (kind_of x) ≡ false → UnnamedAt r.strings
 
 pub record ContentMeans (opening text : List ℕ) (e : declared.Event) (c : Core) (work : List ℕ)
-    (w : Rows) (st : State) (x : Event Text) (r : Content) : Type 0 where
+    (w : Rows) (st : State) (x : Event Text) (r : ContentAnswer) : Type 0 where
   pub fault : (written : Bool) → (written ≡ false → NamedHits (tables_in w c.stored) x)
       → r.number
       ≡ fault_number
@@ -136,7 +156,7 @@ pub record ContentMeans (opening text : List ℕ) (e : declared.Event) (c : Core
   pub leaves : r.number ≡ 0 → ContentLeaves opening text e c work w st x r
 
 pub record ContentPost (opening text : List ℕ) (e : declared.Event) (c : Core) (work : List ℕ)
-    (r : Content) : Type 0 where
+    (r : ContentAnswer) : Type 0 where
   pub refused : 0 < r.number → r ≡ stopped_as r.number c.stored
   pub bounds : r.number ≡ 0 → ContentBounds c r.stored r.strings
   pub store : r.stored ≤ max_store

@@ -19,19 +19,19 @@ use Rattle.write_values.specs.Values.{own, all, value_bits}
 use Rattle.write_qname.specs.Premise.{part_at}
 use Rattle.write_qname.specs.Qnames.{qname_bits, PutNamePre}
 use Rattle.write_string.specs.Fits.{max_string_bits}
-use Rattle.write_content.specs.declared.Content.{Content}
+use Rattle.write_content.specs.Answer.{ContentAnswer}
 
 -- ---- the bits
 
 unfoldable pub named_bits : List ℕ → Bool → Core → Strings → Text → Text → Alignment → Bits
 named_bits work carried c s u x a = cond carried [] (qname_bits work c s u x a)
 
-unfoldable pub valued_bits : List ℕ → Core → Content → Text → Alignment → Bits
+unfoldable pub valued_bits : List ℕ → Core → ContentAnswer → Text → Alignment → Bits
 valued_bits work c x v a =
     value_bits work x.partition x.id x.strings.owner c.values c.capacity v a
 
 unfoldable pub contentBits :
-    List ℕ → List ℕ → declared.Event → Bool → Core → Content → Alignment → Bits
+    List ℕ → List ℕ → declared.Event → Bool → Core → ContentAnswer → Alignment → Bits
 contentBits text work StartDocument carried c x a = []
 contentBits text work EndDocument carried c x a = []
 contentBits text work (StartElement u n) carried c x a =
@@ -53,10 +53,10 @@ pub record NamePuttable (c : Core) (s : Strings) (u x : Text) : Type 0 where
   pub new-uri : s.new_uri ≡ true → Written u
   pub new-name : s.new_name ≡ true → Written x
 
-pub record ValuePuttable (x : Content) (v : Text) : Type 0 where
+pub record ValuePuttable (x : ContentAnswer) (v : Text) : Type 0 where
   pub literal : (x.partition ≡ own → ⊥) → (x.partition ≡ all → ⊥) → Written v
 
-unfoldable pub Puttable : declared.Event → Core → Content → List ℕ → Type 0
+unfoldable pub Puttable : declared.Event → Core → ContentAnswer → List ℕ → Type 0
 Puttable StartDocument c x text = Unit {0}
 Puttable EndDocument c x text = Unit {0}
 Puttable (StartElement u n) c x text =
@@ -73,7 +73,7 @@ pub record PutNamedPre (stream : List ℕ) (at : ℕ) (uri local : Part) (c : Co
     (text work : List ℕ) : Type 0 where
   pub known : PutNamePre stream at uri local c s text work
 
-pub record PutValuedPre (stream : List ℕ) (at : ℕ) (value : Part) (c : Core) (x : Content)
+pub record PutValuedPre (stream : List ℕ) (at : ℕ) (value : Part) (c : Core) (x : ContentAnswer)
     (text work : List ℕ) : Type 0 where
   pub blank : T (blank_from stream at)
   pub near : at + max_string_bits ≤ farthest
@@ -87,7 +87,7 @@ pub record PutTextPre (stream : List ℕ) (at : ℕ) (value : Part) (text : List
   pub near : at + max_string_bits ≤ farthest
   pub written : Written (part_at text value)
 
-pub record PutContentPre (stream : List ℕ) (at : ℕ) (e : declared.Event) (c : Core) (x : Content)
+pub record PutContentPre (stream : List ℕ) (at : ℕ) (e : declared.Event) (c : Core) (x : ContentAnswer)
     (text work : List ℕ) : Type 0 where
   pub blank : T (blank_from stream at)
   pub near : at + 3 * max_string_bits ≤ farthest

@@ -9,8 +9,9 @@ ghost use Rattle.event.specs.declared.Event.TheVariants.{StartElement, Attribute
 ghost use Rattle.event.specs.declared.Event.TheVariants.{Comment, Instruction};
 ghost use Rattle.spec_exi.specs.Tables.{string_bits};
 ghost use Rattle.write_field.specs.Written.{Put};
-ghost use Rattle.write_content.specs.Contents.{stopped_as, plain_as, with_value, ContentPre};
+ghost use Rattle.write_content.specs.Contents.{plain_in, valued_in, content_answer, ContentPre};
 ghost use Rattle.write_content.specs.Contents.{ContentPost};
+ghost use Rattle.write_content.specs.Answer.{told_content};
 ghost use Rattle.write_content.specs.Writing.{PutNamedPre, named_bits, PutValuedPre};
 ghost use Rattle.write_content.specs.Writing.{valued_bits, PutTextPre, PutContentPre};
 ghost use Rattle.write_content.specs.Writing.{contentBits};
@@ -18,58 +19,40 @@ ghost use Rattle.write_qname.specs.Premise.{part_at};
 
 use event::{Event, Part};
 use mem_state::{Core, Strings};
-use name_rules::{COMMENT, INSTRUCTION, TARGET};
-use write_qname::NameJudged;
-use write_values::{NEITHER, ValueJudged};
+use mem_values::Form;
+use name_rules::Role;
+use refusal::Refusal;
+use write_values::ValueJudged;
 
-// The number of a refusal or 0; the code points in the store after the content; what is to join;
-// and of a value the partition that has it, and its compact identifier there.
+// The code points in the store after the content; what is to join; and of a value the partition
+// that has it, with its compact identifier there.
 #[derive(Clone, Copy)]
 pub struct Content {
-    pub number: u32,
     pub stored: usize,
     pub strings: Strings,
-    pub partition: u32,
-    pub id: u32,
-}
-
-fn stopped(number: u32, stored: usize) -> Content
-    ensures { result ≡ stopped_as number stored }
-{
-    let strings = mem_state::no_strings();
-    Content {
-        number,
-        stored,
-        strings,
-        partition: NEITHER,
-        id: 0,
-    }
+    pub form: Form,
 }
 
 // An event without a value.
 fn plain(stored: usize, strings: Strings) -> Content
-    ensures { result ≡ plain_as stored strings }
+    ensures { result ≡ plain_in stored strings }
 {
     Content {
-        number: 0,
         stored,
         strings,
-        partition: NEITHER,
-        id: 0,
+        form: Form::Absent,
     }
 }
 
 // With a value of the name in a row, which lies there.
 fn with_value(s: Strings, owner: u32, p: Part, v: ValueJudged) -> Content
-    ensures { result ≡ with_value s owner p v }
+    ensures { result ≡ valued_in s owner p v }
 {
     let strings = mem_state::with_value(s, owner, v.joins, p.place, p.size, v.hash);
     Content {
-        number: 0,
         stored: v.stored,
         strings,
-        partition: v.partition,
-        id: v.id,
+        form: v.form,
     }
 }
 
@@ -80,17 +63,13 @@ fn judge_element(
     local: Part,
     c: Core,
     work: &[u32],
-) -> Content
+) -> Result<Content, Refusal>
     requires { ContentPre work.now c }
     ensures { ContentPost opening.now text.now (StartElement uri local) c
-        work.now result }
+        work.now (content_answer c.stored result) }
 {
-    let n = write_qname::judge_name(opening, text, false, uri, local, c, work);
-    if n.number != 0 {
-        return stopped(n.number, c.stored);
-    }
-    let strings = n.strings;
-    plain(n.stored, strings)
+    let n = write_qname::judge_name(opening, text, false, uri, local, c, work)?;
+    Ok(plain(n.stored, n.strings))
 }
 
 // A name, then a value of it.
@@ -102,55 +81,53 @@ fn judge_attribute(
     value: Part,
     c: Core,
     work: &[u32],
-) -> Content
+) -> Result<Content, Refusal>
     requires { ContentPre work.now c }
     ensures { ContentPost opening.now text.now (Attribute uri local value) c
-        work.now result }
+        work.now (content_answer c.stored result) }
 {
-    let n = write_qname::judge_name(opening, text, true, uri, local, c, work);
-    if n.number != 0 {
-        return stopped(n.number, c.stored);
-    }
+    let n = write_qname::judge_name(opening, text, true, uri, local, c, work)?;
     let s = n.strings;
     let x = text::look_up(text, value.place, value.size);
     let v = write_values::judge_value(
         text, x, s.name_row, c.values, c.longest, c.capacity, n.stored, work,
-    );
-    if v.number != 0 {
-        return stopped(v.number, c.stored);
-    }
-    with_value(s, s.name_row, value, v)
+    )?;
+    Ok(with_value(s, s.name_row, value, v))
 }
 
 // A value of the innermost element.
-fn judge_characters(opening: &[u32], text: &[u32], value: Part, c: Core, work: &[u32]) -> Content
+fn judge_characters(
+    opening: &[u32],
+    text: &[u32],
+    value: Part,
+    c: Core,
+    work: &[u32],
+) -> Result<Content, Refusal>
     requires { ContentPre work.now c }
     ensures { ContentPost opening.now text.now (Characters value) c
-        work.now result }
+        work.now (content_answer c.stored result) }
 {
     let x = text::look_up(text, value.place, value.size);
     let v = write_values::judge_value(
         text, x, c.top, c.values, c.longest, c.capacity, c.stored, work,
-    );
-    if v.number != 0 {
-        return stopped(v.number, c.stored);
-    }
-    let strings = mem_state::no_strings();
-    with_value(strings, c.top, value, v)
+    )?;
+    Ok(with_value(mem_state::no_strings(), c.top, value, v))
 }
 
-fn judge_comment(opening: &[u32], text: &[u32], value: Part, c: Core, work: &[u32]) -> Content
+fn judge_comment(
+    opening: &[u32],
+    text: &[u32],
+    value: Part,
+    c: Core,
+    work: &[u32],
+) -> Result<Content, Refusal>
     requires { ContentPre work.now c }
     ensures { ContentPost opening.now text.now (Comment value) c
-        work.now result }
+        work.now (content_answer c.stored result) }
 {
     let x = text::look_up(text, value.place, value.size);
-    let v = write_values::judge_text(COMMENT, x, c.stored);
-    if v.number != 0 {
-        return stopped(v.number, c.stored);
-    }
-    let strings = mem_state::no_strings();
-    plain(v.stored, strings)
+    let v = write_values::judge_text(Role::Comment, x, c.stored)?;
+    Ok(plain(v.stored, mem_state::no_strings()))
 }
 
 // A target, then a text.
@@ -161,38 +138,37 @@ fn judge_instruction(
     value: Part,
     c: Core,
     work: &[u32],
-) -> Content
+) -> Result<Content, Refusal>
     requires { ContentPre work.now c }
     ensures { ContentPost opening.now text.now (Instruction target value) c
-        work.now result }
+        work.now (content_answer c.stored result) }
 {
     let y = text::look_up(text, target.place, target.size);
-    let t = write_values::judge_text(TARGET, y, c.stored);
-    if t.number != 0 {
-        return stopped(t.number, c.stored);
-    }
+    let t = write_values::judge_text(Role::Target, y, c.stored)?;
     let x = text::look_up(text, value.place, value.size);
-    let v = write_values::judge_text(INSTRUCTION, x, t.stored);
-    if v.number != 0 {
-        return stopped(v.number, c.stored);
-    }
-    let strings = mem_state::no_strings();
-    plain(v.stored, strings)
+    let v = write_values::judge_text(Role::Instruction, x, t.stored)?;
+    Ok(plain(v.stored, mem_state::no_strings()))
 }
 
 // Judges the strings of an event, in order.
-pub fn judge_content(opening: &[u32], text: &[u32], e: Event, c: Core, work: &[u32]) -> Content
+pub fn judge_content(
+    opening: &[u32],
+    text: &[u32],
+    e: Event,
+    c: Core,
+    work: &[u32],
+) -> Result<Content, Refusal>
     requires { ContentPre work.now c }
-    ensures { ContentPost opening.now text.now e c work.now result }
+    ensures { ContentPost opening.now text.now e c work.now (content_answer c.stored result) }
 {
     match e {
-        Event::StartDocument => plain(c.stored, mem_state::no_strings()),
-        Event::EndDocument => plain(c.stored, mem_state::no_strings()),
+        Event::StartDocument => Ok(plain(c.stored, mem_state::no_strings())),
+        Event::EndDocument => Ok(plain(c.stored, mem_state::no_strings())),
         Event::StartElement(uri, local) => judge_element(opening, text, uri, local, c, work),
         Event::Attribute(uri, local, value) => {
             judge_attribute(opening, text, uri, local, value, c, work)
         }
-        Event::EndElement => plain(c.stored, mem_state::no_strings()),
+        Event::EndElement => Ok(plain(c.stored, mem_state::no_strings())),
         Event::Characters(value) => judge_characters(opening, text, value, c, work),
         Event::Comment(value) => judge_comment(opening, text, value, c, work),
         Event::Instruction(target, value) => {
@@ -237,24 +213,15 @@ fn put_value(
     text: &[u32],
     work: &[u32],
 ) -> usize
-    requires { PutValuedPre stream.old at value c x text.now work.now }
+    requires { PutValuedPre stream.old at value c (told_content x) text.now work.now }
     ensures { Put stream.old at
-        (valued_bits work.now c x (part_at text.now value)
+        (valued_bits work.now c (told_content x) (part_at text.now value)
         (alignment_of aligned)) stream.new result }
 {
     let s = x.strings;
     let v = text::look_up(text, value.place, value.size);
     write_values::put_value(
-        aligned,
-        stream,
-        at,
-        x.partition,
-        x.id,
-        s.owner,
-        c.values,
-        c.capacity,
-        v,
-        work,
+        aligned, stream, at, x.form, s.owner, c.values, c.capacity, v, work,
     )
 }
 
@@ -280,9 +247,9 @@ pub fn put_content(
     text: &[u32],
     work: &[u32],
 ) -> usize
-    requires { PutContentPre stream.old at e c x text.now work.now }
+    requires { PutContentPre stream.old at e c (told_content x) text.now work.now }
     ensures { Put stream.old at
-        (contentBits text.now work.now e carried c x (alignment_of aligned))
+        (contentBits text.now work.now e carried c (told_content x) (alignment_of aligned))
         stream.new result }
 {
     match e {

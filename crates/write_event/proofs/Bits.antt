@@ -24,7 +24,7 @@ use Rattle.grammar_codes.specs.Table.{table_of, values_at, code_at, after_learne
 use Rattle.grammar_codes.proofs.Places.{has-place}
 use Rattle.grammar_match.specs.Here.{CountedHere, CodeRows, learned_here}
 use Rattle.grammar_match.proofs.Codes.{count-is, table-bits, learned-bits}
-use Rattle.write_content.specs.declared.Content.{Content}
+use Rattle.write_content.specs.Answer.{ContentAnswer}
 use Rattle.write_content.specs.Writing.{contentBits}
 use Rattle.write_production.specs.declared.Code.{Code}
 use Rattle.write_production.specs.Codes.{placed_bits, code_bits_as}
@@ -64,7 +64,7 @@ module _ {work : List ℕ} {learned mode top : ℕ} {w : Rows} {opened : List �
 
 -- Without a name nothing is carried.
 pub carried-plain : (text work : List ℕ) (e : declared.Event) → carries (kind_of (meaning e)) ≡ false
-    → (carried : Bool) (c : Core) (x : Content) (a : Alignment)
+    → (carried : Bool) (c : Core) (x : ContentAnswer) (a : Alignment)
     → contentBits text work e carried c x a ≡ contentBits text work e false c x a
 unfolding contentBits meaning kind_of carries
 carried-plain text work StartDocument z carried c x a = refl

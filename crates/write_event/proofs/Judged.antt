@@ -32,7 +32,7 @@ use Rattle.write_partition.specs.Writable.{tables_in}
 use Rattle.write_partition.specs.Judged.{fault_number}
 use Rattle.write_qname.specs.Premise.{Prepared, context_in}
 use Rattle.write_qname.specs.Qnames.{NoName}
-use Rattle.write_content.specs.declared.Content.{Content}
+use Rattle.write_content.specs.Answer.{ContentAnswer}
 use Rattle.write_content.specs.Contents.{items_as, ContentLeaves, ContentMeans}
 use Rattle.write_content.specs.Writing.{contentBits}
 use Rattle.write_production.specs.declared.Code.{Code}
@@ -77,7 +77,7 @@ module _ {opening text work : List ℕ} {c : Core} {w : Rows} {opened : List ℕ
 
       -- ---- the content
 
-      module _ {r : Content} (means : ContentMeans opening text e c work w state x r) where
+      module _ {r : ContentAnswer} (means : ContentMeans opening text e c work w state x r) where
         pub number_is : {z : grammar.Code}
             → code_here s w (replicate c.stored 0) c.mode opened x ≡ some z
             → r.number

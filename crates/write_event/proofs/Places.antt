@@ -29,3 +29,6 @@ module _ {c i : Bool} {mode kind : ℕ} {p : Place} (at : PlaceAt c i mode kind 
         (ap kind_number (sym (code-kind (table_of c i mode) p.level p.value h.level))
         ∙ h.code.is)
         (kind-stands c i mode p.level p.value (at.low l))
+
+pub some-level : {n : ℕ} → n < max_levels → n ≡ max_levels → ⊥
+some-level l e = omega (arith, l, e)

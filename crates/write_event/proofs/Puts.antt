@@ -14,12 +14,12 @@ use Rattle.write_content.specs.Writing.{contentBits, PutContentPre}
 use Rattle.write_content.proofs.Lengths.{content-length}
 use Rattle.write_production.specs.Codes.{code_bits_as, CodePre}
 use Rattle.write_production.proofs.Lengths.{code-length}
-use Rattle.write_event.specs.declared.EventJudged.{EventJudged}
+use Rattle.write_event.specs.Judge.{EventAnswer}
 use Rattle.write_event.specs.Step.{max_event_bits}
 use Rattle.write_event.specs.Judge.{judgedBits, PutEventPre}
 
 module _ {s : Settings} {stream text : List ℕ} {e : declared.Event} {work : List ℕ} {c : Core}
-    {j : EventJudged} (pre : PutEventPre s stream text e work c j) where
+    {j : EventAnswer} (pre : PutEventPre s stream text e work c j) where
   pub code-asks : CodePre s stream c.at c.mode j.place j.code
   unfolding max_events max_string
   code-asks =

@@ -37,10 +37,10 @@ use Rattle.grammar_update.proofs.Events.{left-alike}
 use Rattle.grammar_update.proofs.Allowed.{allows-is}
 use Rattle.write_partition.specs.Judged.{fault_number}
 use Rattle.write_qname.specs.Premise.{Prepared, context_in}
-use Rattle.write_content.specs.declared.Content.{Content}
+use Rattle.write_content.specs.Answer.{ContentAnswer}
 use Rattle.write_content.specs.Contents.{ContentPre, ContentLeaves, ContentMeans, ContentPost}
 use Rattle.write_production.specs.declared.Code.{Code}
-use Rattle.write_event.specs.declared.EventJudged.{EventJudged}
+use Rattle.write_event.specs.Judge.{EventAnswer}
 use Rattle.write_event.specs.Step.{Stands}
 use Rattle.write_event.specs.Judge.{CodeHere, refused_as, judged_as, GrammarsPre, after_content}
 use Rattle.write_event.specs.Judge.{GrammarsPost}
@@ -66,7 +66,7 @@ prepared s =
 pub content-asks : {work : List ℕ} {c : Core} → JudgePre work c → ContentPre work c
 content-asks pre = record { room = pre.rows; bounded = pre.bounded }
 
-pub grammars-asks : {opening text work : List ℕ} {e : declared.Event} {c : Core} {x : Content}
+pub grammars-asks : {opening text work : List ℕ} {e : declared.Event} {c : Core} {x : ContentAnswer}
     → JudgePre work c → ContentPost opening text e c work x → x.number ≡ 0 → GrammarsPre work c x
 grammars-asks pre post zero =
     record { room = pre.rows; bounded = pre.bounded; name = (post.bounds zero).name }
@@ -111,7 +111,7 @@ module _ (opening text : List ℕ) {work : List ℕ} {c : Core} (s : Settings) (
 
         -- ---- after the content
 
-        module _ (n : not fit ≡ false) {x : Content} (post : ContentPost opening text e c work x)
+        module _ (n : not fit ≡ false) {x : ContentAnswer} (post : ContentPost opening text e c work x)
           where
             within : every (inside text) (strings_of (meaning e)) ≡ true
             within = sym f ∙ not-false fit n
@@ -283,7 +283,7 @@ module _ (opening text : List ℕ) {work : List ℕ} {c : Core} (s : Settings) (
                     (λ f. rw (m, f) (limited m f)))
                     (λ m. rw m (repeated m))
 
-              pub event-judged : {r : EventJudged} → GrammarsPost work c kind p x r
+              pub event-judged : {r : EventAnswer} → GrammarsPost work c kind p x r
                   → JudgePost s opening text e work c r
               event-judged q =
                   subst (JudgePost s opening text e work c) (sym q.is) (judged q.code_is)

@@ -35,9 +35,9 @@ use Rattle.grammar_stepped.specs.Stepped.{stepped_as}
 use Rattle.write_field.specs.Written.{Put}
 use Rattle.write_partition.specs.Writable.{Written, Writable}
 use Rattle.write_qname.specs.Premise.{Begun}
-use Rattle.write_content.specs.declared.Content.{Content}
+use Rattle.write_content.specs.Answer.{ContentAnswer}
 use Rattle.write_production.specs.declared.Code.{Code}
-use Rattle.write_event.specs.declared.EventJudged.{EventJudged}
+use Rattle.write_event.specs.Judge.{EventAnswer}
 use Rattle.write_event.specs.Step.{StepPre, Stands, StepLeaves, StepPost}
 use Rattle.write_event.specs.Judge.{CodeHere, refused_as, judged_as}
 use Rattle.write_event.specs.Judge.{after_content, GrammarsPost, JudgePre, judgedBits, left_by}
@@ -46,7 +46,7 @@ use Rattle.write_event.proofs.Puts.{bits-few}
 
 -- ---- after the content
 
-module _ {work : List ℕ} {c : Core} {kind : ℕ} (p : Place) (x : Content) {code : Code}
+module _ {work : List ℕ} {c : Core} {kind : ℕ} (p : Place) (x : ContentAnswer) {code : Code}
     (h : CodeHere work c kind x.strings.name_row code) {g : Growth}
     (e : g ≡ growth_of work c kind code.learned x.strings) {may : Bool}
     (m : may ≡ allowed_in work c.tag kind x.strings.name_row) where
@@ -78,7 +78,7 @@ module _ {work : List ℕ} {c : Core} {kind : ℕ} (p : Place) (x : Content) {co
 
 -- ---- the commit
 
-module _ {work : List ℕ} {c : Core} {r : EventJudged} {n : ℕ} (pre : CommitPre work c r n) where
+module _ {work : List ℕ} {c : Core} {r : EventAnswer} {n : ℕ} (pre : CommitPre work c r n) where
   pub join-asks : StringsPre work c r.content.strings
   unfolding max_uris max_names max_store
   join-asks =
@@ -158,7 +158,7 @@ module _ {stream work : List ℕ} {c : Core} {n : ℕ} (pre : StepPre stream wor
   pub judge-asks : JudgePre work c
   judge-asks = record { rows = pre.rows; bounded = pre.bounded }
 
-  module _ {s : Settings} {opening text : List ℕ} {e : declared.Event} {r : EventJudged}
+  module _ {s : Settings} {opening text : List ℕ} {e : declared.Event} {r : EventAnswer}
       (post : JudgePost s opening text e work c r) where
     pub step-refused : 0 < r.number
         → StepPost s opening text (meaning e) stream work c n stream work

@@ -12,27 +12,27 @@ ghost use Rattle.spec_exi.specs.Lists.{every};
 ghost use Rattle.settings.specs.Meant.{settings_from};
 ghost use Rattle.event.specs.Cells.{meaning, as_span};
 ghost use Rattle.write_field.specs.Written.{Put};
-ghost use Rattle.write_event.specs.Judge.{CodeHerePre, CodeHere, refused_as, GrammarsPre};
+ghost use Rattle.write_content.specs.Answer.{told_content};
+ghost use Rattle.write_event.specs.Judge.{CodeHerePre, CodeHere, GrammarsPre};
+ghost use Rattle.write_event.specs.Judge.{told_event, event_answer};
 ghost use Rattle.write_event.specs.Judge.{GrammarsPost, JudgePre, JudgePost, PutEventPre};
 ghost use Rattle.write_event.specs.Judge.{judgedBits, CommitPre, CommitPost};
 ghost use Rattle.write_event.specs.Step.{StepPre, StepPost};
 
 use event::{Event, Part};
 use event_code::{AT, CH, CM, ED, EE, PI, SD, SE};
-use grammar_codes::{MAX_LEVELS, Place};
+use grammar_codes::Place;
 use grammar_stepped::Stepped;
 use mem_state::{Core, Growth};
-use refusal::{LIMIT, PLACE, SHAPE};
+use refusal::Refusal;
 use settings::Settings;
 use write_content::Content;
 use write_production::Code;
-use write_values::NEITHER;
 
-// The number of a refusal or 0; where the event's kind stands in the table, its code, its content
-// and what it leaves in the grammars.
+// Where the event's kind stands in the table, its code, its content and what it leaves in the
+// grammars.
 #[derive(Clone, Copy)]
 struct EventJudged {
-    number: u32,
     place: Place,
     code: Code,
     content: Content,
@@ -89,14 +89,13 @@ pub fn code_here(c: Core, kind: u32, name: u32, work: &[u32]) -> Code
     ensures { CodeHere work.now c kind name result }
 {
     let count = grammar_match::count_here(c.mode, c.top, work);
-    let row = grammar_match::find_learned(c.mode, c.top, kind, name, c.learned, work);
-    if row == 0 {
+    let Some(row) = grammar_match::find_learned(c.mode, c.top, kind, name, c.learned, work) else {
         return Code {
             learned: false,
             count,
             part: 0,
         };
-    }
+    };
     let part = grammar_match::part_here(row, count, work);
     Code {
         learned: true,
@@ -105,65 +104,33 @@ pub fn code_here(c: Core, kind: u32, name: u32, work: &[u32]) -> Code
     }
 }
 
-fn refused(number: u32, c: Core) -> EventJudged
-    ensures { result ≡ refused_as number c }
-{
-    let strings = mem_state::no_strings();
-    let content = Content {
-        number,
-        stored: c.stored,
-        strings,
-        partition: NEITHER,
-        id: 0,
-    };
-    let place = Place {
-        level: MAX_LEVELS,
-        value: 0,
-    };
-    let code = Code {
-        learned: false,
-        count: 0,
-        part: 0,
-    };
-    let growth = Growth {
-        enters: false,
-        teaches: false,
-        site: 0,
-        kind: 0,
-        name: 0,
-        uri: 0,
-    };
-    EventJudged {
-        number,
-        place,
-        code,
-        content,
-        growth,
-    }
-}
-
 // Judges an event after its content: the code that it has, equal attributes (P3), and the sizes of
 // the grammars.
-fn judge_grammars(c: Core, kind: u32, place: Place, content: Content, work: &[u32]) -> EventJudged
-    requires { GrammarsPre work.now c content }
-    ensures { GrammarsPost work.now c kind place content result }
+fn judge_grammars(
+    c: Core,
+    kind: u32,
+    place: Place,
+    content: Content,
+    work: &[u32],
+) -> Result<EventJudged, Refusal>
+    requires { GrammarsPre work.now c (told_content content) }
+    ensures { GrammarsPost work.now c kind place (told_content content) (event_answer c result) }
 {
     let s = content.strings;
     let code = code_here(c, kind, s.name_row, work);
     let growth = grammar_update::growth(c, kind, code.learned, s, work);
     if !grammar_update::allows(c.tag, kind, s.name_row, work) {
-        return refused(SHAPE, c);
+        return Err(Refusal::Shape);
     }
     if !grammar_update::fits(c, growth) {
-        return refused(LIMIT, c);
+        return Err(Refusal::Limit);
     }
-    EventJudged {
-        number: 0,
+    Ok(EventJudged {
         place,
         code,
         content,
         growth,
-    }
+    })
 }
 
 // Judges an event; nothing is written.
@@ -174,23 +141,19 @@ fn judge_event(
     e: Event,
     c: Core,
     work: &[u32],
-) -> EventJudged
+) -> Result<EventJudged, Refusal>
     requires { JudgePre work.now c }
     ensures { JudgePost (settings_from o) opening.now text.now e
-        work.now c result }
+        work.now c (event_answer c result) }
 {
     let kind = kind_of(e);
-    let place = grammar_codes::place_of(c.mode, kind, o.comments, o.instructions);
-    if place.level == MAX_LEVELS {
-        return refused(SHAPE, c);
-    }
+    let Some(place) = grammar_codes::place_of(c.mode, kind, o.comments, o.instructions) else {
+        return Err(Refusal::Shape);
+    };
     if !places_fit(text, e) {
-        return refused(PLACE, c);
+        return Err(Refusal::Place);
     }
-    let x = write_content::judge_content(opening, text, e, c, work);
-    if x.number != 0 {
-        return refused(x.number, c);
-    }
+    let x = write_content::judge_content(opening, text, e, c, work)?;
     judge_grammars(c, kind, place, x, work)
 }
 
@@ -206,9 +169,9 @@ fn put_event(
     j: EventJudged,
     work: &[u32],
 ) -> usize
-    requires { PutEventPre (settings_from o) stream.old text.now e work.now c j }
+    requires { PutEventPre (settings_from o) stream.old text.now e work.now c (told_event j) }
     ensures { Put stream.old c.at
-        (judgedBits (settings_from o) text.now e work.now c j)
+        (judgedBits (settings_from o) text.now e work.now c (told_event j))
         stream.new result }
 {
     let place = j.place;
@@ -222,8 +185,8 @@ fn put_event(
 
 // Adds what an event leaves to memory, and says the numbers after it; n events have come before it.
 fn commit(fragment: bool, work: &mut [u32], c: Core, at: usize, j: EventJudged, n: usize) -> Core
-    requires { CommitPre work.old c j n }
-    ensures { CommitPost fragment work.old c at j n work.new result }
+    requires { CommitPre work.old c (told_event j) n }
+    ensures { CommitPost fragment work.old c at (told_event j) n work.new result }
 {
     let x = j.content;
     let s = x.strings;
@@ -248,10 +211,10 @@ pub fn write_event(
     ensures { StepPost (settings_from o) opening.now text.now (meaning e)
         stream.old work.old c n stream.new work.new result }
 {
-    let j = judge_event(o, opening, text, e, c, work);
-    if j.number != 0 {
-        return grammar_stepped::answer(j.number, c);
-    }
+    let j = match judge_event(o, opening, text, e, c, work) {
+        Ok(j) => j,
+        Err(k) => return grammar_stepped::answer(k.number(), c),
+    };
     let at = put_event(o, stream, text, e, c, j, work);
     let core = commit(o.fragment, work, c, at, j, n);
     grammar_stepped::answer(0, core)

@@ -17,7 +17,7 @@ use Rattle.spec_fields.specs.Field.{Alignment, bit_packed, byte_aligned}
 use Rattle.spec_fields.specs.Field.{little_endian, number_bits}
 use Rattle.spec_fields.specs.Field.{width, choice_bits}
 use Rattle.spec_fields.proofs.Number.{length-bits, bits_of_value, width-enough, width-least}
-use Rattle.read_field.specs.Parts.{few}
+use Rattle.read_field.specs.Parts.{few, taken}
 use Rattle.read_field.proofs.FewBits.{width-none, width_some}
 use Rattle.write_field.specs.Written.{alignment_of, written, blank_from, Put, farthest}
 use Rattle.write_field.specs.Written.{PutNumberPre, PutChoicePre, PutPartPre}
@@ -311,14 +311,14 @@ module _ {buf : List ℕ} {at m v : ℕ} (h : PutChoicePre buf at m v) where
 
   module _ (l : m ≤ 256) where
     pub few-of : (aligned : Bool) → FewFit buf at (few aligned m) v
-    unfolding few
+    unfolding taken
     few-of true = (h.blank, omega (arith, h.near), omega arith, omega (arith, h.one))
     few-of false = (h.blank, omega (arith, h.near), width-least m 8 l, chosen-fits h)
 
     pub put-one-of : 1 < m → (aligned : Bool) {after : List ℕ} {r : ℕ}
         → Put buf at (bits_of (few aligned m) v) after r
         → Put buf at (choice_bits (alignment_of aligned) m v) after r
-    unfolding few alignment_of choice_bits number_bits octets_for
+    unfolding taken alignment_of choice_bits number_bits octets_for
     put-one-of some true {after} {r} p =
         let i : (width m + 7) / 8 ≡ 1 = omega (arith, width_some m some, width-least m 8 l) in
         let e : (v % 256 * 256 + v / 256) / 256 ≡ v = omega (arith, h.one) in

@@ -95,7 +95,7 @@ pub fn put_choice(aligned: bool, buf: &mut [u8], at: usize, m: u32, v: u32) -> u
         return at;
     }
     if m <= 256 {
-        return put_few(buf, at, read_field::few(aligned, m), v);
+        return put_few(buf, at, read_field::taken::<8>(aligned, m), v);
     }
     put_number(aligned, buf, at, read_field::width(m), v)
 }

@@ -24,7 +24,7 @@ use Rattle.grammar_update.specs.Growth.{GrowthPre, growth_of, allowed_in, fits_i
 use Rattle.grammar_update.specs.After.{core_after, AfterPre}
 use Rattle.grammar_stepped.specs.Stepped.{stepped_as}
 use Rattle.write_field.specs.Written.{Put}
-use Rattle.write_content.specs.declared.Content.{Content}
+use Rattle.write_content.specs.Answer.{ContentAnswer}
 use Rattle.write_content.specs.Contents.{ContentPre, ContentPost}
 use Rattle.write_production.specs.declared.Code.{Code}
 use Rattle.write_production.specs.Codes.{CodePre}
@@ -64,7 +64,7 @@ module _ {stream work : List ℕ} {c : Core} {n : ℕ} (pre : StepPre stream wor
           step-refused pre (place-stops opening text s e (judge-asks pre) k at ne (sym is) o)
           (omega arith)
 
-      module _ (i : not b ≡ false) {x : Content} (content : ContentPost opening text e c work x)
+      module _ (i : not b ≡ false) {x : ContentAnswer} (content : ContentPost opening text e c work x)
         where
           pub first-stopped : 0 < x.number
               → StepPost s opening text (meaning e) stream work c n stream work
@@ -85,7 +85,7 @@ module _ {stream work : List ℕ} {c : Core} {n : ℕ} (pre : StepPre stream wor
 -- ---- the grammars, the bits and the rows
 
 module _ {stream work : List ℕ} {c : Core} {n : ℕ} (pre : StepPre stream work c n) {s : Settings}
-    {opening text : List ℕ} {e : declared.Event} {p : Place} {x : Content}
+    {opening text : List ℕ} {e : declared.Event} {p : Place} {x : ContentAnswer}
     (a : Accepted s opening text e work c p x) (z : x.number ≡ 0) {st : Strings}
     (same : st ≡ x.strings) where
   abbrev kind : ℕ

@@ -32,8 +32,7 @@ use Rattle.grammar_update.proofs.Tests.{fits-learned}
 use Rattle.grammar_stepped.specs.Stepped.{stepped_as}
 use Rattle.grammar_stepped.proofs.Moved.{other-allowed}
 use Rattle.write_field.specs.Written.{Put}
-use Rattle.write_values.specs.declared.ValueJudged.{ValueJudged}
-use Rattle.write_values.specs.Values.{value_bits, PutValuePre}
+use Rattle.write_values.specs.Values.{ValueAnswer, value_bits, PutValuePre}
 use Rattle.write_qname.specs.Qnames.{joining_of}
 use Rattle.write_content.specs.Contents.{items_as, plain_as, with_value}
 use Rattle.write_content.specs.Writing.{contentBits, Puttable}
@@ -58,7 +57,7 @@ unfolding strings_of meaning
 characters-lie text value is = sym (is ∙ every_one (inside text) (as_span value))
 
 module _ {stream work : List ℕ} {c : Core} {n : ℕ} (pre : StepPre stream work c n) {s : Settings}
-    {opening text : List ℕ} {value : Part} {p : Place} {v : ValueJudged}
+    {opening text : List ℕ} {value : Part} {p : Place} {v : ValueAnswer}
     (a : ValueAccepted s opening text (Characters value) work c p no_strings c.top value v)
     {none : Strings} (nothing : none ≡ no_strings) {st : Strings}
     (valued : st ≡ (with_value none c.top value v).strings) where

@@ -13,13 +13,13 @@ use Rattle.mem_state.specs.declared.Core.{Core}
 use Rattle.mem_state.specs.declared.Strings.{Strings}
 use Rattle.grammar_codes.specs.declared.Place.{Place}
 use Rattle.grammar_codes.specs.Table.{PlaceAt, max_levels}
-use Rattle.write_values.specs.declared.ValueJudged.{ValueJudged}
-use Rattle.write_content.specs.declared.Content.{Content}
+use Rattle.write_values.specs.Values.{ValueAnswer}
+use Rattle.write_content.specs.Answer.{ContentAnswer}
 use Rattle.write_content.specs.Contents.{with_value, ContentPost}
 
 -- The kind stands at this place of the table, and the content passes.
 pub record Accepted (s : Settings) (opening text : List ℕ) (e : declared.Event) (work : List ℕ)
-    (c : Core) (p : Place) (x : Content) : Type 0 where
+    (c : Core) (p : Place) (x : ContentAnswer) : Type 0 where
   pub at : PlaceAt s.comments s.instructions c.mode (kind_number (kind_of (meaning e))) p
   pub low : p.level < max_levels
   pub within : every (inside text) (strings_of (meaning e)) ≡ true
@@ -28,5 +28,5 @@ pub record Accepted (s : Settings) (opening text : List ℕ) (e : declared.Event
 -- The same of an event with a value of the name in a row, whose other strings are these.
 pub record ValueAccepted (s : Settings) (opening text : List ℕ) (e : declared.Event)
     (work : List ℕ) (c : Core) (p : Place) (strings : Strings) (owner : ℕ) (value : Part)
-    (v : ValueJudged) : Type 0 where
+    (v : ValueAnswer) : Type 0 where
   pub accepted : Accepted s opening text e work c p (with_value strings owner value v)

@@ -9,11 +9,12 @@ ghost use Rattle.event.specs.Cells.{meaning};
 ghost use Rattle.event.specs.declared.Event.TheVariants.{EndElement, Characters};
 ghost use Rattle.mem_state.specs.Joining.{no_strings};
 ghost use Rattle.write_event.specs.Step.{StepPre, StepPost};
+ghost use Rattle.write_values.specs.Values.{told_value};
 ghost use Rattle.write_first.specs.First.{ValueAccepted};
 
 use event::Part;
 use event_code::{CH, EE};
-use grammar_codes::{MAX_LEVELS, Place};
+use grammar_codes::Place;
 use grammar_stepped::Stepped;
 use mem_state::Core;
 use refusal::{LIMIT, PLACE, SHAPE};
@@ -36,8 +37,8 @@ fn add_characters(
     work: &mut [u32],
 ) -> Stepped
     requires step_pre { StepPre stream.old work.old c n }
-    requires value_accepted { ValueAccepted (settings_from o) opening.now text.now (Characters value) work.old c
-        place no_strings c.top value v }
+    requires value_accepted { ValueAccepted (settings_from o) opening.now text.now
+        (Characters value) work.old c place no_strings c.top value (told_value v) }
     ensures { StepPost (settings_from o) opening.now text.now
         (meaning (Characters value)) stream.old work.old c n
         stream.new work.new result }
@@ -52,16 +53,7 @@ fn add_characters(
     let x = text::look_up(text, value.place, value.size);
     let next = write_production::put_code(o, stream, c.at, c.mode, place, code);
     let at = write_values::put_value(
-        o.aligned,
-        stream,
-        next,
-        v.partition,
-        v.id,
-        c.top,
-        c.values,
-        c.capacity,
-        x,
-        work,
+        o.aligned, stream, next, v.form, c.top, c.values, c.capacity, x, work,
     );
     mem_state::join_value(
         work,
@@ -93,20 +85,20 @@ pub fn first_characters(
         (meaning (Characters value)) stream.old work.old c n
         stream.new work.new result }
 {
-    let place = grammar_codes::place_of(c.mode, CH, o.comments, o.instructions);
-    if place.level == MAX_LEVELS {
+    let Some(place) = grammar_codes::place_of(c.mode, CH, o.comments, o.instructions) else {
         return grammar_stepped::answer(SHAPE, c);
-    }
+    };
     if !write_event::is_inside(text, value) {
         return grammar_stepped::answer(PLACE, c);
     }
     let x = text::look_up(text, value.place, value.size);
-    let v = write_values::judge_value(
+    let judged = write_values::judge_value(
         text, x, c.top, c.values, c.longest, c.capacity, c.stored, work,
     );
-    if v.number != 0 {
-        return grammar_stepped::answer(v.number, c);
-    }
+    let v = match judged {
+        Ok(v) => v,
+        Err(k) => return grammar_stepped::answer(k.number(), c),
+    };
     add_characters(o, stream, opening, text, value, place, v, n, c, work)
 }
 
@@ -118,10 +110,9 @@ pub fn first_end(o: Settings, stream: &mut [u8], n: usize, c: Core, work: &mut [
     ensures { (opening text : List ℕ) → StepPost (settings_from o) opening text (meaning EndElement)
         stream.old work.old c n stream.new work.new result }
 {
-    let place = grammar_codes::place_of(c.mode, EE, o.comments, o.instructions);
-    if place.level == MAX_LEVELS {
+    let Some(place) = grammar_codes::place_of(c.mode, EE, o.comments, o.instructions) else {
         return grammar_stepped::answer(SHAPE, c);
-    }
+    };
     let s = mem_state::no_strings();
     let code = write_event::code_here(c, EE, 0, work);
     let g = grammar_update::growth(c, EE, code.learned, s, work);

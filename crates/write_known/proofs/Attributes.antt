@@ -27,8 +27,7 @@ use Rattle.grammar_match.specs.Here.{site_in}
 use Rattle.grammar_update.specs.Growth.{growth_of, fits_in}
 use Rattle.grammar_stepped.specs.Stepped.{stepped_as, moved_on}
 use Rattle.grammar_stepped.proofs.Moved.{moved-core, attribute-allowed}
-use Rattle.write_values.specs.declared.ValueJudged.{ValueJudged}
-use Rattle.write_values.specs.Values.{ValuePost}
+use Rattle.write_values.specs.Values.{ValueAnswer, ValuePost}
 use Rattle.write_qname.specs.Qnames.{joining_of}
 use Rattle.write_content.specs.Writing.{named_bits, valued_bits, contentBits}
 use Rattle.write_content.proofs.Named.{attribute-value-refused, attribute-judged}
@@ -77,7 +76,7 @@ module _ {stream work : List ℕ} {c : Core} (pre : StepPre stream work c 0) {na
 
     module _ (i : not b ≡ false) {y : Text}
         (look : y ≡ part text (record { place = value.place; size = value.size }))
-        {v : ValueJudged} (post : ValuePost text y name c.values c.longest c.capacity c.stored work v)
+        {v : ValueAnswer} (post : ValuePost text y name c.values c.longest c.capacity c.stored work v)
       where
         pub attribute-stopped : 0 < v.number → {a : Alignment}
             → AttributePost a text value name stream work c stream work (stepped_as v.number c)

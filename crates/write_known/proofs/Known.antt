@@ -27,7 +27,7 @@ use Rattle.grammar_update.specs.After.{core_after}
 use Rattle.grammar_stepped.specs.Stepped.{stepped_as}
 use Rattle.write_field.specs.Written.{Put}
 use Rattle.write_field.proofs.Written.{put_then}
-use Rattle.write_content.specs.declared.Content.{Content}
+use Rattle.write_content.specs.Answer.{ContentAnswer}
 use Rattle.write_content.specs.Contents.{ContentPost}
 use Rattle.write_content.specs.Writing.{contentBits}
 use Rattle.write_production.specs.declared.Code.{Code}
@@ -107,7 +107,7 @@ module _ {stream work : List ℕ} {c : Core} {n : ℕ} (pre : StepPre stream wor
       step-refused pre
       (place-stops opening text s e (judge-asks pre) k placed.at other (sym f) refl) (omega arith)
 
-  module _ (within : every (inside text) (strings_of (meaning e)) ≡ true) {x : Content}
+  module _ (within : every (inside text) (strings_of (meaning e)) ≡ true) {x : ContentAnswer}
       (content : ContentPost opening text e c work x) where
     pub quick-refused : 0 < x.number
         → StepPost s opening text (meaning e) stream work c n stream work

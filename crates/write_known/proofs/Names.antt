@@ -1,7 +1,7 @@
 -- The answers of the search for a name and its learned production.
-use Prim.Native.Nat.{ℕ, ◌-◌}
+use Prim.Native.Nat.{ℕ, suc, ◌-◌}
 use native.Mathlib.Omega.{arith}
-use mathlib.Core.Path.{◌≡◌, refl, sym, ap, ◌∙◌}
+use mathlib.Core.Path.{◌≡◌, refl, sym, ap, subst, ◌∙◌}
 use mathlib.Core.Bool.{Bool, true, false, cond, ◌&&◌, ◌||◌, not}
 use mathlib.Core.List.{List}
 use lib.ListN.{length}
@@ -23,7 +23,7 @@ use Rattle.write_names.proofs.Uris.{uri-hit}
 use Rattle.write_names.proofs.Names.{name-hit}
 use Rattle.write_qname.specs.Qnames.{NamePre}
 use Rattle.write_qname.proofs.Returns.{local-asks, name-judged}
-use Rattle.write_known.specs.Names.{uri_found, known_in, KnownName, unknown_as}
+use Rattle.write_known.specs.Names.{uri_found, known_in, Named, KnownName, unknown_as}
 use Rattle.write_known.specs.Names.{learned_in, LearnedName}
 
 or_right : (a b : Bool) → a || b ≡ false → b ≡ false
@@ -45,24 +45,24 @@ unfolding max_uris
 uri-asks pre = record { room = pre.room; few = pre.bounded.uris }
 
 pub name-asks : {work : List ℕ} {c : Core} → NamePre work c → {stores : ℕ → List ℕ} {y : Text} {u : ℕ}
-    → FoundUri work stores y c.uris u → (u ≡ 0 → ⊥) → FindNamePre work (u - 1) c.names
+    → FoundUri work stores y c.uris (suc u) → FindNamePre work u c.names
 unfolding max_uris max_names
-name-asks pre f ne =
+name-asks pre f =
     record {
       room = pre.room;
-      low = omega (arith, f.within, pre.bounded.uris, ne);
+      low = omega (arith, f.within, pre.bounded.uris);
       few = pre.bounded.names;
     }
 
 pub find-asks : {opening text : List ℕ} {attr : Bool} {uri local : Part} {c : Core} {work : List ℕ}
-    {k : ℕ} → NamePre work c → KnownName opening text attr uri local c work k → (k ≡ 0 → ⊥)
-    → FindPre work c.top (k - 1) c.learned
+    {k : ℕ} → NamePre work c → KnownName opening text attr uri local c work (suc k)
+    → FindPre work c.top k c.learned
 unfolding max_names
-find-asks pre known ne =
+find-asks pre known =
     record {
       room = pre.room;
       low = pre.bounded.top;
-      name_low = omega (arith, known.few, pre.bounded.names, ne);
+      name_low = omega (arith, known.few, pre.bounded.names);
       few = pre.bounded.learned;
     }
 
@@ -84,14 +84,17 @@ module _ (opening text : List ℕ) (attr : Bool) (uri local : Part) {c : Core} {
         named = λ h. absurd (omega (arith, h));
       }
 
-  module _ (ne : u ≡ 0 → ⊥) {x : Text}
+  module _ {g : ℕ} (at : u ≡ suc g) {x : Text}
       (look₂ : x ≡ part text (record { place = local.place; size = local.size })) {b : Bool}
       (reserved : b ≡ is_reserved y x) where
     known_at : known_in opening text attr uri local c work
         ≡ cond (ltb max_string (length x) || (attr && b)) 0
-        (name_found_in work (name_store opening text) (u - 1) x (hash_of x) c.names)
+        (name_found_in work (name_store opening text) g x (hash_of x) c.names)
     unfolding as_span known_in
-    known_at = rw (sym found-uri, ne_eqb u 0 ne, sym look, sym look₂, sym reserved) refl
+    known_at =
+        let e : u - 1 ≡ g = omega (arith, at) in
+        rw (sym found-uri, ne_eqb u 0 (λ z. omega (arith, z, at)), e, sym look, sym look₂, sym reserved)
+        refl
 
     -- Too long, or reserved.
     pub no_hit : ltb max_string (length x) || (attr && b) ≡ true
@@ -99,32 +102,32 @@ module _ (opening text : List ℕ) (attr : Bool) (uri local : Part) {c : Core} {
     no_hit t =
         record {
           is = sym (known_at ∙ ap (λ d. cond d 0
-              (name_found_in work (name_store opening text) (u - 1) x (hash_of x) c.names)) t);
+              (name_found_in work (name_store opening text) g x (hash_of x) c.names)) t);
           few = omega arith;
           named = λ h. absurd (omega (arith, h));
         }
 
-    uri-post : UriPost opening text y c.uris c.stored work (found_as (u - 1) c.stored)
+    uri-post : UriPost opening text y c.uris c.stored work (found_as g c.stored)
     uri-post =
         uri-hit opening text y
-        (record { room = pre.room; few = pre.bounded.uris; store = pre.bounded.stored }) f ne
+        (record { room = pre.room; few = pre.bounded.uris; store = pre.bounded.stored }) f at
         refl
 
     pub name-sought : ltb max_string (length x) || (attr && b) ≡ false → {h : ℕ} → h ≡ hash_of x
-        → {r : ℕ} → FoundName work (name_store opening text) (u - 1) x h c.names r
+        → {r : ℕ} → FoundName work (name_store opening text) g x h c.names r
         → KnownName opening text attr uri local c work r
-    name-sought t {h} hashed {r} g =
+    name-sought t {h} hashed {r} q =
         record {
-          is = g.is
-              ∙ ap (λ m. name_found_in work (name_store opening text) (u - 1) x m c.names) hashed
+          is = q.is
+              ∙ ap (λ m. name_found_in work (name_store opening text) g x m c.names) hashed
               ∙ sym (known_at ∙ ap (λ d. cond d 0
-              (name_found_in work (name_store opening text) (u - 1) x (hash_of x) c.names)) t);
-          few = g.within;
+              (name_found_in work (name_store opening text) g x (hash_of x) c.names)) t);
+          few = q.within;
           named = λ some. record {
-            u = u - 1;
+            u = g;
             post = name-judged pre attr uri local look uri-post refl look₂
-                (name-hit opening text attr y x (local-asks pre uri-post refl) hashed g
-                (λ z. omega (arith, z, some)) reserved (or_right (ltb max_string (length x)) (attr && b) t) refl) refl;
+                (name-hit opening text attr y x (local-asks pre uri-post refl) hashed q
+                {g = r - 1} (omega (arith, some)) reserved (or_right (ltb max_string (length x)) (attr && b) t) refl) refl;
           };
         }
 
@@ -158,19 +161,33 @@ module _ (opening text : List ℕ) (kind : ℕ) (uri local : Part) {c : Core} {w
           nothing (rw (sym first, sym second, not-false (a && b) i, sym known.is, eq-eqb k 0 z)
           refl)
 
-      module _ (ne : k ≡ 0 → ⊥) where
-        pub name-learned : {row : ℕ} → FoundHere work c.mode c.top kind (k - 1) c.learned row
-            → LearnedName opening text kind uri local c work (record { name = k - 1; row = row })
+      module _ {name : ℕ} (at : k ≡ suc name) where
+        known-at : KnownName opening text (eqb kind 3) uri local c work (suc name)
+        known-at = subst (KnownName opening text (eqb kind 3) uri local c work) at known
+
+        before : k - 1 ≡ name
+        before = omega (arith, at)
+
+        pub name-learned : {row : ℕ} → FoundHere work c.mode c.top kind name c.learned row
+            → LearnedName opening text kind uri local c work (record { name = name; row = row })
         unfolding learned_in
         name-learned f =
             record {
-              is = rw (sym first, sym second, not-false (a && b) i, sym known.is, ne_eqb k 0 ne, f.is)
-                  refl;
-              low = (find-asks pre known ne).name_low;
+              is = rw (
+                sym first,
+                sym second,
+                not-false (a && b) i,
+                sym known.is,
+                ne_eqb k 0 (λ z. omega (arith, z, at)),
+                before,
+                f.is,
+              ) refl;
+              low = (find-asks pre known-at).name_low;
               within = λ _. (
                 sym first ∙ and_left a b (not-false (a && b) i),
                 sym second ∙ and_right a b (not-false (a && b) i),
               );
-              named = λ _. known.named (omega (arith, ne));
+              named = λ _. subst (Named opening text (eqb kind 3) uri local c work) before
+                  (known.named (omega (arith, at)));
               found = λ _. f;
             }

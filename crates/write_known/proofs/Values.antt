@@ -27,8 +27,7 @@ use Rattle.grammar_stepped.specs.Stepped.{stepped_as, moved_on}
 use Rattle.grammar_stepped.proofs.Moved.{moved-core, other-allowed}
 use Rattle.write_field.specs.Written.{Put}
 use Rattle.write_field.proofs.Written.{put-blank}
-use Rattle.write_values.specs.declared.ValueJudged.{ValueJudged}
-use Rattle.write_values.specs.Values.{value_bits, ValuePost}
+use Rattle.write_values.specs.Values.{ValueAnswer, value_bits, ValuePost}
 use Rattle.write_qname.specs.Premise.{part_at}
 use Rattle.write_qname.specs.Qnames.{joining_of}
 use Rattle.write_content.specs.Contents.{ContentPre}
@@ -63,7 +62,7 @@ module _ {stream work : List ℕ} {c : Core} {n : ℕ} (pre : StepPre stream wor
   -- What writing and adding the value asks, after the code.
   pub keep-asks : {a : Alignment} {mode top row : ℕ} {mid : List ℕ} {next : ℕ}
       → LearnedPut a stream work c.at mode top row mid next → {text : List ℕ} {x : Text}
-      {owner stored : ℕ} {v : ValueJudged} → ValuePost text x owner c.values c.longest c.capacity stored work v
+      {owner stored : ℕ} {v : ValueAnswer} → ValuePost text x owner c.values c.longest c.capacity stored work v
       → v.number ≡ 0 → owner < name_rows → KeepPre mid next x v owner c.values work
   unfolding max_events max_string max_store
   keep-asks {a} {mode} q {v = v} post z low =
@@ -92,7 +91,7 @@ module _ {stream work : List ℕ} {c : Core} {n : ℕ} (pre : StepPre stream wor
 -- The value's bits, by its part of the store and in the settings' alignment.
 pub kept_put : (text : List ℕ) {p : Part} {y : Text}
     → y ≡ part text (record { place = p.place; size = p.size }) → {a b : Alignment} → b ≡ a
-    → {mid : List ℕ} {next : ℕ} {v : ValueJudged} {owner values capacity : ℕ}
+    → {mid : List ℕ} {next : ℕ} {v : ValueAnswer} {owner values capacity : ℕ}
     {work stream' work' : List ℕ} {at : ℕ}
     → ValueKept a mid next y p v owner values capacity work stream' work' at
     → Put mid next (value_bits work v.partition v.id owner values capacity (part_at text p) b)
@@ -135,7 +134,7 @@ module _ {stream work : List ℕ} {c : Core} {n : ℕ} (pre : StepPre stream wor
 
     module _ (i : not b ≡ false) {y : Text}
         (look : y ≡ part text (record { place = value.place; size = value.size }))
-        {v : ValueJudged} (post : ValuePost text y c.top c.values c.longest c.capacity c.stored
+        {v : ValueAnswer} (post : ValuePost text y c.top c.values c.longest c.capacity c.stored
         work v) where
       pub characters-stopped : 0 < v.number → {a : Alignment}
           → KnownPost a text (Characters value) stream work c n stream work

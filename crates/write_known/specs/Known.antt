@@ -20,8 +20,7 @@ use Rattle.grammar_match.specs.Here.{CountedHere}
 use Rattle.grammar_match.specs.Found.{FoundHere, PartHere}
 use Rattle.grammar_stepped.specs.declared.Stepped.{Stepped}
 use Rattle.write_field.specs.Written.{blank_from, farthest, Put}
-use Rattle.write_values.specs.declared.ValueJudged.{ValueJudged}
-use Rattle.write_values.specs.Values.{PutValuePre, value_bits}
+use Rattle.write_values.specs.Values.{ValueAnswer, PutValuePre, value_bits}
 use Rattle.write_qname.specs.Qnames.{joining_of}
 use Rattle.write_production.specs.Codes.{first_bits}
 use Rattle.write_event.specs.Step.{StepPost}
@@ -55,7 +54,7 @@ pub record LearnedPut (a : Alignment) (stream work : List ℕ) (at mode top row 
 
 -- ---- a value
 
-pub record KeepPre (stream : List ℕ) (at : ℕ) (x : Text) (v : ValueJudged) (owner values : ℕ)
+pub record KeepPre (stream : List ℕ) (at : ℕ) (x : Text) (v : ValueAnswer) (owner values : ℕ)
     (work : List ℕ) : Type 0 where
   pub put : PutValuePre stream at v.partition owner values x work
   pub join : (p : Part)
@@ -63,7 +62,7 @@ pub record KeepPre (stream : List ℕ) (at : ℕ) (x : Text) (v : ValueJudged) (
 
 -- Its bits are written, and it is added where it joins.
 pub record ValueKept (a : Alignment) (stream : List ℕ) (at : ℕ) (x : Text) (p : Part)
-    (v : ValueJudged) (owner values capacity : ℕ) (work stream' work' : List ℕ) (next : ℕ) : Type 0
+    (v : ValueAnswer) (owner values capacity : ℕ) (work stream' work' : List ℕ) (next : ℕ) : Type 0
   where
     pub put : Put stream at (value_bits work v.partition v.id owner values capacity x a)
         stream' next

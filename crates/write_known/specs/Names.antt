@@ -15,6 +15,7 @@ use Rattle.grammar_match.specs.Found.{found_here, FoundHere}
 use Rattle.write_partition.specs.Judged.{found_as}
 use Rattle.write_qname.specs.Premise.{part_at}
 use Rattle.write_qname.specs.Qnames.{named_as, NamePost}
+use Rattle.mem_chain.specs.Chain.{link_of}
 use Rattle.write_known.specs.declared.NameFound.{NameFound}
 
 -- ---- the name
@@ -47,10 +48,18 @@ pub record KnownName (opening text : List ℕ) (attr : Bool) (uri local : Part) 
 
 -- ---- its production
 
-abbrev pub unknown_as : NameFound
+-- The row of a name, and that of its learned production counted from 1; 0 for none.
+pub record NameAnswer : Type 0 where
+  pub name : ℕ
+  pub row : ℕ
+
+abbrev pub told_found : NameFound → NameAnswer
+told_found f = record { name = f.name; row = link_of f.row }
+
+abbrev pub unknown_as : NameAnswer
 unknown_as = record { name = 0; row = 0 }
 
-unfoldable pub learned_in : List ℕ → List ℕ → ℕ → Part → Part → Core → List ℕ → NameFound
+unfoldable pub learned_in : List ℕ → List ℕ → ℕ → Part → Part → Core → List ℕ → NameAnswer
 learned_in opening text kind uri local c work =
     let k = known_in opening text (eqb kind 3) uri local c work in
     cond (inside text (as_span uri) && inside text (as_span local))
@@ -62,7 +71,7 @@ learned_in opening text kind uri local c work =
     unknown_as
 
 pub record LearnedName (opening text : List ℕ) (kind : ℕ) (uri local : Part) (c : Core)
-    (work : List ℕ) (r : NameFound) : Type 0 where
+    (work : List ℕ) (r : NameAnswer) : Type 0 where
   pub is : r ≡ learned_in opening text kind uri local c work
   pub low : r.name < name_rows
   pub within : 0 < r.row → (inside text (as_span uri) ≡ true) × (inside text (as_span local) ≡ true)

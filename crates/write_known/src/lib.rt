@@ -3,10 +3,11 @@
 // have. What the functions ask and leave is in specs/.
 #![tactic(auto)]
 
-ghost use Rattle.std.specs.Prelude.{◌<◌, ◌≡◌, false, eqb};
+ghost use Rattle.std.specs.Prelude.{◌<◌, ◌≡◌, suc, false, eqb};
 ghost use Rattle.spec_exi.specs.Event.{AT as kind_at, CH as kind_ch};
 ghost use Rattle.event.specs.declared.Event.TheVariants.{Characters};
 ghost use Rattle.event_code.specs.Numbers.{in_tag};
+ghost use Rattle.mem_chain.specs.Chain.{link_of};
 ghost use Rattle.mem_layout.specs.Layout.{name_rows};
 ghost use Rattle.mem_marks.specs.Marks.{marked_in};
 ghost use Rattle.read_field.specs.View.{alignment_of};
@@ -14,7 +15,8 @@ ghost use Rattle.write_event.specs.Step.{StepPre};
 ghost use Rattle.write_known.specs.Known.{PutLearnedPre, LearnedPut, KeepPre, ValueKept};
 ghost use Rattle.write_known.specs.Known.{LearnedPre, KnownPost, AttributePost};
 ghost use Rattle.write_qname.specs.Qnames.{NamePre};
-ghost use Rattle.write_known.specs.Names.{KnownName, unknown_as, LearnedName};
+ghost use Rattle.write_known.specs.Names.{KnownName, told_found, LearnedName};
+ghost use Rattle.write_values.specs.Values.{told_value};
 
 use event::Part;
 use event_code::{AT, CH};
@@ -26,21 +28,16 @@ use write_values::ValueJudged;
 
 // ---- names
 
-// The row of a name, and the row counted from 1 of the learned production that carries it; 0 for
-// none.
-#[derive(Drop)]
+// The row of a name, and that of the learned production that carries it.
+#[derive(Clone, Copy)]
 pub struct NameFound {
     pub name: u32,
-    pub row: u32,
+    pub row: Option<u32>,
 }
 
-fn unknown() -> NameFound
-    ensures { result ≡ unknown_as }
-{
-    NameFound { name: 0, row: 0 }
-}
+const UNKNOWN: NameFound = NameFound { name: 0, row: None };
 
-// The row and 1 of a name that its tables have, and that may be an attribute's where attr; else 0.
+// The row of a name that its tables have, and that may be an attribute's where attr.
 fn known_name(
     opening: &[u32],
     text: &[u32],
@@ -49,22 +46,19 @@ fn known_name(
     local: Part,
     c: Core,
     work: &[u32],
-) -> u32
+) -> Option<u32>
     requires { NamePre work.now c }
     ensures { KnownName opening.now text.now attr uri local c work.now
-        result }
+        (link_of result) }
 {
     let y = text::look_up(text, uri.place, uri.size);
-    let u = mem_names::find_uri(work, opening, text, y, c.uris);
-    if u == 0 {
-        return 0;
-    }
+    let u = mem_names::find_uri(work, opening, text, y, c.uris)?;
     let x = text::look_up(text, local.place, local.size);
     if (MAX_STRING < x.len()) | (attr & name_rules::is_reserved(y, x)) {
-        return 0;
+        return None;
     }
     let h = mem_entries::hash(x);
-    mem_names::find_name(work, opening, text, u - 1, x, h, c.names)
+    mem_names::find_name(work, opening, text, u, x, h, c.names)
 }
 
 // The learned production that fits an event of this kind and name, whose strings its tables have.
@@ -79,22 +73,21 @@ pub fn learned_name(
 ) -> NameFound
     requires { NamePre work.now c }
     ensures { LearnedName opening.now text.now kind uri local c
-        work.now result }
+        work.now (told_found result) }
 {
     if !(write_event::is_inside(text, uri) & write_event::is_inside(text, local)) {
-        return unknown();
+        return UNKNOWN;
     }
-    let k = known_name(opening, text, kind == AT, uri, local, c, work);
-    if k == 0 {
-        return unknown();
-    }
-    let row = grammar_match::find_learned(c.mode, c.top, kind, k - 1, c.learned, work);
-    NameFound { name: k - 1, row }
+    let Some(name) = known_name(opening, text, kind == AT, uri, local, c, work) else {
+        return UNKNOWN;
+    };
+    let row = grammar_match::find_learned(c.mode, c.top, kind, name, c.learned, work);
+    NameFound { name, row }
 }
 
 // ---- the code and a value
 
-// Writes the code of a learned production, which is in this row counted from 1.
+// Writes the code of a learned production, which is in this row.
 pub fn put_learned(
     aligned: bool,
     stream: &mut [u8],
@@ -104,8 +97,8 @@ pub fn put_learned(
     row: u32,
     work: &[u32],
 ) -> usize
-    requires { PutLearnedPre stream.old work.now at top row }
-    ensures { LearnedPut (alignment_of aligned) stream.old work.now at mode top row
+    requires { PutLearnedPre stream.old work.now at top (suc row) }
+    ensures { LearnedPut (alignment_of aligned) stream.old work.now at mode top (suc row)
         stream.new result }
 {
     let count = grammar_match::count_here(mode, top, work);
@@ -126,21 +119,12 @@ fn keep_value(
     capacity: u32,
     work: &mut [u32],
 ) -> usize
-    requires { KeepPre stream.old at x.now v owner values work.old }
-    ensures { ValueKept (alignment_of aligned) stream.old at x.now p v owner values
+    requires { KeepPre stream.old at x.now (told_value v) owner values work.old }
+    ensures { ValueKept (alignment_of aligned) stream.old at x.now p (told_value v) owner values
         capacity work.old stream.new work.new result }
 {
     let next = write_values::put_value(
-        aligned,
-        stream,
-        at,
-        v.partition,
-        v.id,
-        owner,
-        values,
-        capacity,
-        x,
-        work,
+        aligned, stream, at, v.form, owner, values, capacity, x, work,
     );
     mem_state::join_value(work, values, owner, v.joins, p.place, p.size, v.hash);
     next
@@ -158,7 +142,7 @@ pub fn known_characters(
     work: &mut [u32],
 ) -> Stepped
     requires step_pre { StepPre stream.old work.old c n }
-    requires learned_pre { LearnedPre kind_ch work.old c 0 row }
+    requires learned_pre { LearnedPre kind_ch work.old c 0 (suc row) }
     ensures { KnownPost (alignment_of aligned) text.now (Characters value)
         stream.old work.old c n stream.new work.new result }
 {
@@ -166,12 +150,13 @@ pub fn known_characters(
         return grammar_stepped::answer(PLACE, c);
     }
     let x = text::look_up(text, value.place, value.size);
-    let v = write_values::judge_value(
+    let judged = write_values::judge_value(
         text, x, c.top, c.values, c.longest, c.capacity, c.stored, work,
     );
-    if v.number != 0 {
-        return grammar_stepped::answer(v.number, c);
-    }
+    let v = match judged {
+        Ok(v) => v,
+        Err(k) => return grammar_stepped::answer(k.number(), c),
+    };
     let next = put_learned(aligned, stream, c.at, c.mode, c.top, row, work);
     let at = keep_value(
         aligned, stream, next, x, value, v, c.top, c.values, c.capacity, work,
@@ -193,7 +178,7 @@ pub fn known_attribute(
     work: &mut [u32],
 ) -> Stepped
     requires step_pre { StepPre stream.old work.old c 0 }
-    requires learned_pre { LearnedPre kind_at work.old c name row }
+    requires learned_pre { LearnedPre kind_at work.old c name (suc row) }
     requires mode_value { c.mode ≡ in_tag }
     requires name_lt_name_rows { name < name_rows }
     requires name_value { marked_in work.old c.tag name ≡ false }
@@ -204,12 +189,13 @@ pub fn known_attribute(
         return grammar_stepped::answer(PLACE, c);
     }
     let x = text::look_up(text, value.place, value.size);
-    let v = write_values::judge_value(
+    let judged = write_values::judge_value(
         text, x, name, c.values, c.longest, c.capacity, c.stored, work,
     );
-    if v.number != 0 {
-        return grammar_stepped::answer(v.number, c);
-    }
+    let v = match judged {
+        Ok(v) => v,
+        Err(k) => return grammar_stepped::answer(k.number(), c),
+    };
     let next = put_learned(aligned, stream, c.at, c.mode, c.top, row, work);
     let at = keep_value(
         aligned, stream, next, x, value, v, name, c.values, c.capacity, work,

@@ -40,9 +40,8 @@ use Rattle.mem_rows.proofs.Within.{names-count, within-local}
 use Rattle.mem_state.specs.Strung.{name_added}
 use Rattle.name_rules.specs.Names.{is_reserved}
 use Rattle.name_rules.proofs.Laws.{attribute-allowed, element-allowed}
-use Rattle.write_partition.specs.declared.StringJudged.{StringJudged}
 use Rattle.write_partition.specs.Writable.{Written, Writable, Few, tables_in, name_source}
-use Rattle.write_partition.specs.Judged.{fault_number, literal_tests, refused_as, found_as, literal_as}
+use Rattle.write_partition.specs.Judged.{StringAnswer, fault_number, literal_tests, refused_as, found_as, literal_as}
 use Rattle.write_partition.proofs.Tests.{number-then, number-first, first_passes, literal-passes}
 use Rattle.write_partition.proofs.Rows.{source-store, zeros, few-within, name-writable}
 use Rattle.write_partition.proofs.Hits.{hit-form-bits}
@@ -59,10 +58,10 @@ others attr u x names = (name_allowed (local attr u) x, name) ∷ (ltb names max
 
 module _ (attr : Bool) (u x : Text) (names stored h : ℕ) {fault : ℕ}
     (f : fault ≡ fault_number (first_failed (literal_tests x stored))) where
-  abbrev Post : StringJudged → Type 0
+  abbrev Post : StringAnswer → Type 0
   Post r = NewNamePost attr u x names stored h r
 
-  pub name-fault : (fault ≡ 0 → ⊥) → {r : StringJudged} → r ≡ refused_as fault stored → Post r
+  pub name-fault : (fault ≡ 0 → ⊥) → {r : StringAnswer} → r ≡ refused_as fault stored → Post r
   name-fault ne e =
       subst Post (sym e)
       (record {
@@ -81,7 +80,7 @@ module _ (attr : Bool) (u x : Text) (names stored h : ℕ) {fault : ℕ}
         ∙ ap (λ l. fault_number (first_failed ((name_allowed (local attr u) x, name) ∷ (l, limit) ∷ []))) (sym q)
         ∙ sym (number-then (literal_tests x stored) (others attr u x names) f z)
 
-    pub name-forbidden : not b ≡ true → {r : StringJudged} → r ≡ refused_as number_name stored → Post r
+    pub name-forbidden : not b ≡ true → {r : StringAnswer} → r ≡ refused_as number_name stored → Post r
     unfolding fault_number first_failed number_of
     name-forbidden n e =
         subst Post (sym e)
@@ -92,7 +91,7 @@ module _ (attr : Bool) (u x : Text) (names stored h : ℕ) {fault : ℕ}
         })
 
     module _ (n : not b ≡ false) where
-      pub name-full : max_names ≤ names → {r : StringJudged} → r ≡ refused_as number_limit stored → Post r
+      pub name-full : max_names ≤ names → {r : StringAnswer} → r ≡ refused_as number_limit stored → Post r
       unfolding fault_number first_failed number_of
       name-full l e =
           subst Post (sym e)
@@ -102,7 +101,7 @@ module _ (attr : Bool) (u x : Text) (names stored h : ℕ) {fault : ℕ}
             judged = λ y. absurd (omega (arith, y));
           })
 
-      pub name-joins : names < max_names → {r : StringJudged} → r ≡ literal_as names stored (length x) true h
+      pub name-joins : names < max_names → {r : StringAnswer} → r ≡ literal_as names stored (length x) true h
           → Post r
       unfolding fault_number first_failed
       name-joins l e =
@@ -124,7 +123,7 @@ module _ (attr : Bool) (w : Rows) (u : ℕ) (x : Text) (names stored : ℕ) (val
   abbrev role : Role
   role = local attr (uri_text w.uris u)
 
-  abbrev Means : Bool → StringJudged → Type 0
+  abbrev Means : Bool → StringAnswer → Type 0
   Means joins r = NameMeans attr w (name_added joins u w new) u stored (uri_text w.uris u) x work r
 
   -- ---- a row of the URI's
@@ -261,13 +260,13 @@ module _ (attr : Bool) (w : Rows) (u : ℕ) (x : Text) (names stored : ℕ) (val
           hit = λ _ j. absurd (true≢false j);
         }
 
-    absent-means : {h : ℕ} {r : StringJudged} → NewNamePost attr (uri_text w.uris u) x names stored h r
+    absent-means : {h : ℕ} {r : StringAnswer} → NewNamePost attr (uri_text w.uris u) x names stored h r
         → Means r.joins r
     absent-means {h} {r} n =
         split (eqb r.number 0)
         (λ e.
         let z : r.number ≡ 0 = eqb-true r.number 0 e in
-        subst (λ (y : StringJudged). Means y.joins y) (sym (n.judged z)) (joined-means h (sym z ∙ n.number_is)))
+        subst (λ (y : StringAnswer). Means y.joins y) (sym (n.judged z)) (joined-means h (sym z ∙ n.number_is)))
         (λ e.
         let ne : r.number ≡ 0 → ⊥ = eqb-false r.number 0 e in
         record {
@@ -290,15 +289,15 @@ new-asks p short = record { store = p.store; short = short }
 
 module _ (opening text : List ℕ) (attr : Bool) (u x : Text) {names uri stored : ℕ} {work : List ℕ}
     (p : NamePre work names uri stored) where
-  abbrev Left : StringJudged → Type 0
+  abbrev Left : StringAnswer → Type 0
   Left r = NamePost opening text attr uri u x names stored work r
 
   -- What it means, where the URI has this text.
-  abbrev Told : Rows → ℕ → StringJudged → Text → Type 0
+  abbrev Told : Rows → ℕ → StringAnswer → Text → Type 0
   Told w place r y =
       NameMeans attr w (name_added r.joins uri w (record { place = place; text = x })) uri stored y x work r
 
-  pub name-long : max_string < length x → {r : StringJudged} → r ≡ refused_as number_limit stored → Left r
+  pub name-long : max_string < length x → {r : StringAnswer} → r ≡ refused_as number_limit stored → Left r
   name-long h e =
       subst Left (sym e)
       (record {
@@ -321,7 +320,7 @@ module _ (opening text : List ℕ) (attr : Bool) (u x : Text) {names uri stored 
         f.means (name_source opening text) ns hold (source-store opening_names opening text) hashed
         ∙ ap (first_that (is_entry ns uri x)) (sym hold.count)
 
-    pub name_new : row ≡ 0 → length x ≤ max_string → {r : StringJudged} → NewNamePost attr u x names stored h r → Left r
+    pub name_new : row ≡ 0 → length x ≤ max_string → {r : StringAnswer} → NewNamePost attr u x names stored h r → Left r
     name_new z short {r} n =
         record {
           refused = n.refused;
@@ -344,8 +343,8 @@ module _ (opening text : List ℕ) (attr : Bool) (u x : Text) {names uri stored 
               n;
         }
 
-    module _ (ne : row ≡ 0 → ⊥) {b : Bool} (known : b ≡ is_reserved u x) where
-      pub name-reserved : attr && b ≡ true → {r : StringJudged} → r ≡ refused_as number_name stored → Left r
+    module _ {g : ℕ} (at : row ≡ suc g) {b : Bool} (known : b ≡ is_reserved u x) where
+      pub name-reserved : attr && b ≡ true → {r : StringAnswer} → r ≡ refused_as number_name stored → Left r
       name-reserved taken e =
           subst Left (sym e)
           (record {
@@ -354,11 +353,11 @@ module _ (opening text : List ℕ) (attr : Bool) (u x : Text) {names uri stored 
             meant = λ w v l few hold inside is place.
                 subst (λ y. attr && is_reserved y x ≡ true → Told w place (refused_as number_name stored) y) is
                 (λ t. reserved-means attr w uri x names stored v l few hold.count inside p.store work place
-                (name_source opening text) hold (row - 1) (omega (arith, found-is w.names hold)) t)
+                (name_source opening text) hold g (omega (arith, found-is w.names hold)) t)
                 (ap (λ c. attr && c) (sym known) ∙ taken);
           })
 
-      pub name-hit : attr && b ≡ false → {r : StringJudged} → r ≡ found_as (row - 1) stored → Left r
+      pub name-hit : attr && b ≡ false → {r : StringAnswer} → r ≡ found_as g stored → Left r
       name-hit free e =
           subst Left (sym e)
           (record {
@@ -371,8 +370,8 @@ module _ (opening text : List ℕ) (attr : Bool) (u x : Text) {names uri stored 
               store = p.store;
             };
             meant = λ w v l few hold inside is place.
-                subst (λ y. attr && is_reserved y x ≡ false → Told w place (found_as (row - 1) stored) y) is
+                subst (λ y. attr && is_reserved y x ≡ false → Told w place (found_as g stored) y) is
                 (λ t. found-means attr w uri x names stored v l few hold.count inside p.store work place
-                (name_source opening text) hold (row - 1) (omega (arith, found-is w.names hold)) t)
+                (name_source opening text) hold g (omega (arith, found-is w.names hold)) t)
                 (ap (λ c. attr && c) (sym known) ∙ free);
           })

@@ -31,9 +31,8 @@ use Rattle.mem_rows.proofs.Grown.{uri-grows}
 use Rattle.mem_rows.proofs.Joins as joins
 use Rattle.mem_rows.proofs.Within.{within-uri}
 use Rattle.mem_state.specs.Strung.{uri_added}
-use Rattle.write_partition.specs.declared.StringJudged.{StringJudged}
 use Rattle.write_partition.specs.Writable.{Written, Writable, Few, tables_in, uri_source}
-use Rattle.write_partition.specs.Judged.{fault_number, literal_tests, refused_as, found_as, literal_as}
+use Rattle.write_partition.specs.Judged.{StringAnswer, fault_number, literal_tests, refused_as, found_as, literal_as}
 use Rattle.write_partition.proofs.Tests.{number-then, number-first, passed-test}
 use Rattle.write_partition.proofs.Tests.{first_passes, literal-passes}
 use Rattle.write_partition.proofs.Rows.{source-store, zeros, few-within, uri-writable}
@@ -47,7 +46,7 @@ left uris = (ltb uris max_uris, limit) ∷ []
 
 module _ (x : Text) (uris stored : ℕ) {fault : ℕ}
     (f : fault ≡ fault_number (first_failed (literal_tests x stored))) where
-  pub uri-fault : (fault ≡ 0 → ⊥) → {r : StringJudged} → r ≡ refused_as fault stored
+  pub uri-fault : (fault ≡ 0 → ⊥) → {r : StringAnswer} → r ≡ refused_as fault stored
       → NewUriPost x uris stored r
   uri-fault ne e =
       subst (NewUriPost x uris stored) (sym e)
@@ -65,7 +64,7 @@ module _ (x : Text) (uris stored : ℕ) {fault : ℕ}
         ap (λ b. fault_number (first_failed ((b, limit) ∷ []))) (sym e)
         ∙ sym (number-then (literal_tests x stored) (left uris) f z)
 
-    pub uri-full : max_uris ≤ uris → {r : StringJudged} → r ≡ refused_as number_limit stored
+    pub uri-full : max_uris ≤ uris → {r : StringAnswer} → r ≡ refused_as number_limit stored
         → NewUriPost x uris stored r
     unfolding fault_number first_failed number_of
     uri-full h e =
@@ -76,7 +75,7 @@ module _ (x : Text) (uris stored : ℕ) {fault : ℕ}
           judged = λ y. absurd (omega (arith, y));
         })
 
-    pub uri-joins : uris < max_uris → {r : StringJudged} → r ≡ literal_as uris stored (length x) true 0
+    pub uri-joins : uris < max_uris → {r : StringAnswer} → r ≡ literal_as uris stored (length x) true 0
         → NewUriPost x uris stored r
     unfolding fault_number first_failed
     uri-joins h e =
@@ -170,13 +169,13 @@ module _ (w : Rows) (x : Text) (uris stored : ℕ) (valid : Valid w) (writable :
           hit = λ _ j. absurd (true≢false j);
         }
 
-    absent-means : {r : StringJudged} → NewUriPost x uris stored r
+    absent-means : {r : StringAnswer} → NewUriPost x uris stored r
         → UriMeans w (uri_added r.joins w new) uris stored x r
     absent-means {r} n =
         split (eqb r.number 0)
         (λ e.
         let z : r.number ≡ 0 = eqb-true r.number 0 e in
-        subst (λ (y : StringJudged). UriMeans w (uri_added y.joins w new) uris stored x y) (sym (n.judged z))
+        subst (λ (y : StringAnswer). UriMeans w (uri_added y.joins w new) uris stored x y) (sym (n.judged z))
         (joined-means (sym z ∙ n.number_is)))
         (λ e.
         let ne : r.number ≡ 0 → ⊥ = eqb-false r.number 0 e in
@@ -198,7 +197,7 @@ pub new-asks : {work : List ℕ} {x : Text} {uris stored : ℕ} → UriPre work 
 new-asks p short = record { store = p.store; short = short }
 
 pub uri-long : {opening text : List ℕ} {x : Text} {uris stored : ℕ} {work : List ℕ} → max_string < length x
-    → {r : StringJudged} → r ≡ refused_as number_limit stored → UriPost opening text x uris stored work r
+    → {r : StringAnswer} → r ≡ refused_as number_limit stored → UriPost opening text x uris stored work r
 uri-long {opening} {text} {x} {uris} {stored} {work} h e =
     subst (UriPost opening text x uris stored work) (sym e)
     (record {
@@ -222,9 +221,9 @@ found-is opening text x f us hold =
 
 module _ (opening text : List ℕ) (x : Text) {uris stored row : ℕ} {work : List ℕ} (p : UriPre work uris stored)
     (f : FoundUri work (uri_store opening text) x uris row) where
-  pub uri-hit : (row ≡ 0 → ⊥) → {r : StringJudged} → r ≡ found_as (row - 1) stored
+  pub uri-hit : {g : ℕ} → row ≡ suc g → {r : StringAnswer} → r ≡ found_as g stored
       → UriPost opening text x uris stored work r
-  uri-hit ne e =
+  uri-hit {g} is e =
       subst (UriPost opening text x uris stored work) (sym e)
       (record {
         refused = λ h. absurd (omega (arith, h));
@@ -236,11 +235,11 @@ module _ (opening text : List ℕ) (x : Text) {uris stored row : ℕ} {work : Li
           store = p.store;
         };
         meant = λ w v l few hold place.
-            found-means w x uris stored v l few hold.count p.store place (row - 1)
+            found-means w x uris stored v l few hold.count p.store place g
             (omega (arith, found-is opening text x f w.uris hold));
       })
 
-  pub uri-new : row ≡ 0 → length x ≤ max_string → {r : StringJudged} → NewUriPost x uris stored r
+  pub uri-new : row ≡ 0 → length x ≤ max_string → {r : StringAnswer} → NewUriPost x uris stored r
       → UriPost opening text x uris stored work r
   uri-new z short {r} n =
       record {

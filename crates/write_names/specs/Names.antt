@@ -17,9 +17,8 @@ use Rattle.mem_rows.specs.Rows.{Rows}
 use Rattle.mem_rows.specs.Valid.{Valid}
 use Rattle.mem_state.specs.Strung.{name_added}
 use Rattle.write_field.specs.Written.{blank_from, farthest}
-use Rattle.write_partition.specs.declared.StringJudged.{StringJudged}
 use Rattle.write_partition.specs.Writable.{Written, Writable, Few, tables_in, name_source}
-use Rattle.write_partition.specs.Judged.{fault_number, literal_tests, refused_as, literal_as}
+use Rattle.write_partition.specs.Judged.{StringAnswer, fault_number, literal_tests, refused_as, literal_as}
 use Rattle.write_partition.specs.Judged.{StringMeans, IsHit}
 use Rattle.write_partition.specs.Bits.{hit_bits}
 use Rattle.write_string.specs.Fits.{max_string_bits}
@@ -30,7 +29,7 @@ pub record NewNamePre (x : Text) (names stored : ℕ) : Type 0 where
   pub store : stored ≤ max_store
   pub short : length x ≤ max_string
 
-pub record NewNamePost (attr : Bool) (u x : Text) (names stored h : ℕ) (r : StringJudged) : Type 0
+pub record NewNamePost (attr : Bool) (u x : Text) (names stored h : ℕ) (r : StringAnswer) : Type 0
   where
     pub number_is : r.number
         ≡ fault_number (first_failed (literal_tests x stored
@@ -54,7 +53,7 @@ name_bits work uri row joins x a =
     (hit_bits a 0 (count_in work name_counts uri) (name_in work row).number)
 
 -- On every memory.
-pub record NameBounds (x : Text) (names stored : ℕ) (r : StringJudged) : Type 0 where
+pub record NameBounds (x : Text) (names stored : ℕ) (r : StringAnswer) : Type 0 where
   pub old : r.joins ≡ false → r.row < names
   pub new : r.joins ≡ true
       → (r.row ≡ names) × (names < max_names) × Written x × (r.hash ≡ hash_of x)
@@ -64,7 +63,7 @@ pub record NameBounds (x : Text) (names stored : ℕ) (r : StringJudged) : Type 
 
 -- Where memory holds the names of w: x is the local name in its row of the rows after it.
 pub record NameMeans (attr : Bool) (w v : Rows) (uri stored : ℕ) (u x : Text) (work : List ℕ)
-    (r : StringJudged) : Type 0 where
+    (r : StringAnswer) : Type 0 where
   pub string : StringMeans (local attr u) w v stored x r.number r.stored
       (name_bits work uri r.row r.joins x)
   pub row : r.number ≡ 0 → r.row < length v.names
@@ -73,7 +72,7 @@ pub record NameMeans (attr : Bool) (w v : Rows) (uri stored : ℕ) (u x : Text) 
   pub hit : r.number ≡ 0 → r.joins ≡ false → IsHit (tables_in w stored) (local attr u) x
 
 pub record NamePost (opening text : List ℕ) (attr : Bool) (uri : ℕ) (u x : Text) (names stored : ℕ)
-    (work : List ℕ) (r : StringJudged) : Type 0 where
+    (work : List ℕ) (r : StringAnswer) : Type 0 where
   pub refused : 0 < r.number → r ≡ refused_as r.number stored
   pub bounds : r.number ≡ 0 → NameBounds x names stored r
   -- w may be ahead of memory in its URIs

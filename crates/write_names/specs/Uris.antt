@@ -13,9 +13,8 @@ use Rattle.mem_rows.specs.Rows.{Rows}
 use Rattle.mem_rows.specs.Valid.{Valid}
 use Rattle.mem_state.specs.Strung.{uri_added}
 use Rattle.write_field.specs.Written.{blank_from, farthest}
-use Rattle.write_partition.specs.declared.StringJudged.{StringJudged}
 use Rattle.write_partition.specs.Writable.{Written, Writable, Few, tables_in, uri_source}
-use Rattle.write_partition.specs.Judged.{fault_number, literal_tests, refused_as, literal_as}
+use Rattle.write_partition.specs.Judged.{StringAnswer, fault_number, literal_tests, refused_as, literal_as}
 use Rattle.write_partition.specs.Judged.{StringMeans, IsHit}
 use Rattle.write_string.specs.Fits.{max_string_bits}
 
@@ -26,7 +25,7 @@ pub record NewUriPre (x : Text) (uris stored : ℕ) : Type 0 where
   pub short : length x ≤ max_string
 
 -- The first of the tests that are left, or the row after the others.
-pub record NewUriPost (x : Text) (uris stored : ℕ) (r : StringJudged) : Type 0 where
+pub record NewUriPost (x : Text) (uris stored : ℕ) (r : StringAnswer) : Type 0 where
   pub number_is : r.number
       ≡ fault_number (first_failed (literal_tests x stored ++ ((ltb uris max_uris, limit) ∷ [])))
   pub refused : 0 < r.number → r ≡ refused_as r.number stored
@@ -46,7 +45,7 @@ uri_bits uris row joins x a =
     cond joins (choice_bits a (suc uris) 0 ++ string_bits 0 x) (choice_bits a (suc uris) (suc row))
 
 -- On every memory.
-pub record UriBounds (x : Text) (uris stored : ℕ) (r : StringJudged) : Type 0 where
+pub record UriBounds (x : Text) (uris stored : ℕ) (r : StringAnswer) : Type 0 where
   pub old : r.joins ≡ false → r.row < uris
   pub new : r.joins ≡ true → (r.row ≡ uris) × (uris < max_uris) × Written x
   pub unhashed : r.hash ≡ 0
@@ -54,7 +53,7 @@ pub record UriBounds (x : Text) (uris stored : ℕ) (r : StringJudged) : Type 0 
   pub store : r.stored ≤ max_store
 
 -- Where memory holds the URIs of w: x is the URI in its row of the rows after it.
-pub record UriMeans (w v : Rows) (uris stored : ℕ) (x : Text) (r : StringJudged) : Type 0 where
+pub record UriMeans (w v : Rows) (uris stored : ℕ) (x : Text) (r : StringAnswer) : Type 0 where
   pub string : StringMeans uri w v stored x r.number r.stored
       (uri_bits uris r.row r.joins x)
   pub row : r.number ≡ 0 → r.row < length v.uris
@@ -62,7 +61,7 @@ pub record UriMeans (w v : Rows) (uris stored : ℕ) (x : Text) (r : StringJudge
   pub hit : r.number ≡ 0 → r.joins ≡ false → IsHit (tables_in w stored) uri x
 
 pub record UriPost (opening text : List ℕ) (x : Text) (uris stored : ℕ) (work : List ℕ)
-    (r : StringJudged) : Type 0 where
+    (r : StringAnswer) : Type 0 where
   pub refused : 0 < r.number → r ≡ refused_as r.number stored
   pub bounds : r.number ≡ 0 → UriBounds x uris stored r
   -- the place of x may be any

@@ -5,30 +5,33 @@
 
 ghost use Rattle.read_field.specs.View.{alignment_of};
 ghost use Rattle.write_field.specs.Written.{Put};
+ghost use Rattle.write_partition.specs.Judged.{string_answer};
 ghost use Rattle.write_names.specs.Uris.{NewUriPre, NewUriPost, UriPre, UriPost, uri_bits};
 ghost use Rattle.write_names.specs.Uris.{PutUriPre};
 ghost use Rattle.write_names.specs.Names.{NewNamePre, NewNamePost, NamePre, NamePost};
 ghost use Rattle.write_names.specs.Names.{name_bits, PutNamePre};
 
-use refusal::{LIMIT, NAME};
+use refusal::Refusal;
 use sizes::{MAX_NAMES, MAX_STRING, MAX_URIS};
 use write_partition::StringJudged;
 
 // ---- URIs
 
 // A URI that its table does not have.
-fn judge_new_uri(x: &[u32], uris: u32, stored: usize) -> StringJudged
+fn judge_new_uri(x: &[u32], uris: u32, stored: usize) -> Result<StringJudged, Refusal>
     requires { NewUriPre x.now uris stored }
-    ensures { NewUriPost x.now uris stored result }
+    ensures { NewUriPost x.now uris stored (string_answer stored result) }
 {
-    let fault = write_partition::literal_fault(x, stored);
-    if fault != 0 {
-        return write_partition::refused(fault, stored);
-    }
+    write_partition::literal_fault(x, stored)?;
     if MAX_URIS <= uris as usize {
-        return write_partition::refused(LIMIT, stored);
+        return Err(Refusal::Limit);
     }
-    write_partition::literal(uris, stored, x.len(), true, 0)
+    Ok(StringJudged {
+        row: uris,
+        stored: stored + x.len(),
+        joins: true,
+        hash: 0,
+    })
 }
 
 // Judges the URI x of a name: its length, then where its table has it or, of a literal, the other
@@ -40,19 +43,23 @@ pub fn judge_uri(
     uris: u32,
     stored: usize,
     work: &[u32],
-) -> StringJudged
+) -> Result<StringJudged, Refusal>
     requires { UriPre work.now uris stored }
     ensures { UriPost opening.now text.now x.now uris stored
-        work.now result }
+        work.now (string_answer stored result) }
 {
     if MAX_STRING < x.len() {
-        return write_partition::refused(LIMIT, stored);
+        return Err(Refusal::Limit);
     }
-    let row = mem_names::find_uri(work, opening, text, x, uris);
-    if row != 0 {
-        return write_partition::found(row - 1, stored);
+    match mem_names::find_uri(work, opening, text, x, uris) {
+        Some(row) => Ok(StringJudged {
+            row,
+            stored,
+            joins: false,
+            hash: 0,
+        }),
+        None => judge_new_uri(x, uris, stored),
     }
-    judge_new_uri(x, uris, stored)
 }
 
 // Writes a URI (EXI 7.3.2): a choice among the URIs and one more, 0 for a miss, and the String.
@@ -86,21 +93,23 @@ fn judge_new_name(
     names: u32,
     stored: usize,
     h: u32,
-) -> StringJudged
+) -> Result<StringJudged, Refusal>
     requires { NewNamePre x.now names stored }
-    ensures { NewNamePost attr u.now x.now names stored h result }
+    ensures { NewNamePost attr u.now x.now names stored h (string_answer stored result) }
 {
-    let fault = write_partition::literal_fault(x, stored);
-    if fault != 0 {
-        return write_partition::refused(fault, stored);
-    }
+    write_partition::literal_fault(x, stored)?;
     if !name_rules::local_allowed(attr, u, x) {
-        return write_partition::refused(NAME, stored);
+        return Err(Refusal::Name);
     }
     if MAX_NAMES <= names as usize {
-        return write_partition::refused(LIMIT, stored);
+        return Err(Refusal::Limit);
     }
-    write_partition::literal(names, stored, x.len(), true, h)
+    Ok(StringJudged {
+        row: names,
+        stored: stored + x.len(),
+        joins: true,
+        hash: h,
+    })
 }
 
 // Judges the local name x of the URI with this row and the text u: an attribute's where attr, an
@@ -115,23 +124,27 @@ pub fn judge_local(
     names: u32,
     stored: usize,
     work: &[u32],
-) -> StringJudged
+) -> Result<StringJudged, Refusal>
     requires { NamePre work.now names uri stored }
     ensures { NamePost opening.now text.now attr uri u.now
-        x.now names stored work.now result }
+        x.now names stored work.now (string_answer stored result) }
 {
     if MAX_STRING < x.len() {
-        return write_partition::refused(LIMIT, stored);
+        return Err(Refusal::Limit);
     }
     let h = mem_entries::hash(x);
-    let row = mem_names::find_name(work, opening, text, uri, x, h, names);
-    if row == 0 {
+    let Some(row) = mem_names::find_name(work, opening, text, uri, x, h, names) else {
         return judge_new_name(attr, u, x, names, stored, h);
-    }
+    };
     if attr & name_rules::is_reserved(u, x) {
-        return write_partition::refused(NAME, stored);
+        return Err(Refusal::Name);
     }
-    write_partition::found(row - 1, stored)
+    Ok(StringJudged {
+        row,
+        stored,
+        joins: false,
+        hash: 0,
+    })
 }
 
 // Writes a local name (EXI 7.3.3): a hit among its URI's own, or the String, its length raised

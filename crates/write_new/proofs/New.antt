@@ -23,8 +23,7 @@ use Rattle.grammar_update.specs.After.{core_after, AfterPre}
 use Rattle.grammar_stepped.specs.Stepped.{stepped_as}
 use Rattle.grammar_stepped.proofs.Moved.{other-allowed}
 use Rattle.write_field.specs.Written.{Put}
-use Rattle.write_values.specs.declared.ValueJudged.{ValueJudged}
-use Rattle.write_values.specs.Values.{value_bits, PutValuePre}
+use Rattle.write_values.specs.Values.{ValueAnswer, value_bits, PutValuePre}
 use Rattle.write_qname.specs.Premise.{part_at}
 use Rattle.write_content.specs.Contents.{plain_as, with_value}
 use Rattle.write_content.specs.Writing.{named_bits, contentBits, PutNamedPre}
@@ -130,7 +129,7 @@ attribute-lies text uri local value u l v =
     sym (every-three (inside text) (as_span uri) (as_span local) (as_span value)) ∙ rw (u, l, v) refl
 
 module _ {stream work : List ℕ} {c : Core} {n : ℕ} (pre : StepPre stream work c n) {s : Settings}
-    {opening text : List ℕ} {uri local value : Part} {p : Place} {old : Strings} {v : ValueJudged}
+    {opening text : List ℕ} {uri local value : Part} {p : Place} {old : Strings} {v : ValueAnswer}
     (a : ValueAccepted s opening text (Attribute uri local value) work c p old old.name_row
     value v) {st : Strings} (same : st ≡ (with_value old old.name_row value v).strings) where
   pub attribute-here : CodeHerePre work c old.name_row

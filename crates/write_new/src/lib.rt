@@ -8,11 +8,12 @@ ghost use Rattle.event.specs.Cells.{meaning};
 ghost use Rattle.event.specs.declared.Event.TheVariants.{StartElement, Attribute};
 ghost use Rattle.write_content.specs.Contents.{plain_as};
 ghost use Rattle.write_event.specs.Step.{StepPre, StepPost};
+ghost use Rattle.write_values.specs.Values.{told_value};
 ghost use Rattle.write_first.specs.First.{Accepted, ValueAccepted};
 
 use event::Part;
 use event_code::{AT, SE};
-use grammar_codes::{MAX_LEVELS, Place};
+use grammar_codes::Place;
 use grammar_stepped::Stepped;
 use mem_state::{Core, Strings};
 use refusal::{LIMIT, PLACE, SHAPE};
@@ -37,8 +38,8 @@ fn add_element(
     work: &mut [u32],
 ) -> Stepped
     requires step_pre { StepPre stream.old work.old c n }
-    requires accepted { Accepted (settings_from o) opening.now text.now (StartElement uri local) work.old c
-        place (plain_as stored s) }
+    requires accepted { Accepted (settings_from o) opening.now text.now
+        (StartElement uri local) work.old c place (plain_as stored s) }
     ensures { StepPost (settings_from o) opening.now text.now
         (meaning (StartElement uri local)) stream.old work.old c n
         stream.new work.new result }
@@ -76,17 +77,16 @@ pub fn new_element(
         (meaning (StartElement uri local)) stream.old work.old c n
         stream.new work.new result }
 {
-    let place = grammar_codes::place_of(c.mode, SE, o.comments, o.instructions);
-    if place.level == MAX_LEVELS {
+    let Some(place) = grammar_codes::place_of(c.mode, SE, o.comments, o.instructions) else {
         return grammar_stepped::answer(SHAPE, c);
-    }
+    };
     if !(write_event::is_inside(text, uri) & write_event::is_inside(text, local)) {
         return grammar_stepped::answer(PLACE, c);
     }
-    let q = write_qname::judge_name(opening, text, false, uri, local, c, work);
-    if q.number != 0 {
-        return grammar_stepped::answer(q.number, c);
-    }
+    let q = match write_qname::judge_name(opening, text, false, uri, local, c, work) {
+        Ok(q) => q,
+        Err(k) => return grammar_stepped::answer(k.number(), c),
+    };
     let s = q.strings;
     add_element(
         o, stream, opening, text, uri, local, place, q.stored, s, n, c, work,
@@ -112,8 +112,8 @@ fn add_attribute(
     work: &mut [u32],
 ) -> Stepped
     requires step_pre { StepPre stream.old work.old c n }
-    requires value_accepted { ValueAccepted (settings_from o) opening.now text.now (Attribute uri local value)
-        work.old c place s s.name_row value v }
+    requires value_accepted { ValueAccepted (settings_from o) opening.now text.now
+        (Attribute uri local value) work.old c place s s.name_row value (told_value v) }
     ensures { StepPost (settings_from o) opening.now text.now
         (meaning (Attribute uri local value)) stream.old work.old c n
         stream.new work.new result }
@@ -134,16 +134,7 @@ fn add_attribute(
         o.aligned, stream, next, carried, uri, local, c, t, text, work,
     );
     let at = write_values::put_value(
-        o.aligned,
-        stream,
-        mid,
-        v.partition,
-        v.id,
-        s.name_row,
-        c.values,
-        c.capacity,
-        x,
-        work,
+        o.aligned, stream, mid, v.form, s.name_row, c.values, c.capacity, x, work,
     );
     mem_state::join_strings(work, c, t);
     mem_state::grow(work, c, g);
@@ -169,26 +160,26 @@ pub fn new_attribute(
         (meaning (Attribute uri local value)) stream.old work.old c n
         stream.new work.new result }
 {
-    let place = grammar_codes::place_of(c.mode, AT, o.comments, o.instructions);
-    if place.level == MAX_LEVELS {
+    let Some(place) = grammar_codes::place_of(c.mode, AT, o.comments, o.instructions) else {
         return grammar_stepped::answer(SHAPE, c);
-    }
+    };
     let name = write_event::is_inside(text, uri) & write_event::is_inside(text, local);
     if !(name & write_event::is_inside(text, value)) {
         return grammar_stepped::answer(PLACE, c);
     }
-    let q = write_qname::judge_name(opening, text, true, uri, local, c, work);
-    if q.number != 0 {
-        return grammar_stepped::answer(q.number, c);
-    }
+    let q = match write_qname::judge_name(opening, text, true, uri, local, c, work) {
+        Ok(q) => q,
+        Err(k) => return grammar_stepped::answer(k.number(), c),
+    };
     let s = q.strings;
     let x = text::look_up(text, value.place, value.size);
-    let v = write_values::judge_value(
+    let judged = write_values::judge_value(
         text, x, s.name_row, c.values, c.longest, c.capacity, q.stored, work,
     );
-    if v.number != 0 {
-        return grammar_stepped::answer(v.number, c);
-    }
+    let v = match judged {
+        Ok(v) => v,
+        Err(k) => return grammar_stepped::answer(k.number(), c),
+    };
     add_attribute(
         o, stream, opening, text, uri, local, value, place, s, v, n, c, work,
     )

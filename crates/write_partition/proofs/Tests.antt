@@ -14,6 +14,12 @@ use Rattle.spec_fields.proofs.Tests.{split}
 use Rattle.text.specs.Text.{Text, all_chars}
 use Rattle.spec_exi.specs.Sizes.{max_store}
 use Rattle.spec_exi.specs.Writer.{Test, first_failed}
+use Rattle.refusal.specs.declared.Refusal as declared
+use Rattle.refusal.specs.declared.Refusal.TheVariants.{Room, Settings, Long, Header, Ended, Code}
+use Rattle.refusal.specs.declared.Refusal.TheVariants.{Number, Character, Reference, Loose, Name}
+use Rattle.refusal.specs.declared.Refusal.TheVariants.{Limit, Tail, Shape, Place, Structure}
+use Rattle.refusal.specs.declared.Refusal.TheVariants.{BadStamp, BadMovement, NotLater}
+use Rattle.refusal.specs.Numbers.{number_in}
 use Rattle.write_partition.specs.Judged.{fault_number, literal_tests}
 
 -- ---- the number
@@ -31,6 +37,31 @@ pub some-refusal : (o : Option Refusal) → 0 < fault_number o → (k : Refusal)
 unfolding fault_number
 some-refusal none h = absurd (omega arith)
 some-refusal (some k) h = (k, refl)
+
+-- No refusal has the number 0.
+pub number-some : (k : declared.Refusal) → 0 < number_in k
+number-some Room = omega arith
+number-some Settings = omega arith
+number-some Long = omega arith
+number-some Header = omega arith
+number-some Ended = omega arith
+number-some Code = omega arith
+number-some Number = omega arith
+number-some Character = omega arith
+number-some Reference = omega arith
+number-some Loose = omega arith
+number-some Name = omega arith
+number-some Limit = omega arith
+number-some Tail = omega arith
+number-some Shape = omega arith
+number-some Place = omega arith
+number-some Structure = omega arith
+number-some BadStamp = omega arith
+number-some BadMovement = omega arith
+number-some NotLater = omega arith
+
+pub number-ne : (k : declared.Refusal) → number_in k ≡ 0 → ⊥
+number-ne k e = omega (arith, number-some k)
 
 -- ---- tests in order
 

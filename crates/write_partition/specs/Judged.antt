@@ -1,5 +1,5 @@
 -- What judging a string leaves.
-use Rattle.std.specs.Prelude.{ℕ, ◌+◌, ◌≤◌, ◌≡◌, Bool, true, false, List, [], ◌∷◌, length, leb}
+use Rattle.std.specs.Prelude.{ℕ, ◌+◌, ◌≡◌, Bool, false, List, [], ◌∷◌, length, leb, Result, Ok, Err}
 use Rattle.std.proofs.Math.Option.{Option, none, some}
 use Rattle.spec_fields.specs.Bits.{Bits}
 use Rattle.spec_fields.specs.Field.{Alignment}
@@ -13,6 +13,8 @@ use Rattle.spec_exi.specs.Writer.{Test, first_failed, string_tests}
 use Rattle.spec_exi.specs.Alike.{AlikeTables}
 use Rattle.mem_rows.specs.Rows.{Rows}
 use Rattle.mem_rows.specs.Valid.{Valid}
+use Rattle.refusal.specs.declared.Refusal as declared
+use Rattle.refusal.specs.Numbers.{number_in}
 use Rattle.write_partition.specs.declared.StringJudged.{StringJudged}
 use Rattle.write_partition.specs.Writable.{Writable, tables_in}
 
@@ -28,16 +30,39 @@ literal_tests x stored = (leb (stored + length x) max_store, limit) ∷ (all_cha
 
 -- ---- the answers
 
-abbrev pub refused_as : ℕ → ℕ → StringJudged
+-- The number of a refusal; 0 is none.
+abbrev pub fault_in : {A : Type 0} → Result A declared.Refusal → ℕ
+fault_in (Ok x) = 0
+fault_in (Err k) = number_in k
+
+-- Of a string that is judged: the number of a refusal or 0; its row in its table; the code points in
+-- the store after it; and whether it is to join, with its hash.
+pub record StringAnswer : Type 0 where
+  pub number : ℕ
+  pub row : ℕ
+  pub stored : ℕ
+  pub joins : Bool
+  pub hash : ℕ
+
+abbrev pub refused_as : ℕ → ℕ → StringAnswer
 refused_as number stored =
     record { number = number; row = 0; stored = stored; joins = false; hash = 0 }
 
-abbrev pub found_as : ℕ → ℕ → StringJudged
+abbrev pub found_as : ℕ → ℕ → StringAnswer
 found_as row stored = record { number = 0; row = row; stored = stored; joins = false; hash = 0 }
 
-abbrev pub literal_as : ℕ → ℕ → ℕ → Bool → ℕ → StringJudged
+abbrev pub literal_as : ℕ → ℕ → ℕ → Bool → ℕ → StringAnswer
 literal_as row stored n joins hash =
     record { number = 0; row = row; stored = stored + n; joins = joins; hash = hash }
+
+abbrev pub told_string : StringJudged → StringAnswer
+told_string s =
+    record { number = 0; row = s.row; stored = s.stored; joins = s.joins; hash = s.hash }
+
+-- A refusal leaves the store.
+abbrev pub string_answer : ℕ → Result StringJudged declared.Refusal → StringAnswer
+string_answer stored (Ok s) = told_string s
+string_answer stored (Err k) = refused_as (number_in k) stored
 
 -- ---- what they mean
 

@@ -1,84 +1,41 @@
-// What a function that judges a string answers, before anything is written or added: whether it is
-// refused, and what is to join its table once the whole event is accepted. And the two forms in
-// which a string of a partition is written (EXI 7.3.3). What the functions ask and leave is in
-// specs/.
+// What a function that judges a string answers, before anything is written or added: a refusal, or
+// what is to join its table once the whole event is accepted. And the two forms in which a string
+// of a partition is written (EXI 7.3.3). What the functions ask and leave is in specs/.
 #![tactic(auto)]
 
-ghost use Rattle.std.specs.Prelude.{◌≡◌, ◌+◌, ◌≤◌, length};
+ghost use Rattle.std.specs.Prelude.{◌≡◌, ◌≤◌, length};
 ghost use Rattle.spec_exi.specs.Sizes.{max_store};
 ghost use Rattle.spec_exi.specs.Writer.{first_failed};
 ghost use Rattle.read_field.specs.View.{alignment_of};
 ghost use Rattle.write_field.specs.Written.{Put};
-ghost use Rattle.write_partition.specs.Judged.{fault_number, literal_tests, refused_as, found_as};
-ghost use Rattle.write_partition.specs.Judged.{literal_as};
+ghost use Rattle.write_partition.specs.Judged.{fault_in, fault_number, literal_tests};
 ghost use Rattle.write_partition.specs.Bits.{hit_bits, HitPre};
 
-use refusal::{CHARACTER, LIMIT};
+use refusal::Refusal;
 use sizes::MAX_STORE;
 
-// The number of a refusal or 0; the string's row in its table, or the row that it is to have; the
-// code points in the store after it; and whether it is to join, with the hash of its text.
-#[derive(Drop)]
+// The string's row in its table, or the row that it is to have; the code points in the store after
+// it; and whether it is to join, with the hash of its text.
+#[derive(Clone, Copy)]
 pub struct StringJudged {
-    pub number: u32,
     pub row: u32,
     pub stored: usize,
     pub joins: bool,
     pub hash: u32,
 }
 
-// A refusal.
-pub fn refused(number: u32, stored: usize) -> StringJudged
-    ensures { result ≡ refused_as number stored }
-{
-    StringJudged {
-        number,
-        row: 0,
-        stored,
-        joins: false,
-        hash: 0,
-    }
-}
-
-// A string that its table has.
-pub fn found(row: u32, stored: usize) -> StringJudged
-    ensures { result ≡ found_as row stored }
-{
-    StringJudged {
-        number: 0,
-        row,
-        stored,
-        joins: false,
-        hash: 0,
-    }
-}
-
-// A literal of n code points.
-pub fn literal(row: u32, stored: usize, n: usize, joins: bool, hash: u32) -> StringJudged
-    requires { stored + n ≤ max_store }
-    ensures { result ≡ literal_as row stored n joins hash }
-{
-    StringJudged {
-        number: 0,
-        row,
-        stored: stored + n,
-        joins,
-        hash,
-    }
-}
-
-// What is wrong with the text of a literal, or 0: the store's size, then its characters.
-pub fn literal_fault(x: &[u32], stored: usize) -> u32
+// Judges the text of a literal: the store's size, then its characters.
+pub fn literal_fault(x: &[u32], stored: usize) -> Result<(), Refusal>
     requires { stored ≤ max_store }
-    ensures { result ≡ fault_number (first_failed (literal_tests x.now stored)) }
+    ensures { fault_in result ≡ fault_number (first_failed (literal_tests x.now stored)) }
 {
     if MAX_STORE - stored < x.len() {
-        return LIMIT;
+        return Err(Refusal::Limit);
     }
     if !text::all_chars(x) {
-        return CHARACTER;
+        return Err(Refusal::Character);
     }
-    0
+    Ok(())
 }
 
 // A hit: the number of the partition, then the compact identifier among so many. (One that is not

@@ -23,9 +23,8 @@ use Rattle.mem_state.specs.declared.Core.{Core}
 use Rattle.mem_state.specs.Holds.{Bounded, Counts}
 use Rattle.mem_state.specs.Strung.{uri_added, name_added, value_added, Lain, Joins, StringsJoin}
 use Rattle.mem_state.proofs.Strung.{uri-names, name-uris}
-use Rattle.write_partition.specs.declared.StringJudged.{StringJudged}
 use Rattle.write_partition.specs.Writable.{Few, tables_in, uri_source, name_source}
-use Rattle.write_partition.specs.Judged.{fault_number, IsHit}
+use Rattle.write_partition.specs.Judged.{StringAnswer, fault_number, IsHit}
 use Rattle.write_names.specs.Uris.{uri_bits, UriPost}
 use Rattle.write_names.specs.Uris as uris
 use Rattle.write_names.specs.Names.{name_bits}
@@ -60,7 +59,7 @@ few-uri false y f h = f
 -- ---- the URI
 
 module _ {opening text work : List ℕ} {c : Core} (bounded : Bounded c) (uri : Part)
-    {u : StringJudged}
+    {u : StringAnswer}
     (post : UriPost opening text (part_at text uri) c.uris c.stored work u) {w : Rows}
     (p : Prepared opening text work c w) where
   abbrev with-uri : Rows
@@ -88,7 +87,7 @@ module _ {opening text work : List ℕ} {c : Core} (bounded : Bounded c) (uri : 
 
   -- ---- the local name
 
-  module _ (attr : Bool) (local : Part) (z : u.number ≡ 0) {l : StringJudged}
+  module _ (attr : Bool) (local : Part) (z : u.number ≡ 0) {l : StringAnswer}
       (post₂ : names.NamePost opening text attr u.row (part_at text uri) (part_at text local)
       c.names u.stored work l) where
     abbrev with-name : Rows

@@ -15,9 +15,8 @@ use Rattle.spec_exi.specs.Writer.{first_failed, content_tests}
 use Rattle.mem_layout.specs.Layout.{uri_rows, name_rows}
 use Rattle.mem_rows.specs.Rows.{Rows}
 use Rattle.mem_state.specs.declared.Core.{Core}
-use Rattle.write_partition.specs.declared.StringJudged.{StringJudged}
 use Rattle.write_partition.specs.Writable.{tables_in}
-use Rattle.write_partition.specs.Judged.{fault_number}
+use Rattle.write_partition.specs.Judged.{StringAnswer, fault_number}
 use Rattle.write_names.specs.Uris.{UriPost}
 use Rattle.write_names.specs.Names as names
 use Rattle.write_qname.specs.Premise.{Prepared, part_at}
@@ -44,7 +43,7 @@ either-fault t attr q e written h =
     e ∙ ap (λ xs. fault_number (first_failed xs)) (sym (name-tests t attr q written h))
 
 module _ {opening text work : List ℕ} {c : Core} (pre : NamePre work c) {y : Text}
-    {u : StringJudged} (post : UriPost opening text y c.uris c.stored work u)
+    {u : StringAnswer} (post : UriPost opening text y c.uris c.stored work u)
     (z : u.number ≡ 0) where
   row-of-uri : u.row < uri_rows
   unfolding max_uris
@@ -85,7 +84,7 @@ module _ {opening text work : List ℕ} {c : Core} (pre : NamePre work c) (attr 
   -- ---- the URI
 
   module _ {y : Text} (look : y ≡ part text (record { place = uri.place; size = uri.size }))
-      {u : StringJudged} (post : UriPost opening text y c.uris c.stored work u) where
+      {u : StringAnswer} (post : UriPost opening text y c.uris c.stored work u) where
     uri-post : UriPost opening text (part_at text uri) c.uris c.stored work u
     unfolding as_span
     uri-post = subst (λ x. UriPost opening text x c.uris c.stored work u) look post
@@ -99,7 +98,7 @@ module _ {opening text work : List ℕ} {c : Core} (pre : NamePre work c) (attr 
 
     module _ (z : u.number ≡ 0) {x : Text}
         (look₂ : x ≡ part text (record { place = local.place; size = local.size }))
-        {l : StringJudged}
+        {l : StringAnswer}
         (post₂ : names.NamePost opening text attr u.row y x c.names u.stored work l)
       where
         name-post : names.NamePost opening text attr u.row (part_at text uri)

@@ -1,5 +1,5 @@
 -- What judging and writing a qualified name asks and leaves (EXI 7.1.7).
-use Rattle.std.specs.Prelude.{ℕ, ◌+◌, ◌*◌, ◌≤◌, ◌<◌, ◌≡◌, Bool, true, false, List, [], ◌∷◌, ◌++◌, length, T}
+use Rattle.std.specs.Prelude.{ℕ, ◌+◌, ◌*◌, ◌≤◌, ◌<◌, ◌≡◌, Bool, true, false, List, [], ◌∷◌, ◌++◌, length, T, Result, Ok, Err}
 use Rattle.spec_fields.specs.Bits.{Bits}
 use Rattle.spec_fields.specs.Field.{Alignment}
 use Rattle.text.specs.Text.{Text}
@@ -11,6 +11,8 @@ use Rattle.spec_exi.specs.Context.{Item, after_items}
 use Rattle.spec_exi.specs.Strict.{items_bits}
 use Rattle.spec_exi.specs.Writer.{first_failed, content_tests}
 use Rattle.spec_exi.specs.Alike.{AlikeTables}
+use Rattle.refusal.specs.declared.Refusal.{Refusal}
+use Rattle.refusal.specs.Numbers.{number_in}
 use Rattle.event.specs.declared.Part.{Part}
 use Rattle.mem_layout.specs.Layout.{uri_rows, name_rows, work_cells}
 use Rattle.mem_entries.specs.Entries.{key_at}
@@ -24,7 +26,7 @@ use Rattle.mem_state.specs.Strung.{StringsJoin}
 use Rattle.write_field.specs.Written.{blank_from, farthest}
 use Rattle.write_partition.specs.declared.StringJudged.{StringJudged}
 use Rattle.write_partition.specs.Writable.{Written, Writable, tables_in}
-use Rattle.write_partition.specs.Judged.{fault_number, IsHit}
+use Rattle.write_partition.specs.Judged.{StringAnswer, fault_number, IsHit}
 use Rattle.write_names.specs.Uris.{uri_bits}
 use Rattle.write_names.specs.Names.{name_bits}
 use Rattle.write_string.specs.Fits.{max_string_bits}
@@ -37,10 +39,17 @@ use Rattle.write_qname.specs.Premise.{part_at}
 abbrev pub joining_of : Part → Bool → ℕ → Joining
 joining_of p joins hash = joining joins p.place p.size hash
 
-abbrev pub stopped_as : ℕ → ℕ → NameJudged
+-- Of a name that is judged: the number of a refusal or 0; the code points in the store after it; and
+-- what is to join.
+pub record NameAnswer : Type 0 where
+  pub number : ℕ
+  pub stored : ℕ
+  pub strings : Strings
+
+abbrev pub stopped_as : ℕ → ℕ → NameAnswer
 stopped_as number stored = record { number = number; stored = stored; strings = no_strings }
 
-abbrev pub named_as : Part → Part → StringJudged → StringJudged → NameJudged
+abbrev pub named_as : Part → Part → StringAnswer → StringAnswer → NameAnswer
 named_as uri local u l =
     record {
       number = 0;
@@ -48,6 +57,22 @@ named_as uri local u l =
       strings = as_strings (joining_of uri u.joins 0) (joining_of local l.joins l.hash)
           no_joining u.row l.row l.row;
     }
+
+abbrev pub named_of : Part → Part → StringJudged → StringJudged → NameJudged
+named_of uri local u l =
+    record {
+      stored = l.stored;
+      strings = as_strings (joining_of uri u.joins 0) (joining_of local l.joins l.hash)
+          no_joining u.row l.row l.row;
+    }
+
+-- A refusal leaves the store, and nothing joins.
+abbrev pub told_name : NameJudged → NameAnswer
+told_name n = record { number = 0; stored = n.stored; strings = n.strings }
+
+abbrev pub name_answer : ℕ → Result NameJudged Refusal → NameAnswer
+name_answer stored (Ok n) = told_name n
+name_answer stored (Err k) = stopped_as (number_in k) stored
 
 -- ---- the judgement
 
@@ -94,7 +119,7 @@ qname_bits work c s u x a =
 
 -- The rows after a name that passes.
 pub record NameLeaves (opening text : List ℕ) (attr : Bool) (q : QName Text) (c : Core)
-    (work : List ℕ) (w : Rows) (r : NameJudged) : Type 0 where
+    (work : List ℕ) (w : Rows) (r : NameAnswer) : Type 0 where
   pub rows : Rows
   pub joins : StringsJoin (list_stores opening text) r.strings w rows
   pub writable : Writable rows
@@ -108,7 +133,7 @@ pub record NameLeaves (opening text : List ℕ) (attr : Bool) (q : QName Text) (
   pub hits : NoName r.strings → NameHits (tables_in w c.stored) attr q
 
 pub record NameMeans (opening text : List ℕ) (attr : Bool) (q : QName Text) (c : Core)
-    (work : List ℕ) (w : Rows) (r : NameJudged) : Type 0 where
+    (work : List ℕ) (w : Rows) (r : NameAnswer) : Type 0 where
   -- a name that a learned production carries is judged as one that is written
   pub fault : (written : Bool) → (written ≡ false → NameHits (tables_in w c.stored) attr q)
       → r.number
@@ -117,7 +142,7 @@ pub record NameMeans (opening text : List ℕ) (attr : Bool) (q : QName Text) (c
   pub leaves : r.number ≡ 0 → NameLeaves opening text attr q c work w r
 
 pub record NamePost (opening text : List ℕ) (attr : Bool) (uri local : Part) (c : Core)
-    (work : List ℕ) (r : NameJudged) : Type 0 where
+    (work : List ℕ) (r : NameAnswer) : Type 0 where
   pub refused : 0 < r.number → r ≡ stopped_as r.number c.stored
   pub bounds : r.number ≡ 0
       → NameBounds c (part_at text uri) (part_at text local) r.stored r.strings

@@ -5,36 +5,25 @@
 ghost use Rattle.std.specs.Prelude.{◌≡◌};
 ghost use Rattle.read_field.specs.View.{alignment_of};
 ghost use Rattle.write_field.specs.Written.{Put};
-ghost use Rattle.write_qname.specs.Qnames.{stopped_as, named_as, NamePre, NamePost, PutNamePre};
+ghost use Rattle.write_qname.specs.Qnames.{named_of, name_answer, NamePre, NamePost, PutNamePre};
 ghost use Rattle.write_qname.specs.Qnames.{qname_bits};
 ghost use Rattle.write_qname.specs.Premise.{part_at};
 
 use event::Part;
 use mem_state::{Core, Strings};
+use refusal::Refusal;
 use write_partition::StringJudged;
 
-// The number of a refusal or 0; the code points in the store after the name; and what is to join.
-#[derive(Drop)]
+// The code points in the store after the name, and what is to join.
+#[derive(Clone, Copy)]
 pub struct NameJudged {
-    pub number: u32,
     pub stored: usize,
     pub strings: Strings,
 }
 
-fn stopped(number: u32, stored: usize) -> NameJudged
-    ensures { result ≡ stopped_as number stored }
-{
-    let strings = mem_state::no_strings();
-    NameJudged {
-        number,
-        stored,
-        strings,
-    }
-}
-
 // Both strings, judged.
 fn named(uri: Part, local: Part, u: StringJudged, l: StringJudged) -> NameJudged
-    ensures { result ≡ named_as uri local u l }
+    ensures { result ≡ named_of uri local u l }
 {
     let mut strings = mem_state::no_strings();
     strings.uri_place = uri.place;
@@ -48,7 +37,6 @@ fn named(uri: Part, local: Part, u: StringJudged, l: StringJudged) -> NameJudged
     strings.name_row = l.row;
     strings.owner = l.row;
     NameJudged {
-        number: 0,
         stored: l.stored,
         strings,
     }
@@ -63,22 +51,16 @@ pub fn judge_name(
     local: Part,
     c: Core,
     work: &[u32],
-) -> NameJudged
+) -> Result<NameJudged, Refusal>
     requires { NamePre work.now c }
     ensures { NamePost opening.now text.now attr uri local c work.now
-        result }
+        (name_answer c.stored result) }
 {
     let y = text::look_up(text, uri.place, uri.size);
-    let u = write_names::judge_uri(opening, text, y, c.uris, c.stored, work);
-    if u.number != 0 {
-        return stopped(u.number, c.stored);
-    }
+    let u = write_names::judge_uri(opening, text, y, c.uris, c.stored, work)?;
     let x = text::look_up(text, local.place, local.size);
-    let l = write_names::judge_local(opening, text, attr, u.row, y, x, c.names, u.stored, work);
-    if l.number != 0 {
-        return stopped(l.number, c.stored);
-    }
-    named(uri, local, u, l)
+    let l = write_names::judge_local(opening, text, attr, u.row, y, x, c.names, u.stored, work)?;
+    Ok(named(uri, local, u, l))
 }
 
 // Writes both strings as they were judged.

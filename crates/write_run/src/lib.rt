@@ -7,7 +7,6 @@ ghost use Rattle.settings.specs.Meant.{settings_from};
 ghost use Rattle.event.specs.Cells.{events_of};
 ghost use Rattle.write_run.specs.Run.{stopped_as, RunPre, RunPost};
 
-use event::Loaded;
 use event_code::IS_OVER;
 use grammar_open::State;
 use mem_state::Core;
@@ -47,54 +46,48 @@ pub fn put_events(
 {
     let mut c = st.core;
     let mut opened = st.opened;
-    let mut n: usize = 0;
-    let mut cell: usize = 0;
-    while cell < events.len() {
+    let count = (events.len() + CELLS_PER_EVENT - 1) / CELLS_PER_EVENT;
+    for n in 0..count {
         if n == MAX_EVENTS {
             return stopped(LIMIT, n, c.at);
         }
+        let cell = CELLS_PER_EVENT * n;
         if events.len() - cell < CELLS_PER_EVENT {
             return stopped(SHAPE, n, c.at);
         }
-        match event::load(events, cell) {
-            Loaded::Shape => {
-                return stopped(SHAPE, n, c.at);
-            }
-            Loaded::Whole(e) => {
-                let r = write_step::step(o, stream, opening, text, e, n, c, work);
-                if r.number != 0 {
-                    return stopped(r.number, n, c.at);
-                }
-                let before = c.depth;
-                let longest = c.longest;
-                let capacity = c.capacity;
-                let after = r.depth;
-                if before < after {
-                    opened[before] = r.top as u16;
-                }
-                let top = grammar_open::innermost(&opened, after);
-                c = Core {
-                    at: r.at,
-                    stored: r.stored,
-                    uris: r.uris,
-                    names: r.names,
-                    values: r.values,
-                    learned: r.learned,
-                    grammars: r.grammars,
-                    mode: r.mode,
-                    top,
-                    depth: after,
-                    tag: r.tag,
-                    longest,
-                    capacity,
-                };
-            }
+        let Some(e) = event::load(events, cell) else {
+            return stopped(SHAPE, n, c.at);
+        };
+        let r = write_step::step(o, stream, opening, text, e, n, c, work);
+        if r.number != 0 {
+            return stopped(r.number, n, c.at);
         }
-        n += 1;
-        cell += CELLS_PER_EVENT;
+        let before = c.depth;
+        let longest = c.longest;
+        let capacity = c.capacity;
+        let after = r.depth;
+        if before < after {
+            opened[before] = r.top as u16;
+        }
+        let top = grammar_open::innermost(&opened, after);
+        c = Core {
+            at: r.at,
+            stored: r.stored,
+            uris: r.uris,
+            names: r.names,
+            values: r.values,
+            learned: r.learned,
+            grammars: r.grammars,
+            mode: r.mode,
+            top,
+            depth: after,
+            tag: r.tag,
+            longest,
+            capacity,
+        };
     }
     if c.mode != IS_OVER {
-        return stopped(SHAPE, n, c.at);
+        return stopped(SHAPE, count, c.at);
     }
     stopped(0, 0, c.at)
 }

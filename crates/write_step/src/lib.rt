@@ -31,7 +31,7 @@ fn start_document(
         stream.old work.old c n stream.new work.new result }
 {
     let row = grammar_match::find_learned(c.mode, c.top, SD, 0, c.learned, work);
-    if (row != 0) | (c.mode != IN_DOCUMENT) {
+    if row.is_some() | (c.mode != IN_DOCUMENT) {
         let p = settings::copied(o);
         let d = mem_state::copied(c);
         let r = write_event::write_event(
@@ -63,7 +63,7 @@ fn end_document(
         stream.old work.old c n stream.new work.new result }
 {
     let row = grammar_match::find_learned(c.mode, c.top, ED, 0, c.learned, work);
-    if (row != 0) | (c.mode != IN_DOC_END) {
+    if row.is_some() | (c.mode != IN_DOC_END) {
         let p = settings::copied(o);
         let d = mem_state::copied(c);
         let r = write_event::write_event(p, stream, opening, text, Event::EndDocument, n, d, work);
@@ -90,10 +90,12 @@ fn start_element(
 {
     let f = write_known::learned_name(opening, text, SE, uri, local, c, work);
     let has = mem_learned::has_grammar(work, f.name);
-    if (f.row == 0) | !has | (MAX_OPEN <= c.depth) | (c.mode < IN_TAG) {
-        return write_new::new_element(o, stream, opening, text, uri, local, n, c, work);
+    match f.row {
+        Some(row) if has & (c.depth < MAX_OPEN) & (IN_TAG <= c.mode) => {
+            write_tags::known_element(o.aligned, stream, f.name, row, n, c, work)
+        }
+        _ => write_new::new_element(o, stream, opening, text, uri, local, n, c, work),
     }
-    write_tags::known_element(o.aligned, stream, f.name, f.row, n, c, work)
 }
 
 fn attribute(
@@ -115,10 +117,12 @@ fn attribute(
 {
     let f = write_known::learned_name(opening, text, AT, uri, local, c, work);
     let marked = mem_marks::is_marked(work, f.name, c.tag);
-    if (f.row == 0) | marked | (c.mode != IN_TAG) {
-        return write_new::new_attribute(o, stream, opening, text, uri, local, value, n, c, work);
+    match f.row {
+        Some(row) if !marked & (c.mode == IN_TAG) => {
+            write_known::known_attribute(o.aligned, stream, text, value, f.name, row, c, work)
+        }
+        _ => write_new::new_attribute(o, stream, opening, text, uri, local, value, n, c, work),
     }
-    write_known::known_attribute(o.aligned, stream, text, value, f.name, f.row, c, work)
 }
 
 fn characters(
@@ -136,11 +140,12 @@ fn characters(
         (meaning (Characters value)) stream.old work.old c n
         stream.new work.new result }
 {
-    let row = grammar_match::find_learned(c.mode, c.top, CH, 0, c.learned, work);
-    if (row == 0) | (c.mode < IN_TAG) {
-        return write_first::first_characters(o, stream, opening, text, value, n, c, work);
+    match grammar_match::find_learned(c.mode, c.top, CH, 0, c.learned, work) {
+        Some(row) if IN_TAG <= c.mode => {
+            write_known::known_characters(o.aligned, stream, text, value, row, n, c, work)
+        }
+        _ => write_first::first_characters(o, stream, opening, text, value, n, c, work),
     }
-    write_known::known_characters(o.aligned, stream, text, value, row, n, c, work)
 }
 
 fn end_element(o: Settings, stream: &mut [u8], n: usize, c: Core, work: &mut [u32]) -> Stepped
@@ -148,14 +153,15 @@ fn end_element(o: Settings, stream: &mut [u8], n: usize, c: Core, work: &mut [u3
     ensures { (opening text : List ℕ) → StepPost (settings_from o) opening text (meaning EndElement)
         stream.old work.old c n stream.new work.new result }
 {
-    let row = grammar_match::find_learned(c.mode, c.top, EE, 0, c.learned, work);
-    if (row != 0) & (IN_TAG <= c.mode) {
-        return write_tags::known_end(o.aligned, o.fragment, stream, row, n, c, work);
+    match grammar_match::find_learned(c.mode, c.top, EE, 0, c.learned, work) {
+        Some(row) if IN_TAG <= c.mode => {
+            write_tags::known_end(o.aligned, o.fragment, stream, row, n, c, work)
+        }
+        None if c.mode == IN_ELEMENT => {
+            write_tags::end_tag(o.aligned, o.fragment, stream, n, c, work)
+        }
+        _ => write_first::first_end(o, stream, n, c, work),
     }
-    if c.mode == IN_ELEMENT {
-        return write_tags::end_tag(o.aligned, o.fragment, stream, n, c, work);
-    }
-    write_first::first_end(o, stream, n, c, work)
 }
 
 // Writes one event, before which n have come, after the core's position.

@@ -30,10 +30,8 @@ fn put_characters(buf: &mut [u8], at: usize, x: &[u32]) -> usize
 {
     let k = at % 8;
     let mut j = at / 8;
-    let mut i = 0;
-    while i < x.len() {
-        j = put_character(buf, j, k, x[i]);
-        i += 1;
+    for &c in x {
+        j = put_character(buf, j, k, c);
     }
     8 * j + k
 }

@@ -3,7 +3,7 @@
 // and leave is in specs/Tags.antt.
 #![tactic(auto)]
 
-ghost use Rattle.std.specs.Prelude.{◌<◌, ◌≡◌, true};
+ghost use Rattle.std.specs.Prelude.{◌<◌, ◌≡◌, suc, true};
 ghost use Rattle.spec_exi.specs.Sizes.{max_events, max_open};
 ghost use Rattle.spec_exi.specs.Event.{SE as kind_se, EE as kind_ee};
 ghost use Rattle.event.specs.declared.Event.TheVariants.{StartDocument, EndDocument};
@@ -40,7 +40,7 @@ pub fn known_element(
     work: &[u32],
 ) -> Stepped
     requires step_pre { StepPre stream.old work.now c n }
-    requires learned_pre { LearnedPre kind_se work.now c name row }
+    requires learned_pre { LearnedPre kind_se work.now c name (suc row) }
     requires name_value { flag_in work.now name ≡ true }
     requires depth_lt_max_open { c.depth < max_open }
     ensures { ElementPost (alignment_of aligned) name stream.old work.now c n
@@ -75,7 +75,7 @@ fn ended(fragment: bool, at: usize, n: usize, c: Core) -> Stepped
     grammar_stepped::moved_on(c, at, c.stored, false, false, mode, c.top, c.depth - 1, tag)
 }
 
-// Writes an end tag whose production is learned, in this row counted from 1.
+// Writes an end tag whose production is learned, in this row.
 pub fn known_end(
     aligned: bool,
     fragment: bool,
@@ -86,7 +86,7 @@ pub fn known_end(
     work: &[u32],
 ) -> Stepped
     requires step_pre { StepPre stream.old work.now c n }
-    requires learned_pre { LearnedPre kind_ee work.now c 0 row }
+    requires learned_pre { LearnedPre kind_ee work.now c 0 (suc row) }
     ensures { TagPost (alignment_of aligned) fragment EndElement stream.old
         work.now c n stream.new result }
 {

@@ -1,7 +1,7 @@
 -- A value, written: a hit by its partition, or the String.
 use Prim.Native.Nat.{ℕ, ◌-◌}
 use native.Mathlib.Omega.{arith}
-use mathlib.Core.Path.{◌≡◌}
+use mathlib.Core.Path.{◌≡◌, subst}
 use mathlib.Core.List.{List}
 use borrow.Author.Tests.{eq-eqb, ne_eqb}
 use Rattle.spec_fields.specs.Field.{Alignment}
@@ -14,7 +14,14 @@ use Rattle.mem_values.specs.Window.{Replaced}
 use Rattle.write_field.specs.Written.{Put}
 use Rattle.write_string.specs.Fits.{PutStringPre}
 use Rattle.write_partition.specs.Bits.{hit_bits, HitPre}
-use Rattle.write_values.specs.Values.{own, all, value_bits, PutValuePre}
+use Rattle.mem_values.specs.declared.Form.{Form}
+use Rattle.write_values.specs.Values.{partition_in, own, all, value_bits, PutValuePre}
+
+pub of-form : {stream : List ℕ} {at owner values : ℕ} {x : Text} {work : List ℕ} {f g : Form} → f ≡ g
+    → PutValuePre stream at (partition_in f) owner values x work
+    → PutValuePre stream at (partition_in g) owner values x work
+of-form {stream} {at} {owner} {values} {x} {work} e h =
+    subst (λ f. PutValuePre stream at (partition_in f) owner values x work) e h
 
 module _ {stream : List ℕ} {at partition owner values : ℕ} {x : Text} {work : List ℕ}
     (h : PutValuePre stream at partition owner values x work) where

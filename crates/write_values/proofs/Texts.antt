@@ -22,8 +22,9 @@ use Rattle.mem_rows.specs.Rows.{Rows, tables_of}
 use Rattle.mem_rows.specs.Valid.{Valid}
 use Rattle.mem_rows.proofs.Joins.{nothing-joins}
 use Rattle.mem_rows.proofs.Within.{within_none}
-use Rattle.name_rules.specs.Texts.{role_of, fault_of}
-use Rattle.name_rules.proofs.Texts.{Alone, alone}
+use Rattle.name_rules.specs.declared.Role as declared
+use Rattle.name_rules.specs.Texts.{role_in, fault_of}
+use Rattle.name_rules.proofs.Texts.{Alone, alone-in}
 use Rattle.write_partition.specs.Writable.{Written, Writable, Few, tables_in}
 use Rattle.write_partition.specs.Judged.{fault_number, literal_tests, refused_as, literal_as, StringMeans}
 use Rattle.write_partition.proofs.Tests.{number-then, number-first, passed-test, Passed, literal-passes}
@@ -164,13 +165,13 @@ module _ {role : Role} (k : Alone role) {x : Text} {stored : ℕ} (low : stored 
         meant = λ w valid writable few. text-means k few low x judged fits z valid writable;
       }
 
-module _ (number : ℕ) (x : Text) {stored : ℕ} (low : stored ≤ max_store) where
+module _ (named : declared.Role) (x : Text) {stored : ℕ} (low : stored ≤ max_store) where
   abbrev role : Role
-  role = role_of number
+  role = role_in named
 
   pub text-long : max_string < length x → TextPost role x stored (refused_as number_limit stored)
   text-long h =
-      refused_post (alone number) low (omega arith)
+      refused_post (alone-in named) low (omega arith)
       (first-number role x stored (omega arith) (long-number x stored h))
 
   module _ (brief : length x ≤ max_string) {fault : ℕ}
@@ -181,7 +182,7 @@ module _ (number : ℕ) (x : Text) {stored : ℕ} (low : stored ≤ max_store) w
 
     pub text-fault : (fault ≡ 0 → ⊥) → TextPost role x stored (refused_as fault stored)
     text-fault ne =
-        refused_post (alone number) low (omega arith)
+        refused_post (alone-in named) low (omega arith)
         (first-number role x stored (omega arith) brief-tests)
 
     module _ (z : fault ≡ 0) {k : ℕ} (tested : k ≡ fault_of role x) where
@@ -193,8 +194,8 @@ module _ (number : ℕ) (x : Text) {stored : ℕ} (low : stored ≤ max_store) w
 
       pub text-refused : (k ≡ 0 → ⊥) → TextPost role x stored (refused_as k stored)
       text-refused ne =
-          refused_post (alone number) low (omega arith)
+          refused_post (alone-in named) low (omega arith)
           (tested ∙ own-left role x stored written passed.store)
 
       pub text-laid : k ≡ 0 → TextPost role x stored (literal_as 0 stored (length x) false 0)
-      text-laid y = laid-post (alone number) low written passed.store (sym tested ∙ y)
+      text-laid y = laid-post (alone-in named) low written passed.store (sym tested ∙ y)

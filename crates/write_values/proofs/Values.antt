@@ -42,8 +42,7 @@ use Rattle.write_partition.proofs.Tests.{literal-passes, too_much, no_char, no-f
 use Rattle.write_partition.proofs.Rows.{store-count, few-within, value-writable}
 use Rattle.write_partition.proofs.Means.{refused-means, long-means, hit-means, literal-fault}
 use Rattle.write_partition.proofs.Means.{literal-means}
-use Rattle.write_values.specs.declared.ValueJudged.{ValueJudged}
-use Rattle.write_values.specs.Values.{own, all, neither, refused_as, found_as, literal_as}
+use Rattle.write_values.specs.Values.{ValueAnswer, partition_in, id_in, own, all, neither, refused_as, found_as, literal_as}
 use Rattle.write_values.specs.Values.{has_row, NewValuePost, FormPre, FormPost, ValuePre}
 use Rattle.write_values.specs.Values.{value_bits, ValuePost}
 use Rattle.write_values.proofs.Forms.{Standing, standing, literal-bits, form-is, hit-written}
@@ -56,7 +55,7 @@ both_true false b e = absurd (true≢false (sym e))
 -- ---- a literal: the store's size, its characters, the table's size
 
 module _ (x : Text) (values longest capacity stored h : ℕ) (low : stored ≤ max_store) where
-  abbrev Judged : ValueJudged → Type 0
+  abbrev Judged : ValueAnswer → Type 0
   Judged = NewValuePost x values longest capacity stored h
 
   new-fault : {fault : ℕ} → fault ≡ fault_number (first_failed (literal_tests x stored)) → 0 < fault
@@ -247,6 +246,17 @@ module _ {text : List ℕ} {x : Text} {owner values longest capacity stored : �
     value-all e =
         value_found (ap form_in e) (omega arith) (λ w s. all-bits s stored b f (ap form_in e))
 
+    hit-by : (q : Form) → r ≡ q → (q ≡ Absent → ⊥)
+        → ValuePost text x owner values longest capacity stored work
+        (found_as (partition_in q) (id_in q) stored)
+    hit-by (Local i) e n = value-own e
+    hit-by (Global i) e n = value-all e
+    hit-by Absent e n = absurd (n refl)
+
+    pub value-hit : (r ≡ Absent → ⊥) → ValuePost text x owner values longest capacity stored work
+        (found_as (partition_in r) (id_in r) stored)
+    value-hit n = hit-by r refl n
+
     -- ---- a literal
 
     module _ (e : r ≡ Absent) where
@@ -341,7 +351,7 @@ module _ {text : List ℕ} {x : Text} {owner values longest capacity stored : �
             (rw (in_rows ∙ j))) (alike_same _))
             s.valid s.writable
 
-      module _ (short : length x ≤ max_string) {j : ValueJudged}
+      module _ (short : length x ≤ max_string) {j : ValueAnswer}
           (p : NewValuePost x values longest capacity stored h j) where
         abbrev enters : Bool
         enters = joins_by (length x) longest capacity

@@ -8,9 +8,8 @@ use Rattle.spec_exi.specs.Lists.{short}
 use Rattle.spec_exi.specs.Writer.{Test, first_failed}
 use Rattle.mem_rows.specs.Rows.{Rows}
 use Rattle.mem_rows.specs.Valid.{Valid}
-use Rattle.write_partition.specs.declared.StringJudged.{StringJudged}
 use Rattle.write_partition.specs.Writable.{Written, Writable, Few}
-use Rattle.write_partition.specs.Judged.{fault_number, literal_tests, refused_as, literal_as}
+use Rattle.write_partition.specs.Judged.{StringAnswer, fault_number, literal_tests, refused_as, literal_as}
 use Rattle.write_partition.specs.Judged.{StringMeans}
 
 pub record TextPre (stored : ℕ) : Type 0 where
@@ -24,7 +23,7 @@ text_tests role x stored =
     ++ ((text_allowed role x, character) ∷ (name_allowed role x, name) ∷ [])
 
 -- It is laid each time and joins no table, so the rows stay.
-pub record TextPost (role : Role) (x : Text) (stored : ℕ) (r : StringJudged) : Type 0 where
+pub record TextPost (role : Role) (x : Text) (stored : ℕ) (r : StringAnswer) : Type 0 where
   pub number_is : r.number ≡ fault_number (first_failed (text_tests role x stored))
   pub refused : 0 < r.number → r ≡ refused_as r.number stored
   pub judged : r.number ≡ 0 → r ≡ literal_as 0 stored (length x) false 0

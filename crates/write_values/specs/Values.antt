@@ -1,5 +1,5 @@
 -- What judging and writing a value asks and leaves (EXI 7.3.3).
-use Rattle.std.specs.Prelude.{ℕ, ◌+◌, ◌-◌, ◌*◌, ◌≤◌, ◌<◌, ◌≡◌, Bool, true, false, cond, List, [], ◌∷◌, ◌++◌, length, T, eqb, ltb}
+use Rattle.std.specs.Prelude.{ℕ, ◌+◌, ◌-◌, ◌*◌, ◌≤◌, ◌<◌, ◌≡◌, Bool, true, false, cond, List, [], ◌∷◌, ◌++◌, length, T, eqb, ltb, Result, Ok, Err}
 use Rattle.spec_fields.specs.Bits.{Bits}
 use Rattle.spec_fields.specs.Field.{Alignment}
 use Rattle.spec_fields.specs.Refusal.{limit}
@@ -11,7 +11,10 @@ use Rattle.spec_exi.specs.Writer.{first_failed}
 use Rattle.mem_layout.specs.Layout.{value_counts, name_rows, work_cells}
 use Rattle.mem_index.specs.Index.{count_in}
 use Rattle.mem_entries.specs.Texts.{hash_of}
+use Rattle.refusal.specs.declared.Refusal.{Refusal}
+use Rattle.refusal.specs.Numbers.{number_in}
 use Rattle.mem_values.specs.declared.Form.{Form}
+use Rattle.mem_values.specs.declared.Form.TheVariants.{Local, Global, Absent}
 use Rattle.mem_values.specs.Window.{newest_in, joins_by}
 use Rattle.mem_values.specs.Forms.{ValuesStand, Formed}
 use Rattle.mem_rows.specs.Rows.{Rows, name_at}
@@ -35,7 +38,28 @@ all = 1
 abbrev pub neither : ℕ
 neither = 2
 
-abbrev pub refused_as : ℕ → ℕ → ValueJudged
+-- The partition that has a value, and its compact identifier there.
+abbrev pub partition_in : Form → ℕ
+partition_in (Local i) = own
+partition_in (Global i) = all
+partition_in Absent = neither
+
+abbrev pub id_in : Form → ℕ
+id_in (Local i) = i
+id_in (Global i) = i
+id_in Absent = 0
+
+-- Of a value that is judged: the number of a refusal or 0; the partition that has it and its compact
+-- identifier; the code points in the store after it; and whether it is to join, with its hash.
+pub record ValueAnswer : Type 0 where
+  pub number : ℕ
+  pub partition : ℕ
+  pub id : ℕ
+  pub stored : ℕ
+  pub joins : Bool
+  pub hash : ℕ
+
+abbrev pub refused_as : ℕ → ℕ → ValueAnswer
 refused_as number stored =
     record {
       number = number;
@@ -46,11 +70,11 @@ refused_as number stored =
       hash = 0;
     }
 
-abbrev pub found_as : ℕ → ℕ → ℕ → ValueJudged
+abbrev pub found_as : ℕ → ℕ → ℕ → ValueAnswer
 found_as partition id stored =
     record { number = 0; partition = partition; id = id; stored = stored; joins = false; hash = 0 }
 
-abbrev pub literal_as : ℕ → ℕ → Bool → ℕ → ValueJudged
+abbrev pub literal_as : ℕ → ℕ → Bool → ℕ → ValueAnswer
 literal_as stored n joins hash =
     record {
       number = 0;
@@ -60,6 +84,22 @@ literal_as stored n joins hash =
       joins = joins;
       hash = hash;
     }
+
+abbrev pub told_value : ValueJudged → ValueAnswer
+told_value v =
+    record {
+      number = 0;
+      partition = partition_in v.form;
+      id = id_in v.form;
+      stored = v.stored;
+      joins = v.joins;
+      hash = v.hash;
+    }
+
+-- A refusal leaves the store.
+abbrev pub value_answer : ℕ → Result ValueJudged Refusal → ValueAnswer
+value_answer stored (Ok v) = told_value v
+value_answer stored (Err k) = refused_as (number_in k) stored
 
 -- ---- a literal that joins
 
@@ -72,7 +112,7 @@ unfoldable pub has_row : ℕ → ℕ → ℕ → ℕ → Bool
 has_row size values longest capacity =
     cond (joins_by size longest capacity) (cond (eqb capacity 0) (ltb values max_values) true) true
 
-pub record NewValuePost (x : Text) (values longest capacity stored h : ℕ) (r : ValueJudged)
+pub record NewValuePost (x : Text) (values longest capacity stored h : ℕ) (r : ValueAnswer)
     : Type 0 where
   pub number_is : r.number
       ≡ fault_number (first_failed
@@ -112,7 +152,7 @@ value_bits work partition id owner values capacity x a =
     (string_bits 2 x))
 
 -- On every memory.
-pub record ValueBounds (x : Text) (values stored : ℕ) (r : ValueJudged) : Type 0 where
+pub record ValueBounds (x : Text) (values stored : ℕ) (r : ValueAnswer) : Type 0 where
   pub which : r.partition ≤ neither
   pub literal : r.partition ≡ neither → Written x
   pub new : r.joins ≡ true
@@ -131,7 +171,7 @@ pub record ValuesMeant (work text : List ℕ) (values longest capacity : ℕ) (w
     pub capacity-is : bound_of capacity ≡ w.capacity
 
 pub record ValuePost (text : List ℕ) (x : Text) (owner values longest capacity stored : ℕ)
-    (work : List ℕ) (r : ValueJudged) : Type 0 where
+    (work : List ℕ) (r : ValueAnswer) : Type 0 where
   pub refused : 0 < r.number → r ≡ refused_as r.number stored
   pub bounds : r.number ≡ 0 → ValueBounds x values stored r
   -- w may be ahead of memory in its URIs and names

@@ -3,103 +3,53 @@
 // ask and leave is in specs/Values.antt and specs/Texts.antt.
 #![tactic(auto)]
 
-ghost use Rattle.std.specs.Prelude.{◌≡◌, ◌+◌, ◌≤◌};
-ghost use Rattle.spec_exi.specs.Sizes.{max_store};
-ghost use Rattle.name_rules.specs.Texts.{role_of};
+ghost use Rattle.std.specs.Prelude.{◌+◌};
+ghost use Rattle.name_rules.specs.Texts.{role_in};
 ghost use Rattle.read_field.specs.View.{alignment_of};
 ghost use Rattle.write_field.specs.Written.{Put};
+ghost use Rattle.write_partition.specs.Judged.{string_answer};
 ghost use Rattle.write_values.specs.Texts.{TextPre, TextPost};
-ghost use Rattle.write_values.specs.Values.{refused_as, found_as, literal_as};
+ghost use Rattle.write_values.specs.Values.{partition_in, id_in, value_answer};
 ghost use Rattle.write_values.specs.Values.{NewValuePre, NewValuePost, FormPre, FormPost};
 ghost use Rattle.write_values.specs.Values.{ValuePre, ValuePost};
 ghost use Rattle.write_values.specs.Values.{value_bits, PutValuePre};
 
 use mem_values::Form;
-use refusal::{CHARACTER, LIMIT};
+use name_rules::Role;
+use refusal::Refusal;
 use sizes::{MAX_STORE, MAX_STRING, MAX_VALUES};
 use write_partition::StringJudged;
 
 // ---- strings by no table
 
-// Judges a target, a comment or an instruction's text, by the number of its role.
-pub fn judge_text(role: u32, x: &[u32], stored: usize) -> StringJudged
+// Judges a target, a comment or an instruction's text, by its role.
+pub fn judge_text(role: Role, x: &[u32], stored: usize) -> Result<StringJudged, Refusal>
     requires { TextPre stored }
-    ensures { TextPost (role_of role) x.now stored result }
+    ensures { TextPost (role_in role) x.now stored (string_answer stored result) }
 {
     if MAX_STRING < x.len() {
-        return write_partition::refused(LIMIT, stored);
+        return Err(Refusal::Limit);
     }
-    let fault = write_partition::literal_fault(x, stored);
-    if fault != 0 {
-        return write_partition::refused(fault, stored);
-    }
-    let number = name_rules::text_fault(role, x);
-    if number != 0 {
-        return write_partition::refused(number, stored);
-    }
-    write_partition::literal(0, stored, x.len(), false, 0)
+    write_partition::literal_fault(x, stored)?;
+    name_rules::judge_text(role, x)?;
+    Ok(StringJudged {
+        row: 0,
+        stored: stored + x.len(),
+        joins: false,
+        hash: 0,
+    })
 }
 
 // ---- values
 
-// The partition that has a value: its name's own values, or all of them.
-pub const OWN: u32 = 0;
-
-pub const ALL: u32 = 1;
-
-// None has it.
-pub const NEITHER: u32 = 2;
-
-// The number of a refusal or 0; the partition that has the value, and its compact identifier there;
-// the code points in the store after it; and whether it is to join, with the hash of its text.
+// The partition that has a value, with its compact identifier there; the code points in the store
+// after it; and whether it is to join, with the hash of its text.
 #[derive(Clone, Copy)]
 pub struct ValueJudged {
-    pub number: u32,
-    pub partition: u32,
-    pub id: u32,
+    pub form: Form,
     pub stored: usize,
     pub joins: bool,
     pub hash: u32,
-}
-
-fn refused(number: u32, stored: usize) -> ValueJudged
-    ensures { result ≡ refused_as number stored }
-{
-    ValueJudged {
-        number,
-        partition: NEITHER,
-        id: 0,
-        stored,
-        joins: false,
-        hash: 0,
-    }
-}
-
-fn found(partition: u32, id: u32, stored: usize) -> ValueJudged
-    ensures { result ≡ found_as partition id stored }
-{
-    ValueJudged {
-        number: 0,
-        partition,
-        id,
-        stored,
-        joins: false,
-        hash: 0,
-    }
-}
-
-fn literal(stored: usize, n: usize, joins: bool, hash: u32) -> ValueJudged
-    requires { stored + n ≤ max_store }
-    ensures { result ≡ literal_as stored n joins hash }
-{
-    ValueJudged {
-        number: 0,
-        partition: NEITHER,
-        id: 0,
-        stored: stored + n,
-        joins,
-        hash,
-    }
 }
 
 // A value that no partition has; whether it has only Chars is known. One that the settings keep out
@@ -112,23 +62,34 @@ fn judge_new_value(
     capacity: u32,
     stored: usize,
     h: u32,
-) -> ValueJudged
+) -> Result<ValueJudged, Refusal>
     requires { NewValuePre x.now chars stored }
-    ensures { NewValuePost x.now values longest capacity stored h result }
+    ensures { NewValuePost x.now values longest capacity stored h (value_answer stored result) }
 {
     if MAX_STORE - stored < x.len() {
-        return refused(LIMIT, stored);
+        return Err(Refusal::Limit);
     }
     if !chars {
-        return refused(CHARACTER, stored);
+        return Err(Refusal::Character);
     }
+    let stored = stored + x.len();
     if !mem_values::joins(x.len(), longest, capacity) {
-        return literal(stored, x.len(), false, 0);
+        return Ok(ValueJudged {
+            form: Form::Absent,
+            stored,
+            joins: false,
+            hash: 0,
+        });
     }
     if (capacity == 0) & (MAX_VALUES <= values as usize) {
-        return refused(LIMIT, stored);
+        return Err(Refusal::Limit);
     }
-    literal(stored, x.len(), true, h)
+    Ok(ValueJudged {
+        form: Form::Absent,
+        stored,
+        joins: true,
+        hash: h,
+    })
 }
 
 // The form of a value, by one search among those that are not replaced.
@@ -160,21 +121,25 @@ pub fn judge_value(
     capacity: u32,
     stored: usize,
     work: &[u32],
-) -> ValueJudged
+) -> Result<ValueJudged, Refusal>
     requires { ValuePre work.now owner values capacity stored }
     ensures { ValuePost text.now x.now owner values longest capacity stored
-        work.now result }
+        work.now (value_answer stored result) }
 {
     if MAX_STRING < x.len() {
-        return refused(LIMIT, stored);
+        return Err(Refusal::Limit);
     }
     let w = mem_entries::weigh(x);
-    let h = w.hash;
-    match form_among(text, x, h, owner, values, capacity, work) {
-        Form::Local(i) => found(OWN, i, stored),
-        Form::Global(i) => found(ALL, i, stored),
-        Form::Absent => judge_new_value(x, w.chars, values, longest, capacity, stored, h),
+    let form = form_among(text, x, w.hash, owner, values, capacity, work);
+    if let Form::Absent = form {
+        return judge_new_value(x, w.chars, values, longest, capacity, stored, w.hash);
     }
+    Ok(ValueJudged {
+        form,
+        stored,
+        joins: false,
+        hash: 0,
+    })
 }
 
 // Writes a value: a hit among the name's own, those replaced counted, or among all that are not
@@ -183,26 +148,27 @@ pub fn put_value(
     aligned: bool,
     stream: &mut [u8],
     at: usize,
-    partition: u32,
-    id: u32,
+    form: Form,
     owner: u32,
     values: u32,
     capacity: u32,
     x: &[u32],
     work: &[u32],
 ) -> usize
-    requires { PutValuePre stream.old at partition owner values x.now work.now }
+    requires { PutValuePre stream.old at (partition_in form) owner values x.now work.now }
     ensures { Put stream.old at
-        (value_bits work.now partition id owner values capacity x.now
+        (value_bits work.now (partition_in form) (id_in form) owner values capacity x.now
         (alignment_of aligned)) stream.new result }
 {
-    if partition == OWN {
-        let among = mem_values::count_local(work, owner);
-        return write_partition::put_hit(aligned, stream, at, 0, among, id);
+    match form {
+        Form::Local(id) => {
+            let among = mem_values::count_local(work, owner);
+            write_partition::put_hit(aligned, stream, at, 0, among, id)
+        }
+        Form::Global(id) => {
+            let among = values - mem_values::replaced(values, capacity);
+            write_partition::put_hit(aligned, stream, at, 1, among, id)
+        }
+        Form::Absent => write_string::put_string(stream, at, 2, x),
     }
-    if partition == ALL {
-        let among = values - mem_values::replaced(values, capacity);
-        return write_partition::put_hit(aligned, stream, at, 1, among, id);
-    }
-    write_string::put_string(stream, at, 2, x)
 }

@@ -1,10 +1,7 @@
--- The digits before i mean v.
-use Rattle.std.proofs.Common.{◌-◌}
-use Rattle.exi_words.proofs.Numbers.{Unread}
+-- The digits before the index mean n.
+use Rattle.std.proofs.Common.{◌≡◌, drop}
+use Rattle.exi_words.specs.Words.{number_from}
 use Rattle.exi_words.proofs.number_of.Given as goal
 
-abbrev pub invariant-loop-i : goal.invariant-loop-i
-invariant-loop-i l = Unread l.word l.v l.i
-
-abbrev pub decreases-loop-i : goal.decreases-loop-i
-decreases-loop-i l = 9 - l.i
+abbrev pub invariant-loop-c : goal.invariant-loop-c
+invariant-loop-c l = number_from l.word 0 ≡ number_from (drop l.c-index l.word) l.n

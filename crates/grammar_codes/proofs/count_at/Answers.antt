@@ -2,7 +2,6 @@ use mathlib.Core.Path.{◌∙◌}
 use Rattle.grammar_codes.proofs.Table.{tag-count, element-count, fragment-count}
 use Rattle.grammar_codes.proofs.Table.{no-count}
 use Rattle.grammar_codes.proofs.Table.{count-is, document-count, content-count, end-count}
-use borrow.Author.Rules.{rules}
 use Rattle.grammar_codes.proofs.count_at.Goals as goal
 
 pub returns-in-0 : goal.returns-in-0

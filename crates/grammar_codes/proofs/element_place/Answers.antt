@@ -1,22 +1,20 @@
 use Rattle.grammar_codes.proofs.Places.{element-other}
 use Rattle.grammar_codes.specs.Table.{tables, table_of, number_in, in_level, place_in, place_as}
 use Rattle.spec_exi.specs.Grammar.{kind_number}
-use mathlib.Core.Path.{refl}
-use borrow.Author.Rules.{rules}
 use Rattle.grammar_codes.proofs.element_place.Goals as goal
 
-pub returns-in-4 : goal.returns-in-4
+pub returns-in-4-clause-is : goal.returns-in-4-clause-is
 unfolding table_of tables place_in number_in in_level place_as kind_number
-returns-in-4 c = rw c.in-4.is
+returns-in-4-clause-is c = rw c.in-4.is
 
-pub returns-in-2 : goal.returns-in-2
+pub returns-in-2-clause-is : goal.returns-in-2-clause-is
 unfolding table_of tables place_in number_in in_level place_as kind_number
-returns-in-2 c = rw c.in-2.is
+returns-in-2-clause-is c = rw c.in-2.is
 
-pub returns-in-5 : goal.returns-in-5
+pub returns-in-5-clause-is : goal.returns-in-5-clause-is
 unfolding table_of tables place_in number_in in_level place_as kind_number
-returns-in-5 c = rw c.in-5.is
+returns-in-5-clause-is c = rw c.in-5.is
 
-pub returns-in_default : goal.returns-in_default
-returns-in_default c = let n = c.in_default.in_default-own.rest in
-    element-other _ _ _ n.0.0.1 n.0.1 n.1 c.kept_place.ensures
+pub returns-in_default-clause-is : goal.returns-in_default-clause-is
+returns-in_default-clause-is c = let n = c.in_default.in_default-own.rest in
+    element-other _ _ _ n.0.0.1 n.0.1 n.1 c.kept_place.ensures.is

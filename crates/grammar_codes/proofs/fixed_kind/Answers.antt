@@ -1,7 +1,6 @@
 use Rattle.grammar_codes.proofs.Fixed.{fixed-none, content-kind, end-kind, tag-kind}
 use Rattle.grammar_codes.proofs.Fixed.{element-kind, fragment-kind}
 use mathlib.Core.Path.{◌∙◌}
-use borrow.Author.Rules.{rules}
 use Rattle.grammar_codes.proofs.fixed_kind.Goals as goal
 
 pub returns-in-1 : goal.returns-in-1

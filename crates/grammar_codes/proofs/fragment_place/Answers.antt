@@ -1,18 +1,17 @@
 use Rattle.grammar_codes.proofs.Places.{fragment-other}
 use Rattle.grammar_codes.specs.Table.{tables, table_of, number_in, in_level, place_in, place_as}
 use Rattle.spec_exi.specs.Grammar.{kind_number}
-use borrow.Author.Rules.{rules}
 use Rattle.grammar_codes.proofs.fragment_place.Goals as goal
 
-pub returns-in-2 : goal.returns-in-2
+pub returns-in-2-clause-is : goal.returns-in-2-clause-is
 unfolding table_of tables place_in number_in in_level place_as kind_number
-returns-in-2 c = rw c.in-2.is
+returns-in-2-clause-is c = rw c.in-2.is
 
-pub returns-in-1 : goal.returns-in-1
+pub returns-in-1-clause-is : goal.returns-in-1-clause-is
 unfolding table_of tables place_in number_in in_level place_as kind_number
-returns-in-1 c = rw c.in-1.is
+returns-in-1-clause-is c = rw c.in-1.is
 
-pub returns-in_default : goal.returns-in_default
-returns-in_default c =
+pub returns-in_default-clause-is : goal.returns-in_default-clause-is
+returns-in_default-clause-is c =
     let n = c.in_default.in_default-own.rest in
-    fragment-other _ _ _ n.0.1 n.1 c.kept_place.ensures
+    fragment-other _ _ _ n.0.1 n.1 c.kept_place.ensures.is

@@ -1,7 +1,6 @@
 use Rattle.grammar_codes.proofs.Table.{kept-both, kept-comment, kept-instruction}
 use Rattle.spec_exi.specs.Grammar.{kind_number}
 use Rattle.grammar_codes.specs.Table.{kept_kinds}
-use borrow.Author.Rules.{rules}
 use Rattle.grammar_codes.proofs.kept_at.Goals as goal
 
 pub returns-then-instructions : goal.returns-then-instructions

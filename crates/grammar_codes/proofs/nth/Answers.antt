@@ -1,5 +1,4 @@
 use Rattle.grammar_codes.proofs.Table.{nth-none}
-use borrow.Author.Rules.{rules}
 use Rattle.grammar_codes.proofs.nth.Goals as goal
 
 pub returns-in_default : goal.returns-in_default

@@ -1,6 +1,5 @@
 use Rattle.grammar_codes.proofs.Table.{values-last, values-more, values-content, values-tag}
 use native.Mathlib.Omega.{arith}
-use borrow.Author.Rules.{rules}
 use Rattle.grammar_codes.proofs.values_at.Goals as goal
 
 pub returns-then-mode-level : goal.returns-then-mode-level

@@ -1,5 +1,4 @@
 use Rattle.mem_initial.proofs.Steps.{counts-cleared}
-use borrow.Author.Rules.{rules}
 use Rattle.mem_initial.proofs.clear_counts.Goals as goal
 
 -- `clear_counts` meets its contract.

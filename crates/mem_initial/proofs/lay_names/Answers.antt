@@ -1,5 +1,4 @@
 use Rattle.mem_initial.proofs.Steps.{names-laid}
-use borrow.Author.Rules.{rules}
 use Rattle.mem_initial.proofs.lay_names.Goals as goal
 
 -- `lay_names` meets its contract.

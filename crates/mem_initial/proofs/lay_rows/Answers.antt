@@ -1,5 +1,4 @@
 use Rattle.mem_initial.proofs.Steps.{rows-laid}
-use borrow.Author.Rules.{rules}
 use Rattle.mem_initial.proofs.lay_rows.Goals as goal
 
 -- `lay_rows` meets its contract.

@@ -1,5 +1,4 @@
 use Rattle.mem_initial.proofs.Steps.{uris-laid}
-use borrow.Author.Rules.{rules}
 use Rattle.mem_initial.proofs.lay_uris.Goals as goal
 
 -- `lay_uris` meets its contract.

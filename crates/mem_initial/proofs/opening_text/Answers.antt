@@ -1,5 +1,4 @@
 use mathlib.Core.Path.{◌∙◌}
-use borrow.Author.Rules.{rules}
 use Rattle.mem_initial.proofs.Turn.{text-alone}
 use Rattle.mem_initial.proofs.opening_text.Goals as goal
 

@@ -1,13 +1,13 @@
+use mathlib.Core.Path.{refl}
 use Rattle.mem_learned.proofs.Joined.{add-steps}
 use Rattle.mem_learned.proofs.Rows.{name-seeking, site-joining}
 use native.Mathlib.Omega.{arith}
-use borrow.Author.Rules.{rules}
 use Rattle.mem_learned.proofs.add.Goals as goal
 
 -- `add` meets its contract.
 pub enter-requires : goal.enter-requires
 enter-requires c =
-    name-seeking c.by_name.ensures
+    name-seeking refl
     (omega (
       arith,
       c.requires.room,
@@ -20,7 +20,7 @@ enter-requires c =
 
 pub join-requires : goal.join-requires
 join-requires c =
-    site-joining c.by_site.ensures
+    site-joining refl
     (omega (
       arith,
       c.requires.room,
@@ -36,8 +36,8 @@ join-requires c =
 pub returns : goal.returns
 returns c =
     add-steps _ _ _ _ _ _ _
-    c.by_name.ensures
-    c.by_site.ensures
+    refl
+    refl
     c.put_rows.ensures
     c.enter.ensures
     c.join.ensures

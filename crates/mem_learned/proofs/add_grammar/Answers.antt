@@ -1,6 +1,5 @@
 use Rattle.mem_learned.specs.Grammars.{with_grammar_of}
 use mathlib.Core.Path.{refl}
-use borrow.Author.Rules.{rules}
 use Rattle.mem_learned.proofs.add_grammar.Goals as goal
 
 -- `add_grammar` meets its contract.

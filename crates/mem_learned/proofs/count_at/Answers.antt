@@ -1,5 +1,4 @@
 use Rattle.mem_learned.proofs.Rows.{counted-at}
-use borrow.Author.Rules.{rules}
 use Rattle.mem_learned.proofs.count_at.Goals as goal
 
 -- `count_at` meets its contract.

@@ -1,15 +1,15 @@
+use mathlib.Core.Path.{refl}
 use Rattle.mem_learned.proofs.Rows.{name-seeking, found-learned}
-use borrow.Author.Rules.{rules}
 use Rattle.mem_learned.proofs.find.Goals as goal
 
 -- `find` meets its contract.
 pub find-requires : goal.find-requires
 find-requires c =
-    name-seeking c.by_name.ensures c.requires.room c.requires.low
+    name-seeking refl c.requires.room c.requires.low
     c.requires.kind_low c.requires.name_low
     c.requires.few
 
 pub returns : goal.returns
 returns c =
-    found-learned c.by_name.ensures c.requires.kind_low
+    found-learned refl c.requires.kind_low
     c.requires.name_low c.find.ensures

@@ -1,6 +1,5 @@
 use Rattle.mem_learned.specs.Grammars.{flag_in}
 use mathlib.Core.Path.{refl}
-use borrow.Author.Rules.{rules}
 use Rattle.mem_learned.proofs.has_grammar.Goals as goal
 
 -- `has_grammar` meets its contract.

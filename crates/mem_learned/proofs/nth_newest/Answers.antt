@@ -1,5 +1,5 @@
+use mathlib.Core.Path.{refl}
 use Rattle.mem_learned.proofs.Rows.{site-asking, nth-out, nth_in}
-use borrow.Author.Rules.{rules}
 use Rattle.mem_learned.proofs.nth_newest.Goals as goal
 
 -- `nth_newest` meets its contract.
@@ -8,8 +8,8 @@ returns-then-v-count c = nth-out c.if-v-count.true
 
 pub nth-requires : goal.nth-requires
 nth-requires c =
-    site-asking c.by_site.ensures c.requires.room
+    site-asking refl c.requires.room
     c.requires.low c.requires.few
 
 pub returns : goal.returns
-returns c = nth_in c.by_site.ensures c.if-v-count.false c.nth.ensures
+returns c = nth_in refl c.if-v-count.false c.nth.ensures

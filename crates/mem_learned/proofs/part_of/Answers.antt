@@ -1,5 +1,4 @@
 use Rattle.mem_learned.proofs.Rows.{part_in_lem, part_out}
-use borrow.Author.Rules.{rules}
 use Rattle.mem_learned.proofs.part_of.Goals as goal
 
 -- `part_of` meets its contract.

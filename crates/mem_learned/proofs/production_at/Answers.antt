@@ -1,5 +1,4 @@
 use Rattle.mem_learned.proofs.Rows.{production-made}
-use borrow.Author.Rules.{rules}
 use Rattle.mem_learned.proofs.production_at.Goals as goal
 
 -- `production_at` meets its contract.

@@ -2,7 +2,6 @@ use Rattle.mem_learned.specs.Learned.{with_rows}
 use native.Mathlib.Omega.{arith}
 use lib.ListN.{length-set}
 use mathlib.Core.Path.{refl}
-use borrow.Author.Rules.{rules}
 use Rattle.mem_learned.proofs.put_rows.Goals as goal
 
 -- `put_rows` meets its contract.

@@ -1,13 +1,13 @@
+use mathlib.Core.Path.{refl}
 use Rattle.mem_names.proofs.Joined.{add-steps}
 use Rattle.mem_names.proofs.Names.{uri-joining}
 use native.Mathlib.Omega.{arith}
-use borrow.Author.Rules.{rules}
 use Rattle.mem_names.proofs.add_name.Goals as goal
 
 -- `add_name` meets its contract.
 pub join-requires : goal.join-requires
 join-requires c =
-    uri-joining c.by_uri.ensures
+    uri-joining refl
     (omega (
       arith,
       c.requires.room,
@@ -19,7 +19,7 @@ join-requires c =
 pub returns : goal.returns
 returns c =
     add-steps _ _ _ _ _ _
-    c.by_uri.ensures
+    refl
     c.spot.ensures.is
     c.put_name.ensures
     c.join.ensures

@@ -1,5 +1,4 @@
 use Rattle.mem_names.proofs.Uris.{uri-steps}
-use borrow.Author.Rules.{rules}
 use Rattle.mem_names.proofs.add_uri.Goals as goal
 
 -- `add_uri` meets its contract.

@@ -1,5 +1,4 @@
 use Rattle.mem_names.proofs.Names.{counted-names}
-use borrow.Author.Rules.{rules}
 use Rattle.mem_names.proofs.count_names.Goals as goal
 
 -- `count_names` meets its contract.

@@ -1,8 +1,5 @@
-use Rattle.mem_names.proofs.Uris.{Looking, look-start, look-here, look-on, look-end}
-use Rattle.mem_names.specs.Uris.{uri_store}
+use Rattle.mem_names.proofs.Uris.{look-start, look-here, look-on, look-end}
 use mathlib.Core.Path.{sym, ◌∙◌}
-use Prim.Native.Nat.{◌-◌}
-use borrow.Author.Rules.{rules}
 use Rattle.mem_names.proofs.find_uri.Goals as goal
 
 -- `find_uri` meets its contract.

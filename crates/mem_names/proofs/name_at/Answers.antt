@@ -1,5 +1,4 @@
 use Rattle.mem_names.proofs.Names.{name-at-made}
-use borrow.Author.Rules.{rules}
 use Rattle.mem_names.proofs.name_at.Goals as goal
 
 -- `name_at` meets its contract.

@@ -1,5 +1,4 @@
 use Rattle.mem_names.proofs.Names.{other-uri, opening-has, store-has}
-use borrow.Author.Rules.{rules}
 use Rattle.mem_names.proofs.name_has.Goals as goal
 
 -- `name_has` meets its contract.

@@ -1,5 +1,4 @@
 use Rattle.mem_names.proofs.Joined.{put-steps}
-use borrow.Author.Rules.{rules}
 use Rattle.mem_names.proofs.put_name.Goals as goal
 
 -- `put_name` meets its contract.

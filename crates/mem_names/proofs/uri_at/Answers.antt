@@ -1,5 +1,4 @@
 use Rattle.mem_names.proofs.Uris.{uri-at-made}
-use borrow.Author.Rules.{rules}
 use Rattle.mem_names.proofs.uri_at.Goals as goal
 
 -- `uri_at` meets its contract.

@@ -1,5 +1,4 @@
 use Rattle.mem_names.proofs.Uris.{opening-has, store-has}
-use borrow.Author.Rules.{rules}
 use Rattle.mem_names.proofs.uri_has.Goals as goal
 
 -- `uri_has` meets its contract.

@@ -1,8 +1,4 @@
 use Rattle.mem_state.proofs.Commit.{enter-not, enter-joins}
-use borrow.Author.Rules.{rules}
-use Rattle.mem_state.proofs.enter.Reads as reads
-use Rattle.mem_state.proofs.enter.Lts as lts
-use Rattle.mem_learned.proofs.add_grammar.Reads as add-grammar-reads
 use Rattle.mem_state.proofs.enter.Goals as goal
 
 -- src/lib.rt:120:9

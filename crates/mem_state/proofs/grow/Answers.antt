@@ -1,5 +1,4 @@
 use Rattle.mem_state.proofs.Commit.{grow-steps, learn-asks, mark-asks}
-use borrow.Author.Rules.{rules}
 use Rattle.mem_state.proofs.grow.Goals as goal
 
 -- src/lib.rt:153:5

@@ -1,8 +1,4 @@
 use Rattle.mem_state.proofs.Commit.{on, name-not, name-joins}
-use borrow.Author.Rules.{rules}
-use Rattle.mem_state.proofs.join_name.Reads as reads
-use Rattle.mem_state.proofs.join_name.Lts as lts
-use Rattle.mem_names.proofs.add_name.Reads as add-name-reads
 use Rattle.mem_state.proofs.join_name.Goals as goal
 
 -- src/lib.rt:90:9

@@ -1,10 +1,4 @@
 use Rattle.mem_state.proofs.Commit.{join-steps, names-asks, values-asks}
-use borrow.Author.Rules.{rules}
-use Rattle.mem_state.proofs.join_strings.Reads as reads
-use Rattle.mem_state.proofs.join_strings.Lts as lts
-use Rattle.mem_state.proofs.join_name.Reads as join-name-reads
-use Rattle.mem_state.proofs.join_uri.Reads as join-uri-reads
-use Rattle.mem_state.proofs.join_value.Reads as join-value-reads
 use Rattle.mem_state.proofs.join_strings.Goals as goal
 
 -- src/lib.rt:110:5

@@ -1,8 +1,4 @@
 use Rattle.mem_state.proofs.Commit.{on, uri-not, uri-joins}
-use borrow.Author.Rules.{rules}
-use Rattle.mem_state.proofs.join_uri.Reads as reads
-use Rattle.mem_state.proofs.join_uri.Lts as lts
-use Rattle.mem_names.proofs.add_uri.Reads as add-uri-reads
 use Rattle.mem_state.proofs.join_uri.Goals as goal
 
 -- src/lib.rt:80:9

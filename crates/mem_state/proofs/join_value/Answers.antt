@@ -1,9 +1,5 @@
 use Rattle.mem_state.proofs.Commit.{value_not, value-joins}
 use Rattle.mem_state.proofs.Commit.{value-adds}
-use borrow.Author.Rules.{rules}
-use Rattle.mem_state.proofs.join_value.Reads as reads
-use Rattle.mem_state.proofs.join_value.Lts as lts
-use Rattle.mem_values.proofs.add.Reads as add_reads
 use Rattle.mem_state.proofs.join_value.Goals as goal
 
 -- src/lib.rt:100:9

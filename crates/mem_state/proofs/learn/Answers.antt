@@ -1,8 +1,4 @@
 use Rattle.mem_state.proofs.Commit.{on, learn-not, learn-joins}
-use borrow.Author.Rules.{rules}
-use Rattle.mem_state.proofs.learn.Reads as reads
-use Rattle.mem_state.proofs.learn.Lts as lts
-use Rattle.mem_learned.proofs.add.Reads as add_reads
 use Rattle.mem_state.proofs.learn.Goals as goal
 
 -- src/lib.rt:130:9

@@ -1,6 +1,5 @@
 use Rattle.mem_state.proofs.Commit.{mark-not, mark-joins}
 use Rattle.spec_exi.specs.Grammar.{kind_number}
-use borrow.Author.Rules.{rules}
 use Rattle.mem_state.proofs.mark.Goals as goal
 
 -- src/lib.rt:143:9

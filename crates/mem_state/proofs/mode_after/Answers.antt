@@ -1,5 +1,4 @@
 use mathlib.Core.Path.{refl}
-use borrow.Author.Rules.{rules}
 use borrow.Author.Tests.{ne_eqb}
 use Rattle.spec_exi.specs.Grammar.{kind_number}
 use Rattle.mem_rows.specs.Rows.{mode_after}

@@ -3,7 +3,6 @@ use native.Mathlib.Omega.{arith}
 use borrow.Author.Tests.{ne_eqb}
 use Rattle.mem_state.specs.Commit.{turned, top_after, depth_after, tag_number}
 use Rattle.spec_exi.specs.Grammar.{kind_number}
-use borrow.Author.Rules.{rules}
 use Rattle.mem_state.proofs.turn.Goals as goal
 
 -- src/lib.rt:217:5

@@ -1,13 +1,13 @@
+use mathlib.Core.Path.{refl}
 use Rattle.mem_values.proofs.Joined.{add-steps}
 use Rattle.mem_values.proofs.Local.{owner-joining}
 use native.Mathlib.Omega.{arith}
-use borrow.Author.Rules.{rules}
 use Rattle.mem_values.proofs.add.Goals as goal
 
 -- `add` meets its contract.
 pub join-requires : goal.join-requires
 join-requires c =
-    owner-joining c.by_owner.ensures
+    owner-joining refl
     (omega (
       arith,
       c.requires.room,
@@ -19,6 +19,6 @@ join-requires c =
 pub returns : goal.returns
 returns c =
     add-steps _ _ _ _ _ _
-    c.by_owner.ensures
+    refl
     c.put_text.ensures c.join.ensures
     c.link.ensures

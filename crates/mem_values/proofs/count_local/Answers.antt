@@ -1,5 +1,4 @@
 use Rattle.mem_values.proofs.Local.{counted-local}
-use borrow.Author.Rules.{rules}
 use Rattle.mem_values.proofs.count_local.Goals as goal
 
 -- `count_local` meets its contract.

@@ -1,5 +1,4 @@
 use Rattle.mem_values.proofs.Formed.{number-old, number-new}
-use borrow.Author.Rules.{rules}
 use Rattle.mem_values.proofs.global_number.Goals as goal
 
 -- `global_number` meets its contract.

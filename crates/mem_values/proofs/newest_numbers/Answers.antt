@@ -1,4 +1,3 @@
-use borrow.Author.Rules.{rules}
 use Rattle.mem_values.proofs.Bounds.{newest-all, newest-none, newest-ring}
 use Rattle.mem_values.proofs.newest_numbers.Goals as goal
 

@@ -1,5 +1,4 @@
 use Rattle.mem_values.proofs.Formed.{nth-out, nth-new, nth-old}
-use borrow.Author.Rules.{rules}
 use Rattle.mem_values.proofs.nth_global.Goals as goal
 
 -- `nth_global` meets its contract.

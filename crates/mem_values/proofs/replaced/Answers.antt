@@ -1,4 +1,3 @@
-use borrow.Author.Rules.{rules}
 use Rattle.mem_values.proofs.Bounds.{replaced-none, replaced-few-yet, replaced-some}
 use Rattle.mem_values.proofs.replaced.Goals as goal
 

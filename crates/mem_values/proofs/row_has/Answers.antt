@@ -1,5 +1,4 @@
 use Rattle.mem_values.specs.Values.{row_has_text}
-use borrow.Author.Rules.{rules}
 use Rattle.mem_values.proofs.row_has.Goals as goal
 
 -- `row_has` meets its contract.

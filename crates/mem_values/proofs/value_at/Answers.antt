@@ -1,6 +1,5 @@
 use Rattle.mem_values.proofs.Local.{value-is}
 use Rattle.mem_values.specs.Values.{value_in}
-use borrow.Author.Rules.{rules}
 use Rattle.mem_values.proofs.value_at.Goals as goal
 
 -- `value_at` meets its contract.

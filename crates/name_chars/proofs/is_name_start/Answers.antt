@@ -1,5 +1,4 @@
 use Rattle.name_chars.proofs.Table.{class-first}
-use borrow.Author.Rules.{rules}
 use Rattle.name_chars.proofs.is_name_start.Goals as goal
 
 -- `is_name_start` meets its contract: an entry of the table, or by the ranges above.

@@ -1,43 +1,18 @@
-use Rattle.name_chars.proofs.Rest.{other_length, not-x, not-m, the_last}
+use Rattle.name_chars.proofs.Rest.{other_length, xml-letters}
 use Rattle.text.specs.Names.{is_letter}
-use borrow.Author.Tests.{not-true, not-false}
-use mathlib.Core.Path.{sym, ◌∙◌}
-use borrow.Author.Rules.{rules}
+use native.Mathlib.Omega.{arith}
+use mathlib.Core.Path.{sym}
 use Rattle.name_chars.proofs.is_xml.Goals as goal
 
 -- `is_xml` meets its contract, letter by letter.
-pub returns-then-x-ne3 : goal.returns-then-x-ne3
-returns-then-x-ne3 c = other_length _ c.if-x-ne3.true
+pub returns-in_default : goal.returns-in_default
+returns-in_default c = other_length _ (λ e. omega (arith, e, c.in_default.len_below))
 
-pub returns-then-not-is_either : goal.returns-then-not-is_either
-unfolding is_letter
-returns-then-not-is_either c =
-    let args = c.args in
-    let if1 = c.if-x-ne3 in
-    let is-either = c.is_either in
-    not-x args.x.now if1.false (sym is-either.ensures ∙ c.if-not-is_either.true)
-
-pub returns-then-not-is_either-2 : goal.returns-then-not-is_either-2
-unfolding is_letter
-returns-then-not-is_either-2 c =
-    let args = c.args in
-    let if1 = c.if-x-ne3 in
-    let is-either = c.is_either in
-    let if2 = c.if-not-is_either in
-    let is-either2 = c.is_either-2 in
-    let x = sym is-either.ensures ∙ if2.false in
-    let m = sym is-either2.ensures ∙ c.if-not-is_either-2.true in
-    not-m args.x.now if1.false x m
+pub returns-in_default-2 : goal.returns-in_default-2
+returns-in_default-2 c = other_length _ (λ e. omega (arith, e, c.in_default.len_at_least))
 
 pub returns : goal.returns
 unfolding is_letter
 returns c =
-    let args = c.args in
-    let if1 = c.if-x-ne3 in
-    let is-either = c.is_either in
-    let if2 = c.if-not-is_either in
-    let is-either2 = c.is_either-2 in
-    let if3 = c.if-not-is_either-2 in
-    let x = sym is-either.ensures ∙ if2.false in
-    let m = sym is-either2.ensures ∙ if3.false in
-    c.is_either-3.ensures ∙ the_last args.x.now if1.false x m
+    rw (c.is_either.ensures, c.is_either-2.ensures, c.is_either-3.ensures)
+    (sym (xml-letters c.args.x.now (omega arith)))

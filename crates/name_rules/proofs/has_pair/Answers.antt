@@ -1,35 +1,30 @@
-use Rattle.name_rules.proofs.Laws.{pair_end, pair-stop, pair-on}
-use Rattle.text.specs.Names.{has_pair}
-use lib.ListN.{length, drop}
-use Prim.Native.Nat.{◌≤◌, ◌-◌}
-use mathlib.Core.Path.{◌≡◌, refl, sym, ◌∙◌}
-use borrow.Author.Rules.{rules}
+use native.Mathlib.Omega.{arith}
+use mathlib.Core.Path.{sym, ◌∙◌}
+use Rattle.name_rules.proofs.Laws.{pair-here, pair-none, not-first, not-second}
 use Rattle.name_rules.proofs.has_pair.Goals as goal
+use Rattle.name_rules.proofs.has_pair.Goals.{else-w-a-via-then-w-a+else-w-b, else-w-a-via-else-w-a}
 
--- `has_pair` meets its contract. The loop's invariant: what is left has the pair exactly where the whole text has it.
-pub loop-i-init : goal.loop-i-init
-loop-i-init c = (search rules, refl)
+-- `has_pair` meets its contract.
+pub returns-then-w-b : goal.returns-then-w-b
+returns-then-w-b c =
+    let step = c.in-Some.ensures.steps in
+    pair-here _ _ _ _ c.loop-w.invariant.0 step.1.0 step.1.1 c.if-w-a.true c.if-w-b.true
+    ∙ c.loop-w.invariant.1
 
-pub returns-then-is_pair : goal.returns-then-is_pair
-returns-then-is_pair c =
-    let args = c.args in
-    let loop = c.loop-i in
-    let loop-test = c.loop-i-test in
-    let is-pair = c.is_pair in
-    let found = sym is-pair.ensures ∙ c.if-is_pair.true in
-    pair-stop _ _ args.x.now _ loop-test.true found ∙ loop.invariant.1
-
-pub loop-i-preserved : goal.loop-i-preserved
-loop-i-preserved c =
-    let args = c.args in
-    let loop = c.loop-i in
-    let loop-test = c.loop-i-test in
-    let is-pair = c.is_pair in
-    let other = sym is-pair.ensures ∙ c.if-is_pair.false in
-    (search rules, pair-on _ _ args.x.now _ loop-test.true other ∙ loop.invariant.1)
+pub loop-w-preserved : goal.loop-w-preserved
+loop-w-preserved c =
+    let step = c.in-Some.ensures.steps in (
+      step.0 ∙ c.loop-w.invariant.0,
+      elim c.else-w-a.branch [
+        | else-w-a-via-then-w-a+else-w-b w ↦
+            not-second _ _ _ _ c.loop-w.invariant.0 step.1.0 step.1.1 step.1.2 w.if-w-b.false
+        | else-w-a-via-else-w-a w ↦
+            not-first _ _ _ _ c.loop-w.invariant.0 step.1.0 step.1.1 step.1.2 w.if-w-a.false
+      ]
+          ∙ c.loop-w.invariant.1,
+    )
 
 pub returns : goal.returns
 returns c =
-    let args = c.args in
-    let loop = c.loop-i in
-    pair_end _ _ args.x.now _ c.loop-i-test.false ∙ loop.invariant.1
+    sym (pair-none _ _ _ (omega (arith, c.loop-w.invariant.0, c.in-None.ensures.steps.1.0)))
+    ∙ c.loop-w.invariant.1

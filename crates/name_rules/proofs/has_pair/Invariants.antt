@@ -1,13 +1,10 @@
-use Rattle.name_rules.proofs.Laws.{pair_end, pair-stop, pair-on}
+use Rattle.std.specs.Slice.Iter.{windows_size, windows_rest}
+use mathlib.Core.Path.{◌≡◌}
 use Rattle.text.specs.Names.{has_pair}
-use lib.ListN.{length, drop}
-use Prim.Native.Nat.{◌≤◌, ◌-◌}
-use mathlib.Core.Path.{◌≡◌, refl, sym, ◌∙◌}
-use borrow.Author.Rules.{rules}
 use Rattle.name_rules.proofs.has_pair.Given as goal
 
-abbrev pub invariant-loop-i : goal.invariant-loop-i
-invariant-loop-i l = (l.i ≤ length l.x) × (has_pair l.a l.b (drop l.i l.x) ≡ has_pair l.a l.b l.x)
-
-abbrev pub decreases-loop-i : goal.decreases-loop-i
-decreases-loop-i l = length l.x - l.i
+-- What is left has the pair exactly where the whole text has it.
+abbrev pub invariant-loop-w : goal.invariant-loop-w
+invariant-loop-w l =
+    (windows_size l.w-iterator ≡ 2)
+    × (has_pair l.a l.b (windows_rest l.w-iterator) ≡ has_pair l.a l.b l.x)

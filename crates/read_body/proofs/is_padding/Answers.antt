@@ -1,6 +1,5 @@
-use mathlib.Core.Path.{refl, sym, ◌∙◌}
+use mathlib.Core.Path.{refl, sym}
 use native.Mathlib.Omega.{arith}
-use borrow.Author.Rules.{rules}
 use Rattle.spec_exi.specs.Sizes.{max_stream}
 use Rattle.read_body.proofs.Padding.{too_much, padding-refused, padding-value}
 use Rattle.read_body.proofs.is_padding.Goals as goal
@@ -22,10 +21,10 @@ bits-requires c =
       small = omega arith;
     }
 
-pub returns-in-Refused : goal.returns-in-Refused
-returns-in-Refused c =
-    padding-refused c.args.stream.now c.args.at c.if-left-gt7.false refl (sym c.bits.ensures ∙ c.in-Refused.is)
+pub returns-in-Ok : goal.returns-in-Ok
+returns-in-Ok c =
+    padding-value c.args.stream.now c.args.at c.if-left-gt7.false refl (sym c.in-Ok.ensures)
 
-pub returns-in-Value : goal.returns-in-Value
-returns-in-Value c =
-    padding-value c.args.stream.now c.args.at c.if-left-gt7.false refl (sym c.bits.ensures ∙ c.in-Value.is)
+pub returns-in-Err : goal.returns-in-Err
+returns-in-Err c =
+    padding-refused c.args.stream.now c.args.at c.if-left-gt7.false refl (sym c.in-Err.ensures)

@@ -1,14 +1,9 @@
 use mathlib.Core.Path.{refl}
 use borrow.Author.Rules.{rules}
 use Rattle.spec_exi.specs.Sizes.{max_events}
-use Rattle.read_body.specs.Reply.{refusal_of}
 use Rattle.read_body.proofs.refused.Goals as goal
 
 -- `refused` meets its contract.
 pub overflow_cast-result : goal.overflow_cast-result
 unfolding max_events
 overflow_cast-result c = search rules
-
-pub returns : goal.returns
-unfolding refusal_of
-returns c = refl

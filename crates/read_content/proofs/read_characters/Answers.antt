@@ -1,22 +1,24 @@
-use native.Mathlib.Omega.{arith}
+use mathlib.Core.Path.{refl}
 use Rattle.spec_exi.specs.Event.{CH}
+use Rattle.read_field.proofs.View.{refusal-some}
+use Rattle.read_partition.proofs.Fields.{passed-on}
 use Rattle.read_content.proofs.Returns.{characters-asks, characters-refused, characters-read}
 use Rattle.read_content.proofs.Contents.{kind-is}
-use borrow.Author.Rules.{rules}
 use Rattle.read_content.proofs.read_characters.Goals as goal
 
-pub read_value-x-requires : goal.read_value-x-requires
-read_value-x-requires c = characters-asks c.requires.content_pre
+pub read_value-requires : goal.read_value-requires
+read_value-requires c = characters-asks c.requires.content_pre
 
-pub returns-then-x-ne0 : goal.returns-then-x-ne0
-returns-then-x-ne0 c =
+pub returns-in_err-x : goal.returns-in_err-x
+returns-in_err-x c =
     let pre = c.requires in
-    let read-value = c.read_value-x in
-    let if1 = c.if-x-ne0 in
-    rw c.stopped.ensures (characters-refused pre.content_pre read-value.ensures.value_post read-value.ensures.joins_within (kind-is CH pre.kind_value) pre.kind_value (omega (arith, if1.true)))
+    rw (passed-on c.from_residual.ensures.1)
+    (characters-refused pre.content_pre c.in_err-x.ensures.value_post
+    c.in_err-x.ensures.joins_within (kind-is CH pre.kind_value) pre.kind_value (refusal-some _))
 
 pub returns : goal.returns
 returns c =
-    let part_of = c.part_of-value in
-    rw (part_of.ensures, c.with_value-strings.ensures, c.no_strings-s.ensures)
-    (characters-read c.requires.content_pre c.read_value-x.ensures.value_post c.read_value-x.ensures.joins_within (kind-is CH c.requires.kind_value) c.requires.kind_value c.if-x-ne0.false)
+    let pre = c.requires in
+    rw (c.part_of-value.ensures, c.valued.ensures, c.no_strings.ensures)
+    (characters-read pre.content_pre c.in_ok-x.ensures.value_post c.in_ok-x.ensures.joins_within
+    (kind-is CH pre.kind_value) pre.kind_value refl)

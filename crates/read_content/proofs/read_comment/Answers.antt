@@ -1,29 +1,26 @@
-use native.Mathlib.Omega.{arith}
+use mathlib.Core.Path.{refl}
 use Rattle.spec_exi.specs.Event.{CM}
-use Rattle.name_rules.specs.Texts.{role_of}
+use Rattle.name_rules.specs.Texts.{role_in}
+use Rattle.read_field.proofs.View.{refusal-some}
+use Rattle.read_partition.proofs.Fields.{passed-on}
 use Rattle.read_content.proofs.Returns.{comment-refused, comment-read}
 use Rattle.read_content.proofs.Contents.{kind-is}
-use borrow.Author.Rules.{rules}
 use Rattle.read_content.proofs.read_comment.Goals as goal
 
-pub read_text-x-requires : goal.read_text-x-requires
-read_text-x-requires c = c.requires.content_pre.pair.literal
+pub read_text-requires : goal.read_text-requires
+read_text-requires c = c.requires.content_pre.pair.literal
 
-pub returns-then-x-ne0 : goal.returns-then-x-ne0
-unfolding role_of
-returns-then-x-ne0 c =
+pub returns-in_err-x : goal.returns-in_err-x
+unfolding role_in
+returns-in_err-x c =
     let pre = c.requires in
-    let read-text = c.read_text-x in
-    let if1 = c.if-x-ne0 in
-    rw c.stopped.ensures (λ a. comment-refused pre.content_pre read-text.ensures.text_post (kind-is CM
-    pre.kind_value) (omega (arith, if1.true)))
+    rw (passed-on c.from_residual.ensures.1)
+    (λ a. comment-refused pre.content_pre c.in_err-x.ensures.text_post (kind-is CM pre.kind_value)
+    (refusal-some _))
 
 pub returns : goal.returns
-unfolding role_of
+unfolding role_in
 returns c =
     let pre = c.requires in
-    let read-text = c.read_text-x in
-    let if1 = c.if-x-ne0 in
-    let part_of = c.part_of-y in
-    rw (c.plain.ensures, part_of.ensures) (λ a. comment-read pre.content_pre read-text.ensures.text_post
-    (kind-is CM pre.kind_value) if1.false)
+    rw (c.plain.ensures, c.part_of-y.ensures)
+    (λ a. comment-read pre.content_pre c.in_ok-x.ensures.text_post (kind-is CM pre.kind_value) refl)

@@ -1,5 +1,6 @@
 use mathlib.Core.Bool.{true≢false}
-use mathlib.Core.Path.{refl, sym, ◌∙◌}
+use mathlib.Core.Path.{sym, ◌∙◌}
+use Rattle.read_event.proofs.Judges.{some-linked}
 use Rattle.read_event.proofs.loose.Goals as goal
 
 pub find_learned-requires : goal.find_learned-requires
@@ -9,9 +10,12 @@ find_learned-requires c =
 
 pub returns : goal.returns
 returns c =
-    let pre = c.requires in
     record {
-      learned = λ t. absurd (true≢false (sym t ∙ pre.learned_value));
+      learned = λ t. absurd (true≢false (sym t ∙ c.requires.learned_value));
       fixed = λ _.
-          record { row = c.find_learned.result; found = c.find_learned.ensures; is = refl };
+          record {
+            row = _;
+            found = c.find_learned.ensures;
+            is = c.is_some.ensures ∙ some-linked c.find_learned.result;
+          };
     }

@@ -1,7 +1,6 @@
 use mathlib.Core.Path.{sym}
 use Rattle.read_field.proofs.Numbers.{bits-past, bits_none}
 use native.Mathlib.Omega.{arith}
-use borrow.Author.Rules.{rules}
 use Rattle.read_field.proofs.bits.Goals as goal
 
 pub returns-then-s-next : goal.returns-then-s-next

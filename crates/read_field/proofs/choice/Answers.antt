@@ -1,7 +1,6 @@
 use mathlib.Core.Path.{◌∙◌}
 use Rattle.read_field.proofs.FewBits.{choice-none, few-in, few-same}
 use native.Mathlib.Omega.{arith}
-use borrow.Author.Rules.{rules}
 use Rattle.read_field.proofs.choice.Goals as goal
 
 pub returns-then-m-le1 : goal.returns-then-m-le1
@@ -10,13 +9,13 @@ returns-then-m-le1 c =
 
 pub few_bits-requires : goal.few_bits-requires
 few_bits-requires c =
-    rw c.few.ensures
+    rw c.taken.ensures
     (few-in c.requires.there (omega (arith, c.if-m-le1.false)) c.if-m-le256.true _)
 
 pub returns-then-m-le256 : goal.returns-then-m-le256
 returns-then-m-le256 c =
     c.few_bits.ensures
-    ∙ rw c.few.ensures (few-same c.requires.there (omega
+    ∙ rw c.taken.ensures (few-same c.requires.there (omega
     (arith, c.if-m-le1.false)) c.if-m-le256.true _)
 
 pub many-requires : goal.many-requires

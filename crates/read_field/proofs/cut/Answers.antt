@@ -3,7 +3,6 @@ use lib.Pow.{pow_pos}
 use Rattle.read_field.proofs.Window.{power}
 use Rattle.read_field.proofs.Numbers.{bits-cut}
 use native.Mathlib.Omega.{arith}
-use borrow.Author.Rules.{rules}
 use Rattle.read_field.proofs.cut.Goals as goal
 
 pub overflow_sub-result-3 : goal.overflow_sub-result-3

@@ -2,7 +2,6 @@ use native.Mathlib.Omega.{arith}
 use lib.Pow.{pow_pos}
 use Rattle.read_field.proofs.Window.{power}
 use Rattle.read_field.proofs.Numbers.{bits-past, few-cut}
-use borrow.Author.Rules.{rules}
 use Rattle.read_field.proofs.few_bits.Goals as goal
 
 -- `read_field::few_bits` meets its contract: the mask leaves the n bits of the window.

@@ -1,6 +1,5 @@
 use Rattle.read_field.proofs.FewBits.{many-bits, many-past, many-small, many-swapped, many-plain}
 use native.Mathlib.Omega.{arith}
-use borrow.Author.Rules.{rules}
 use Rattle.read_field.proofs.many.Goals as goal
 
 pub overflow_add-next : goal.overflow_add-next
@@ -8,7 +7,7 @@ overflow_add-next c =
     let there = c.requires.number_pre.there in
     let big = c.requires.lt_m in
     let most = c.requires.number_pre.small in
-    let n = c.broad-n.ensures in
+    let n = c.taken-n.ensures in
     omega (arith, there.place, there.size, (many-bits there big most _ n).1)
 
 pub returns-then-s-next : goal.returns-then-s-next
@@ -16,7 +15,7 @@ returns-then-s-next c =
     let there = c.requires.number_pre.there in
     let big = c.requires.lt_m in
     let most = c.requires.number_pre.small in
-    let n = c.broad-n.ensures in
+    let n = c.taken-n.ensures in
     many-past there big most _ n c.if-s-next.true
 
 pub cut-x-requires : goal.cut-x-requires
@@ -24,7 +23,7 @@ cut-x-requires c =
     let there = c.requires.number_pre.there in
     let big = c.requires.lt_m in
     let most = c.requires.number_pre.small in
-    let n = c.broad-n.ensures in
+    let n = c.taken-n.ensures in
     record {
       there = there;
       some = (many-bits there big most _ n).0;
@@ -38,7 +37,7 @@ exchanged-requires c =
     let big = c.requires.lt_m in
     let most = c.requires.number_pre.small in
     let cuts = c.cut-x.ensures in
-    let n = c.broad-n.ensures in
+    let n = c.taken-n.ensures in
     many-small there big most cuts n c.if-aligned.true
 
 pub returns-then-aligned : goal.returns-then-aligned
@@ -47,7 +46,7 @@ returns-then-aligned c =
     let big = c.requires.lt_m in
     let most = c.requires.number_pre.small in
     let cuts = c.cut-x.ensures in
-    let n = c.broad-n.ensures in
+    let n = c.taken-n.ensures in
     many-swapped there big most cuts n c.if-aligned.true c.exchanged.ensures
 
 pub returns : goal.returns
@@ -56,5 +55,5 @@ returns c =
     let big = c.requires.lt_m in
     let most = c.requires.number_pre.small in
     let cuts = c.cut-x.ensures in
-    let n = c.broad-n.ensures in
+    let n = c.taken-n.ensures in
     many-plain there big most cuts n c.if-aligned.false

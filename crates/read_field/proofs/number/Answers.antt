@@ -1,5 +1,4 @@
 use Rattle.read_field.specs.View.{alignment_of}
-use borrow.Author.Rules.{rules}
 use Rattle.read_field.proofs.number.Goals as goal
 
 -- `read_field::number` meets its contract: by the alignment.

@@ -1,5 +1,4 @@
 use Rattle.spec_fields.specs.Field.{octet, number_field}
-use borrow.Author.Rules.{rules}
 use Rattle.read_field.proofs.octet.Goals as goal
 
 -- `read_field::octet` meets its contract: an octet is 8 bits.

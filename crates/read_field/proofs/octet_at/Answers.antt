@@ -1,6 +1,5 @@
 use mathlib.Core.Path.{refl}
 use native.Mathlib.Omega.{arith}
-use borrow.Author.Rules.{rules}
 use Rattle.read_field.proofs.octet_at.Goals as goal
 
 -- `read_field::octet_at` meets its contract: the element.

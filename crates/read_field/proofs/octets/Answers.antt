@@ -1,8 +1,8 @@
 use mathlib.Core.Path.{sym, ◌∙◌}
 use native.Mathlib.Omega.{arith}
+use Rattle.std.proofs.lemmas.Result.{err_from_is_err_and}
 use Rattle.read_field.proofs.Numbers.{octets-no, octets-one, octets-none}
 use Rattle.read_field.proofs.Numbers.{two-small, octets-found}
-use borrow.Author.Rules.{rules}
 use Rattle.read_field.proofs.octets.Goals as goal
 
 -- `read_field::octets` meets its contract: none, eight bits, or sixteen exchanged.
@@ -14,16 +14,14 @@ returns-then-n-le8 c =
     c.few_bits.ensures ∙ octets-one _ _ _ (omega arith) c.if-n-le8.true c.requires.there
 
 pub exchanged-requires : goal.exchanged-requires
-exchanged-requires c =
-    two-small _ _ c.requires.there
-    (sym c.bits.ensures ∙ c.in-Value.is)
+exchanged-requires c = two-small _ _ c.requires.there (sym c.in_ok-pair.ensures)
 
-pub returns-in-Value : goal.returns-in-Value
-returns-in-Value c =
-    octets-found _ _ c.requires.there
-    (sym c.bits.ensures ∙ c.in-Value.is) _ (omega arith) c.exchanged.ensures
+pub returns-in_err-pair : goal.returns-in_err-pair
+returns-in_err-pair c =
+    let p = err_from_is_err_and c.from_residual.result c.from_residual.ensures.1 in
+    rw (p.1, p.2)
+    (octets-none _ _ c.requires.there (sym c.in_err-pair.ensures) _ (omega arith))
 
-pub returns-in-Refused : goal.returns-in-Refused
-returns-in-Refused c =
-    octets-none _ _ c.requires.there
-    (sym c.bits.ensures ∙ c.in-Refused.is) _ (omega arith)
+pub returns : goal.returns
+returns c =
+    octets-found _ _ c.requires.there (sym c.in_ok-pair.ensures) _ (omega arith) c.exchanged.ensures

@@ -1,34 +1,32 @@
-use Rattle.read_field.proofs.Groups.{Going, going-none, going-past, Turn, weight-small, group-small, turn-zero}
+use Rattle.read_field.proofs.Groups.{going-none, going-past, Turn, weight-small, group-small, turn-zero}
 use Rattle.read_field.proofs.Groups.{turn-large, turn_last, turn_more}
-use mathlib.Core.Path.{refl}
+use mathlib.Core.Path.{◌≡◌, refl}
+use Prim.Native.Nat.{◌-◌, ◌+◌}
 use native.Mathlib.Omega.{arith}
-use borrow.Author.Rules.{rules}
 use Rattle.read_field.proofs.onward.Goals as goal
 use Rattle.read_field.proofs.onward.Goals.{After-wide-o}
 
--- `read_field::onward` meets its contract. The loop's invariant: what is left to read comes to the whole.
--- The measure is the octets left.
+-- `read_field::onward` meets its contract. The loop's invariant: what is left to read comes to the
+-- whole.
 -- where the loop has peeked at an octet
 turn : (c : After-wide-o) →
     Turn c.args.s.now c.args.at c.args.first
-    c.loop-left.place c.loop-left.left
-    c.loop-left.weight c.loop-left.low c.wide-o.result
+    c.loop.place (4 - c.loop.counter)
+    c.loop.weight c.loop.low c.wide-o.result
 turn c =
     record {
-      going = c.loop-left.invariant;
-      some = c.loop-left-test.true;
+      going = c.loop.invariant;
+      some = omega (arith, c.loop-test.true);
       room = c.if-s-place.false;
       peeked = rw c.wide-o.ensures c.octet_in.ensures;
     }
 
-pub loop-left-init : goal.loop-left-init
-loop-left-init c = record { inside = c.requires.there.place; below = omega arith; weighs = refl; same = refl }
+pub loop-init : goal.loop-init
+loop-init c = record { inside = c.requires.there.place; below = omega arith; weighs = refl; same = refl }
 
 pub returns-then-s-place : goal.returns-then-s-place
-returns-then-s-place c = going-past c.loop-left.invariant c.loop-left-test.true c.if-s-place.true
-
-pub wide-o-requires : goal.wide-o-requires
-wide-o-requires c = tt
+returns-then-s-place c =
+    going-past c.loop.invariant (omega (arith, c.loop-test.true)) c.if-s-place.true
 
 pub returns-then-o-eq0 : goal.returns-then-o-eq0
 returns-then-o-eq0 c = turn-zero (turn (goal.at.returns-then-o-eq0 c).After-wide-o) c.if-o-eq0.true
@@ -60,8 +58,10 @@ overflow_add-low c =
 pub overflow_mul-weight : goal.overflow_mul-weight
 overflow_mul-weight c = omega (arith, weight-small (turn (goal.at.overflow_mul-weight c).After-wide-o))
 
-pub loop-left-preserved : goal.loop-left-preserved
-loop-left-preserved c = turn_more (turn (goal.at.loop-left-preserved c).After-wide-o) c.if-o-lt128.false
+pub loop-preserved : goal.loop-preserved
+loop-preserved c =
+    let e : 4 - c.loop.counter - 1 ≡ 4 - (c.loop.counter + 1) = omega arith in
+    rw e at (turn_more (turn (goal.at.loop-preserved c).After-wide-o) c.if-o-lt128.false)
 
 pub returns : goal.returns
-returns c = going-none c.loop-left.invariant c.loop-left-test.false
+returns c = going-none c.loop.invariant (omega (arith, c.loop-test.false))

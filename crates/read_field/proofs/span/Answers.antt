@@ -1,5 +1,4 @@
 use Rattle.read_field.proofs.Window.{window-two}
-use borrow.Author.Rules.{rules}
 use Rattle.read_field.proofs.span.Goals as goal
 
 -- `read_field::span` meets its contract: the bits end the window of two octets.

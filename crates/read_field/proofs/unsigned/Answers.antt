@@ -1,5 +1,4 @@
 use Rattle.read_field.proofs.Groups.{unsigned-past, unsigned-first}
-use borrow.Author.Rules.{rules}
 use Rattle.read_field.proofs.unsigned.Goals as goal
 
 -- `read_field::unsigned` meets its contract: one octet is the whole, or more are read.

@@ -1,7 +1,5 @@
-use native.Mathlib.Omega.{arith}
 use Rattle.read_field.proofs.Groups.{unsigned-past, unsigned-first, unsigned-more}
 use mathlib.Core.Path.{◌∙◌}
-use borrow.Author.Rules.{rules}
 use Rattle.read_field.proofs.unsigned_any.Goals as goal
 
 -- `read_field::unsigned_any` meets its contract: the first octet is the whole, or the rest follows.

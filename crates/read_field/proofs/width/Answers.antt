@@ -1,6 +1,5 @@
 use native.Mathlib.Omega.{arith}
 use lib.Count.{leading_le}
-use borrow.Author.Rules.{rules}
 use Rattle.spec_fields.specs.Field.{width, width_from}
 use Rattle.read_field.proofs.Zeros.{by-zeros}
 use Rattle.read_field.proofs.width.Goals as goal

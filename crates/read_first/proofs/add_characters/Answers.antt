@@ -14,7 +14,11 @@ store-requires c =
 pub join_value-requires : goal.join_value-requires
 join_value-requires c =
     let pre = c.requires in
-    record { room = pre.add_pre.join.room; few = pre.add_pre.join.values; low = pre.add_pre.join.owner }
+    record {
+      room = pre.add_pre.join.room;
+      few = pre.add_pre.join.values;
+      low = pre.add_pre.join.owner;
+    }
 
 pub grow-requires : goal.grow-requires
 unfolding joined_strings joined_uri joined_name
@@ -41,4 +45,4 @@ returns c =
     (rw c.part_of-value.ensures at c.store.ensures)
     c.grow.ensures c.content_after-mode.ensures refl
     refl
-    c.next_tag-tag.ensures c.moved.ensures
+    c.next_tag-tag.ensures (rw c.is_some.ensures at c.moved.ensures)

@@ -11,7 +11,7 @@ use Rattle.read_first.proofs.First.{content-pre, drop-asks, first_stops, judge-a
 use Rattle.read_first.proofs.First.{first-refused, add-asks, first_read}
 use Rattle.read_first.proofs.Unnamed.{bare-growth}
 use native.Mathlib.Omega.{arith}
-use borrow.Author.Rules.{rules}
+use Rattle.read_field.proofs.View.{refusal-some}
 use Rattle.read_first.proofs.first_characters.Goals as goal
 
 as-clauses : {A0 A1 : Type 0} → A0 × A1
@@ -21,8 +21,8 @@ as-clauses p = record {
   stored_in_bounds = p.1;
 }
 
-pub read_value-x-requires : goal.read_value-x-requires
-read_value-x-requires c =
+pub read_value-read-requires : goal.read_value-read-requires
+read_value-read-requires c =
     let pre = c.requires.step_pre in
     let first = c.requires.first_pre in
     characters-asks (content-pre pre first)
@@ -33,64 +33,57 @@ dropped-requires c =
     let pre = c.requires.step_pre in
     let first = c.requires.first_pre in
     let kind = kind-is CH first.kind in
-    let some = c.if-x-ne0.true in
-    let stops = characters-refused (content-pre pre first) c.read_value-x.ensures.value_post c.read_value-x.ensures.joins_within kind first.kind (omega (
-      arith,
-      some,
-    )) in as-clauses (drop-asks pre first (stops))
+    let some = refusal-some c.in-Err.y.refusal in
+    let stops = characters-refused (content-pre pre first) c.in-Err.ensures.value_post
+    c.in-Err.ensures.joins_within kind first.kind some in as-clauses (drop-asks pre first (stops))
 
-pub returns-then-x-ne0 : goal.returns-then-x-ne0
+pub returns-in-Err : goal.returns-in-Err
 unfolding settings_from alignment_of
-returns-then-x-ne0 c =
+returns-in-Err c =
     let pre = c.requires.step_pre in
     let first = c.requires.first_pre in
     let kind = kind-is CH first.kind in
-    let some = c.if-x-ne0.true in
-    let stops = characters-refused (content-pre pre first) c.read_value-x.ensures.value_post c.read_value-x.ensures.joins_within kind first.kind (omega (
-      arith,
-      some,
-    )) in
-    first_stops pre first (stops) (omega (arith, some)) c.dropped.ensures
+    let some = refusal-some c.in-Err.y.refusal in
+    let stops = characters-refused (content-pre pre first) c.in-Err.ensures.value_post
+    c.in-Err.ensures.joins_within kind first.kind some in
+    first_stops pre first (stops) some c.dropped.ensures
 
 pub growth-g-requires : goal.growth-g-requires
 growth-g-requires c =
     let pre = c.requires.step_pre in
     bare-growth _ pre.rows pre.bounded
 
-pub judge-number-requires : goal.judge-number-requires
+pub judge-requires : goal.judge-requires
 unfolding growth_of kind_number settings_from alignment_of
-judge-number-requires c =
+judge-requires c =
     let pre = c.requires.step_pre in
     let first = c.requires.first_pre in
     let kind = kind-is CH first.kind in
-    let z = c.if-x-ne0.false in
-    let reads = characters-read (content-pre pre first) c.read_value-x.ensures.value_post c.read_value-x.ensures.joins_within kind first.kind z in
+    let reads = characters-read (content-pre pre first) c.in-Ok.ensures.value_post
+    c.in-Ok.ensures.joins_within kind first.kind refl in
     let g = c.growth-g.ensures in
     judge-asks pre first (reads) refl (sym g)
 
-pub dropped-requires-then-number-ne0 : goal.dropped-requires-then-number-ne0
+pub dropped-requires-in-Err-judge : goal.dropped-requires-in-Err-judge
 unfolding settings_from alignment_of
-dropped-requires-then-number-ne0 c =
+dropped-requires-in-Err-judge c =
     let pre = c.requires.step_pre in
     let first = c.requires.first_pre in
     let kind = kind-is CH first.kind in
-    let z = c.if-x-ne0.false in
-    let reads = characters-read (content-pre pre first) c.read_value-x.ensures.value_post c.read_value-x.ensures.joins_within kind first.kind z in as-clauses (drop-asks pre first (reads))
+    let reads = characters-read (content-pre pre first) c.in-Ok.ensures.value_post
+    c.in-Ok.ensures.joins_within kind first.kind refl in as-clauses (drop-asks pre first (reads))
 
-pub returns-then-number-ne0 : goal.returns-then-number-ne0
+pub returns-in-Err-judge : goal.returns-in-Err-judge
 unfolding growth_of kind_number settings_from alignment_of
-returns-then-number-ne0 c =
+returns-in-Err-judge c =
     let pre = c.requires.step_pre in
     let first = c.requires.first_pre in
     let kind = kind-is CH first.kind in
-    let z = c.if-x-ne0.false in
-    let reads = characters-read (content-pre pre first) c.read_value-x.ensures.value_post c.read_value-x.ensures.joins_within kind first.kind z in
+    let reads = characters-read (content-pre pre first) c.in-Ok.ensures.value_post
+    c.in-Ok.ensures.joins_within kind first.kind refl in
     let g = c.growth-g.ensures in
-    let j = c.judge-number.ensures in
-    first-refused pre first (reads) refl (sym g) j (omega (
-      arith,
-      c.if-number-ne0.true,
-    )) c.dropped-then-number-ne0.ensures
+    first-refused pre first (reads) refl (sym g) c.in-Err-judge.ensures
+    (refusal-some c.in-Err-judge.refusal) c.dropped-in-Err-judge.ensures
 
 pub add_characters-requires : goal.add_characters-requires
 unfolding growth_of kind_number settings_from alignment_of
@@ -99,12 +92,11 @@ add_characters-requires c =
     let pre = c.requires.step_pre in
     let first = c.requires.first_pre in
     let kind = kind-is CH first.kind in
-    let z = c.if-x-ne0.false in
-    let reads = characters-read (content-pre pre first) c.read_value-x.ensures.value_post c.read_value-x.ensures.joins_within kind first.kind z in
-    let j = c.judge-number.ensures in
+    let reads = characters-read (content-pre pre first) c.in-Ok.ensures.value_post
+    c.in-Ok.ensures.joins_within kind first.kind refl in
     record {
       kind_value = ap (λ (h : Growth). h.kind) g;
-      add_pre = add-asks pre first (reads) refl (sym g) j c.if-number-ne0.false;
+      add_pre = add-asks pre first (reads) refl (sym g) c.in_default.ensures refl;
     }
 
 pub returns : goal.returns
@@ -113,8 +105,7 @@ returns c =
     let pre = c.requires.step_pre in
     let first = c.requires.first_pre in
     let kind = kind-is CH first.kind in
-    let z = c.if-x-ne0.false in
-    let reads = characters-read (content-pre pre first) c.read_value-x.ensures.value_post c.read_value-x.ensures.joins_within kind first.kind z in
+    let reads = characters-read (content-pre pre first) c.in-Ok.ensures.value_post
+    c.in-Ok.ensures.joins_within kind first.kind refl in
     let g = c.growth-g.ensures in
-    let j = c.judge-number.ensures in
-    first_read pre first (reads) refl (sym g) j c.if-number-ne0.false (c.add_characters.ensures _)
+    first_read pre first (reads) refl (sym g) c.in_default.ensures refl (c.add_characters.ensures _)

@@ -1,7 +1,7 @@
 use Rattle.spec_fields.specs.Refusal.{number_of}
 use Rattle.read_first.proofs.First.{judge-equal, judge-loose, judge-limit, judge-passes}
 use native.Mathlib.Omega.{arith}
-use borrow.Author.Rules.{rules}
+use mathlib.Core.Path.{refl}
 use Rattle.read_first.proofs.judge.Goals as goal
 
 pub allows-requires : goal.allows-requires
@@ -22,16 +22,17 @@ find_learned-requires c =
       few = c.requires.few;
     }
 
-pub returns-then-find_learned-ne0 : goal.returns-then-find_learned-ne0
+pub returns-in-Some : goal.returns-in-Some
 unfolding number_of
-returns-then-find_learned-ne0 c =
-    judge-loose c.allows.ensures c.if-not-allows.false-raw c.find_learned.ensures c.if-find_learned-ne0.true
+returns-in-Some c =
+    judge-loose c.allows.ensures c.if-not-allows.false-raw c.in-Some.ensures
+    (λ z. absurd (omega (arith, z)))
 
 pub returns-then-not-fits : goal.returns-then-not-fits
 unfolding number_of
 returns-then-not-fits c =
-    judge-limit c.allows.ensures c.if-not-allows.false-raw c.find_learned.ensures c.if-find_learned-ne0.false c.fits.ensures c.if-not-fits.true-raw
+    judge-limit c.allows.ensures c.if-not-allows.false-raw c.in_default.ensures refl c.fits.ensures c.if-not-fits.true-raw
 
 pub returns : goal.returns
 returns c =
-    judge-passes c.allows.ensures c.if-not-allows.false-raw c.find_learned.ensures c.if-find_learned-ne0.false c.fits.ensures c.if-not-fits.false-raw
+    judge-passes c.allows.ensures c.if-not-allows.false-raw c.in_default.ensures refl c.fits.ensures c.if-not-fits.false-raw

@@ -1,14 +1,6 @@
-use mathlib.Core.Path.{sym, ◌∙◌}
-use Prim.Native.Nat.{◌-◌}
-use native.Mathlib.Omega.{arith}
-use borrow.Author.Rules.{rules}
-use Rattle.spec_exi.specs.Sizes.{max_stream}
-use Rattle.read_header.specs.Header.{header_size}
-use Rattle.read_header.proofs.Header.{Passing, passing-start, all-passed, octet-missing, octet-other, octet-same}
+use Prim.Native.Nat.{◌+◌}
+use Rattle.read_header.proofs.Header.{Passing}
 use Rattle.read_header.proofs.read_octets.Given as goal
 
-abbrev pub invariant-loop-i : goal.invariant-loop-i
-invariant-loop-i l = Passing l.stream l.first l.at l.i
-
-abbrev pub decreases-loop-i : goal.decreases-loop-i
-decreases-loop-i l = header_size - l.i
+abbrev pub invariant-loop-o : goal.invariant-loop-o
+invariant-loop-o l = Passing l.stream l.fn.first l.at (l.fn.first + l.o-index)

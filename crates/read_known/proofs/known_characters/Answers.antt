@@ -1,20 +1,20 @@
-use native.Mathlib.Omega.{arith}
 use Rattle.spec_exi.specs.Grammar.{kind_number}
 use Rattle.read_known.proofs.Values.{characters-stepped}
 use Rattle.read_known.proofs.Values.{value-asks, join-asks, characters-stopped}
-use borrow.Author.Rules.{rules}
+use mathlib.Core.Path.{refl}
+use Rattle.read_field.proofs.View.{refusal-some}
 use Rattle.read_known.proofs.known_characters.Goals as goal
 
-pub read_value-x-requires : goal.read_value-x-requires
-read_value-x-requires c =
+pub read_value-read-requires : goal.read_value-read-requires
+read_value-read-requires c =
     value-asks c.requires.step_pre c.requires.learned_pre c.requires.step_pre.bounded.top
 
-pub returns-then-x-ne0 : goal.returns-then-x-ne0
-returns-then-x-ne0 c =
-    rw c.answer.ensures (record {
+pub returns-in-Err : goal.returns-in-Err
+returns-in-Err c =
+    rw (c.answer.ensures, c.number.ensures) (record {
       steps = λ s a q. characters-stopped c.requires.step_pre q c.requires.learned_pre.learned a
-          c.read_value-x.ensures.joins_within c.requires.learned_pre.kind c.read_value-x.ensures.value_post
-          (omega (arith, c.if-x-ne0.true));
+          c.in-Err.ensures.joins_within c.requires.learned_pre.kind c.in-Err.ensures.value_post
+          (refusal-some c.in-Err.y.refusal);
     })
 
 pub store-requires : goal.store-requires
@@ -23,7 +23,7 @@ store-requires c =
 
 pub join_value-requires : goal.join_value-requires
 join_value-requires c =
-    join-asks c.requires.step_pre c.requires.learned_pre c.read_value-x.ensures.joins_within c.requires.step_pre.bounded.top
+    join-asks c.requires.step_pre c.requires.learned_pre c.in-Ok.ensures.joins_within c.requires.step_pre.bounded.top
 
 pub next_tag-tag-requires : goal.next_tag-tag-requires
 next_tag-tag-requires c =
@@ -40,10 +40,10 @@ shape_of-text c =
 pub returns : goal.returns
 unfolding kind_number
 returns c =
-    rw c.moved_on.ensures (record {
+    rw (c.moved_on.ensures, c.is_some-joins.ensures) (record {
       steps = λ s a q. characters-stepped c.requires.step_pre q c.requires.learned_pre.learned a
-          c.read_value-x.ensures.joins_within c.requires.learned_pre.kind c.read_value-x.ensures.value_post
-          c.if-x-ne0.false c.part_of-value.ensures c.store.ensures
+          c.in-Ok.ensures.joins_within c.requires.learned_pre.kind c.in-Ok.ensures.value_post
+          refl c.part_of-value.ensures c.store.ensures
           c.join_value.ensures c.content_after-mode.ensures
           c.next_tag-tag.ensures;
     })

@@ -1,93 +1,71 @@
 use native.Mathlib.Omega.{arith}
+use mathlib.Core.Path.{refl}
 use Rattle.spec_fields.specs.Refusal.{number_of}
 use Rattle.spec_exi.specs.Sizes.{max_uris}
-use Rattle.read_names.proofs.Bounds.{uri-seek-asks}
+use Rattle.read_field.proofs.View.{refusal-some}
+use Rattle.read_partition.proofs.Fields.{passed-on}
 use Rattle.read_partition.proofs.Literals.{laid-room}
+use Rattle.read_names.proofs.Bounds.{uri-seek-asks}
 use Rattle.read_names.proofs.Rows.{uri-refused-row, uri-new-row}
 use Rattle.read_names.proofs.NewUris.{new-refused, new-loose, new-full, new-joins}
-use borrow.Author.Rules.{rules}
 use Rattle.read_names.proofs.new_uri.Goals as goal
 
-pub read_literal-read-requires : goal.read_literal-read-requires
-read_literal-read-requires c = c.requires.literal
+pub read_literal-requires : goal.read_literal-requires
+read_literal-requires c = c.requires.literal
 
-pub returns-then-read-ne0 : goal.returns-then-read-ne0
-returns-then-read-ne0 c =
-    let pre = c.requires in
-    let read-literal = c.read_literal-read in
-    let if1 = c.if-read-ne0 in
-    rw c.refused.ensures (record {
-      uri_post = (λ a. new-refused pre read-literal.ensures if1.true);
-      uri_rowed = uri-refused-row (omega (arith, if1.true));
-    })
+pub returns-in_err-read-clause-uri_post : goal.returns-in_err-read-clause-uri_post
+returns-in_err-read-clause-uri_post c =
+    rw (passed-on c.from_residual.ensures.1, c.in_err-read.ensures.kept)
+    (λ a. new-refused c.requires c.in_err-read.ensures.read
+    (λ z. absurd (omega (arith, z, refusal-some c.in_err-read.field-0.0.refusal))))
 
-pub seek_uri-row-requires : goal.seek_uri-row-requires
-seek_uri-row-requires c =
-    let pre = c.requires in
-    uri-seek-asks pre
+pub returns-in_err-read-clause-uri_rowed : goal.returns-in_err-read-clause-uri_rowed
+returns-in_err-read-clause-uri_rowed c =
+    rw (passed-on c.from_residual.ensures.1, c.in_err-read.ensures.kept) (uri-refused-row (refusal-some _))
+
+pub seek_uri-requires : goal.seek_uri-requires
+seek_uri-requires c = uri-seek-asks c.requires
 
 pub dropped-requires : goal.dropped-requires
-dropped-requires c =
-    let pre = c.requires in
-    let read-literal = c.read_literal-read in
-    let if1 = c.if-read-ne0 in
-    laid-room pre.literal read-literal.ensures if1.false
+dropped-requires c = laid-room c.requires.literal c.in_ok-read.ensures.read refl
 
-pub returns-then-row-ne0 : goal.returns-then-row-ne0
+pub returns-in-Some-clause-uri_post : goal.returns-in-Some-clause-uri_post
 unfolding number_of
-returns-then-row-ne0 c =
-    let pre = c.requires in
-    let read-literal = c.read_literal-read in
-    let if1 = c.if-read-ne0 in
-    let seek-uri = c.seek_uri-row in
-    let if2 = c.if-row-ne0 in
-    let dropped = c.dropped in
-    rw dropped.ensures.is (record {
-      uri_post = (λ a. new-loose pre read-literal.ensures if1.false seek-uri.ensures if2.true
-          dropped.ensures.text-is);
-      uri_rowed = uri-refused-row (omega arith);
-    })
+returns-in-Some-clause-uri_post c =
+    rw c.dropped.ensures.stopped
+    (λ a. new-loose c.requires c.in_ok-read.ensures.read refl c.in-Some.ensures
+    (λ z. absurd (omega (arith, z))) c.dropped.ensures.cleared.text-is)
+
+pub returns-in-Some-clause-uri_rowed : goal.returns-in-Some-clause-uri_rowed
+returns-in-Some-clause-uri_rowed c =
+    rw c.dropped.ensures.stopped (uri-refused-row (omega arith))
 
 pub dropped-requires-then-uris-ge-MAX_URIS : goal.dropped-requires-then-uris-ge-MAX_URIS
 dropped-requires-then-uris-ge-MAX_URIS c =
-    let pre = c.requires in
-    let read-literal = c.read_literal-read in
-    let if1 = c.if-read-ne0 in
-    laid-room pre.literal read-literal.ensures if1.false
+    laid-room c.requires.literal c.in_ok-read.ensures.read refl
 
-pub returns-then-uris-ge-MAX_URIS : goal.returns-then-uris-ge-MAX_URIS
+pub returns-then-uris-ge-MAX_URIS-clause-uri_post : goal.returns-then-uris-ge-MAX_URIS-clause-uri_post
 unfolding number_of max_uris
-returns-then-uris-ge-MAX_URIS c =
-    let pre = c.requires in
-    let read-literal = c.read_literal-read in
-    let if1 = c.if-read-ne0 in
-    let seek-uri = c.seek_uri-row in
-    let if2 = c.if-row-ne0 in
-    let if3 = c.if-uris-ge-MAX_URIS in
-    let dropped2 = c.dropped-then-uris-ge-MAX_URIS in
-    rw dropped2.ensures.is (record {
-      uri_post = (λ a. new-full pre read-literal.ensures if1.false seek-uri.ensures if2.false
-          if3.true dropped2.ensures.text-is);
-      uri_rowed = uri-refused-row (omega arith);
-    })
+returns-then-uris-ge-MAX_URIS-clause-uri_post c =
+    rw c.dropped-then-uris-ge-MAX_URIS.ensures.stopped
+    (λ a. new-full c.requires c.in_ok-read.ensures.read refl c.in_default.ensures refl
+    c.if-uris-ge-MAX_URIS.true c.dropped-then-uris-ge-MAX_URIS.ensures.cleared.text-is)
+
+pub returns-then-uris-ge-MAX_URIS-clause-uri_rowed : goal.returns-then-uris-ge-MAX_URIS-clause-uri_rowed
+returns-then-uris-ge-MAX_URIS-clause-uri_rowed c =
+    rw c.dropped-then-uris-ge-MAX_URIS.ensures.stopped (uri-refused-row (omega arith))
 
 pub laid-requires : goal.laid-requires
-laid-requires c =
-    let read-literal = c.read_literal-read in
-    let if1 = c.if-read-ne0 in
-    read-literal.ensures.ends if1.false
+laid-requires c = c.in_ok-read.ensures.read.ends refl
 
-pub returns : goal.returns
+pub returns-clause-uri_post : goal.returns-clause-uri_post
 unfolding max_uris
-returns c =
-    let pre = c.requires in
-    let read-literal = c.read_literal-read in
-    let if1 = c.if-read-ne0 in
-    let seek-uri = c.seek_uri-row in
-    let if2 = c.if-row-ne0 in
-    let if3 = c.if-uris-ge-MAX_URIS in
-    rw c.laid.ensures (record {
-      uri_post = (λ a. new-joins pre read-literal.ensures if1.false seek-uri.ensures if2.false
-          if3.false);
-      uri_rowed = uri-new-row _ _ if3.false;
-    })
+returns-clause-uri_post c =
+    rw c.laid.ensures
+    (λ a. new-joins c.requires c.in_ok-read.ensures.read refl c.in_default.ensures refl
+    c.if-uris-ge-MAX_URIS.false)
+
+pub returns-clause-uri_rowed : goal.returns-clause-uri_rowed
+unfolding max_uris
+returns-clause-uri_rowed c =
+    rw c.laid.ensures (uri-new-row _ _ c.if-uris-ge-MAX_URIS.false)

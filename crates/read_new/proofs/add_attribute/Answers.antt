@@ -7,7 +7,6 @@ use Rattle.mem_state.specs.Commit.{joined_strings, top_after, depth_after, tag_n
 use Rattle.mem_state.proofs.Commit.{values-asks, join-steps}
 use Rattle.read_first.proofs.First.{add-numbered, grow-still, added-as}
 use native.Mathlib.Omega.{arith}
-use borrow.Author.Rules.{rules}
 use Rattle.read_new.proofs.add_attribute.Goals as goal
 
 pub store-requires : goal.store-requires
@@ -58,4 +57,6 @@ returns c =
       c.part_of-local.ensures,
       c.part_of-value.ensures,
     ) at c.store.ensures)
-    c.grow.ensures refl refl refl refl c.moved.ensures
+    c.grow.ensures refl refl refl refl
+    (rw (c.is_some-new_uri.ensures, c.is_some-new_name.ensures, c.is_some-new_value.ensures)
+    at c.moved.ensures)

@@ -5,7 +5,6 @@ use Rattle.mem_rows.specs.Rows.{mode_after}
 use Rattle.mem_state.specs.Commit.{joined_value, joined_strings, top_after, depth_after, tag_number}
 use Rattle.read_first.proofs.First.{grow-still, added-as}
 use native.Mathlib.Omega.{arith}
-use borrow.Author.Rules.{rules}
 use Rattle.read_new.proofs.add_element.Goals as goal
 
 pub store-requires : goal.store-requires
@@ -53,4 +52,5 @@ returns c =
       c.part_of-local.ensures,
     )
     at c.store.ensures)
-    c.grow.ensures refl (sym name) refl c.next_tag-tag.ensures c.moved.ensures
+    c.grow.ensures refl (sym name) refl c.next_tag-tag.ensures
+    (rw (c.is_some-new_uri.ensures, c.is_some-new_name.ensures) at c.moved.ensures)

@@ -1,22 +1,17 @@
+use mathlib.Core.Path.{sym}
+use Rattle.std.proofs.lemmas.Result.{err_from_is_err_and}
 use Rattle.read_production.proofs.Parts.{part-refused, part_none, part-value}
-use mathlib.Core.Path.{sym, ◌∙◌}
-use borrow.Author.Rules.{rules}
 use Rattle.read_production.proofs.read_part.Goals as goal
 
-pub returns-then-among-value : goal.returns-then-among-value
-returns-then-among-value c =
-    let pre = c.requires in
-    let choice = c.choice in
-    part_none _ _ _ _ pre.there.place (sym choice.ensures ∙ c.in-Value.is) c.if-among-value.true
+pub returns-in_err-part : goal.returns-in_err-part
+returns-in_err-part c =
+    let p = err_from_is_err_and c.from_residual.result c.from_residual.ensures.1 in
+    rw (p.1, p.2) (part-refused _ _ _ _ c.requires.there.place (sym c.in_err-part.ensures))
 
-pub returns-else-among-value : goal.returns-else-among-value
-returns-else-among-value c =
-    let pre = c.requires in
-    let choice = c.choice in
-    part-value _ _ _ _ pre.there.place (sym choice.ensures ∙ c.in-Value.is) c.if-among-value.false
+pub returns-then-among-part : goal.returns-then-among-part
+returns-then-among-part c =
+    part_none _ _ _ _ c.requires.there.place (sym c.in_ok-part.ensures) c.if-among-part.true
 
-pub returns-in-Refused : goal.returns-in-Refused
-returns-in-Refused c =
-    let pre = c.requires in
-    let choice = c.choice in
-    part-refused _ _ _ _ pre.there.place (sym choice.ensures ∙ c.in-Refused.is)
+pub returns : goal.returns
+returns c =
+    part-value _ _ _ _ c.requires.there.place (sym c.in_ok-part.ensures) c.if-among-part.false

@@ -1,41 +1,30 @@
-use native.Mathlib.Omega.{arith}
-use Rattle.read_qname.proofs.Returns.{uri-asks, name-asks, pair-first, pair-second}
-use Rattle.read_qname.proofs.Returns.{pair_read}
-use borrow.Author.Rules.{rules}
+use mathlib.Core.Path.{refl}
+use Rattle.read_field.proofs.View.{refusal-some}
+use Rattle.read_partition.proofs.Fields.{passed-on}
+use Rattle.read_qname.proofs.Returns.{uri-asks, name-asks, pair-first, pair-second, pair_read}
 use Rattle.read_qname.proofs.read_name.Goals as goal
 
-pub read_uri-u-requires : goal.read_uri-u-requires
-read_uri-u-requires c = uri-asks c.requires
+pub read_uri-requires : goal.read_uri-requires
+read_uri-requires c = uri-asks c.requires
 
-pub returns-then-u-ne0 : goal.returns-then-u-ne0
-returns-then-u-ne0 c =
-    let pre = c.requires in
-    let read-uri = c.read_uri-u in
-    let if1 = c.if-u-ne0 in
-    rw c.stopped.ensures (pair-first (pre) read-uri.ensures.uri_post read-uri.ensures.uri_rowed _
-    (omega (arith, if1.true)))
+pub returns-in_err-u : goal.returns-in_err-u
+returns-in_err-u c =
+    rw (passed-on c.from_residual.ensures.1)
+    (pair-first c.requires c.in_err-u.ensures.uri_post c.in_err-u.ensures.uri_rowed _
+    (refusal-some _))
 
-pub read_local-l-requires : goal.read_local-l-requires
-read_local-l-requires c =
-    let pre = c.requires in
-    let read-uri = c.read_uri-u in
-    let if1 = c.if-u-ne0 in
-    name-asks (pre) read-uri.ensures.uri_post read-uri.ensures.uri_rowed if1.false
+pub read_local-requires : goal.read_local-requires
+read_local-requires c =
+    name-asks c.requires c.in_ok-u.ensures.uri_post c.in_ok-u.ensures.uri_rowed refl
 
-pub returns-then-l-ne0 : goal.returns-then-l-ne0
-returns-then-l-ne0 c =
-    let pre = c.requires in
-    let read-uri = c.read_uri-u in
-    let if1 = c.if-u-ne0 in
-    let read-local = c.read_local-l in
-    let if2 = c.if-l-ne0 in
-    rw c.stopped-then-l-ne0.ensures (pair-second (pre) read-uri.ensures.uri_post read-uri.ensures.uri_rowed if1.false _ read-local.ensures.name_post read-local.ensures.name_rowed (omega (arith, if2.true)))
+pub returns-in_err-l : goal.returns-in_err-l
+returns-in_err-l c =
+    rw (passed-on c.from_residual-in_err-l.ensures.1)
+    (pair-second c.requires c.in_ok-u.ensures.uri_post c.in_ok-u.ensures.uri_rowed refl _
+    c.in_err-l.ensures.name_post c.in_err-l.ensures.name_rowed (refusal-some _))
 
 pub returns : goal.returns
 returns c =
-    let pre = c.requires in
-    let read-uri = c.read_uri-u in
-    let if1 = c.if-u-ne0 in
-    let read-local = c.read_local-l in
-    let if2 = c.if-l-ne0 in
-    rw c.paired.ensures (pair_read (pre) read-uri.ensures.uri_post read-uri.ensures.uri_rowed if1.false _ read-local.ensures.name_post read-local.ensures.name_rowed if2.false)
+    rw c.paired.ensures
+    (pair_read c.requires c.in_ok-u.ensures.uri_post c.in_ok-u.ensures.uri_rowed refl _
+    c.in_ok-l.ensures.name_post c.in_ok-l.ensures.name_rowed refl)

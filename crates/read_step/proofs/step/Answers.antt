@@ -1,32 +1,27 @@
 use Rattle.read_event.proofs.Steps.{event-asks, step-refused}
 use Rattle.read_event.proofs.Returns.{production-asks, code-refused}
 use mathlib.Core.Path.{refl}
-use native.Mathlib.Omega.{arith}
-use borrow.Author.Rules.{rules}
+use Rattle.read_field.proofs.View.{refusal-some}
 use Rattle.read_step.proofs.step.Goals as goal
 
-pub read_production-p-requires : goal.read_production-p-requires
-read_production-p-requires c =
-    let pre = c.requires in
-    production-asks (event-asks (pre))
+pub read_production-code-requires : goal.read_production-code-requires
+read_production-code-requires c = production-asks (event-asks c.requires)
 
-pub returns-then-p-ne0 : goal.returns-then-p-ne0
-returns-then-p-ne0 c =
+pub returns-in-Err : goal.returns-in-Err
+returns-in-Err c =
     let pre = c.requires in
-    let read-production = c.read_production-p in
-    let if1 = c.if-p-ne0 in
-    rw c.answer.ensures (step-refused (pre) (code-refused (event-asks (pre)) read-production.ensures (omega (arith, if1.true))) (omega (arith, if1.true)))
+    let some = refusal-some c.in-Err.refusal in
+    rw (c.answer.ensures, c.number.ensures)
+    (step-refused pre (code-refused (event-asks pre) c.in-Err.ensures some) some)
 
 pub learned-requires : goal.learned-requires
 learned-requires c =
     let pre = c.requires in
-    let read-production = c.read_production-p in
-    let if1 = c.if-p-ne0 in
     let if2 = c.if-p in
     record {
       step_pre = pre;
       by_code_pre = record {
-        code = record { post = read-production.ensures; good = if1.false };
+        code = record { post = c.in-Ok.ensures; good = refl };
         is = if2.true;
       };
     }
@@ -46,13 +41,11 @@ returns-then-p c = c.learned.ensures
 pub fixed-requires : goal.fixed-requires
 fixed-requires c =
     let pre = c.requires in
-    let read-production = c.read_production-p in
-    let if1 = c.if-p-ne0 in
     let if2 = c.if-p in
     record {
       step_pre = pre;
       by_code_pre = record {
-        code = record { post = read-production.ensures; good = if1.false };
+        code = record { post = c.in-Ok.ensures; good = refl };
         is = if2.false;
       };
     }

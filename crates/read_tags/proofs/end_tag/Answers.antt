@@ -2,7 +2,7 @@ use Rattle.read_tags.proofs.Plain.{end-loose, end-strict}
 use Rattle.spec_exi.specs.Grammar.{kind_number}
 use Rattle.spec_fields.specs.Refusal.{number_of}
 use native.Mathlib.Omega.{arith}
-use borrow.Author.Rules.{rules}
+use mathlib.Core.Path.{refl}
 use Rattle.read_tags.proofs.end_tag.Goals as goal
 
 pub find_learned-requires : goal.find_learned-requires
@@ -15,14 +15,12 @@ find_learned-requires c =
       few = pre.tag_pre.bounded.learned;
     }
 
-pub returns-then-find_learned-ne0 : goal.returns-then-find_learned-ne0
+pub returns-in-Some : goal.returns-in-Some
 unfolding kind_number number_of
-returns-then-find_learned-ne0 c =
+returns-in-Some c =
     let pre = c.requires in
-    let find-learned = c.find_learned in
-    let if1 = c.if-find_learned-ne0 in
-    rw c.answer.ensures (end-loose pre.tag_pre pre.learned_value find-learned.ensures if1.true
-    c.args.fragment)
+    rw c.answer.ensures (end-loose pre.tag_pre pre.learned_value c.in-Some.ensures
+    (λ z. absurd (omega (arith, z))) c.args.fragment)
 
 pub known_end-requires : goal.known_end-requires
 known_end-requires c = c.requires.tag_pre
@@ -34,8 +32,5 @@ pub returns : goal.returns
 unfolding kind_number
 returns c =
     let pre = c.requires in
-    let find-learned = c.find_learned in
-    let if1 = c.if-find_learned-ne0 in
-    let known-end = c.known_end in
-    end-strict pre.tag_pre pre.learned_value find-learned.ensures if1.false pre.mode_value
-    known-end.ensures
+    end-strict pre.tag_pre pre.learned_value c.in_default.ensures refl pre.mode_value
+    c.known_end.ensures

@@ -2,13 +2,12 @@ use Rattle.receiver_look.proofs.Events.{content-nothing, content-name, content-a
 use Rattle.receiver_look.proofs.Events.{content-characters, content-comment}
 use Rattle.receiver_look.proofs.Events.{content-instruction}
 use Rattle.receiver_look.proofs.Hits.{name-asks}
-use borrow.Author.Rules.{rules}
 use Rattle.receiver_look.proofs.content.Goals as goal
 
 -- `content` meets its contract.
 pub returns-then-learned : goal.returns-then-learned
 returns-then-learned c =
-    rw c.nothing.ensures (content-nothing _ _ _ c.requires.hit_pre.spot.place)
+    rw c.unknown.ensures (content-nothing _ _ _ c.requires.hit_pre.spot.place)
 
 pub name-requires : goal.name-requires
 name-requires c =
@@ -49,4 +48,4 @@ returns-in-7 c = content-instruction _ c.in-7.is c.instruction.ensures
 
 pub returns-in_default : goal.returns-in_default
 returns-in_default c =
-    rw c.nothing-in_default.ensures (content-nothing _ _ _ c.requires.hit_pre.spot.place)
+    rw c.unknown-in_default.ensures (content-nothing _ _ _ c.requires.hit_pre.spot.place)

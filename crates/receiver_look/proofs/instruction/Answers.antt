@@ -1,13 +1,23 @@
+use mathlib.Core.Path.{refl}
+use Rattle.std.proofs.lemmas.Result.{err_from_is_err_and}
 use Rattle.receiver_look.proofs.Events.{instruction-seen}
-use Rattle.receiver_look.proofs.Names.{then-spot}
+use Rattle.receiver_look.proofs.Names.{then-spot, then-after, then-stays}
 use Rattle.receiver_look.proofs.instruction.Goals as goal
 
 -- `instruction` meets its contract.
-pub string-t-requires : goal.string-t-requires
-string-t-requires c = c.requires
+pub string-requires : goal.string-requires
+string-requires c = c.requires
 
-pub then_string-requires : goal.then_string-requires
-then_string-requires c = then-spot c.requires c.string-t.ensures.bounds
+pub returns-in_err-next : goal.returns-in_err-next
+returns-in_err-next c =
+    let p = err_from_is_err_and c.from_residual.result c.from_residual.ensures.1 in
+    let t = c.in_err-next.ensures in
+    rw (p.1, p.2) (instruction-seen t (then-stays (then-spot c.requires t.bounds) refl))
+
+pub string-requires-2 : goal.string-requires-2
+string-requires-2 c = (then-spot c.requires c.in_ok-next.ensures.bounds).spot
 
 pub returns : goal.returns
-returns c = instruction-seen c.string-t.ensures c.then_string.ensures
+returns c =
+    let t = c.in_ok-next.ensures in
+    instruction-seen t (then-after (then-spot c.requires t.bounds) refl c.string-2.ensures)

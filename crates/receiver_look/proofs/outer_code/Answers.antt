@@ -22,4 +22,5 @@ pub returns : goal.returns
 unfolding settings_from
 returns c =
     outer-read (settings_from c.args.o) _ (production-asks c.requires.look_pre)
-    (omega (arith, c.if-c-eq-IN_FRAGMENT.false, c.requires.mode_lt_in_tag)) c.read_fixed.ensures
+    (omega (arith, c.if-c-eq-IN_FRAGMENT.false, c.requires.mode_lt_in_tag))
+    (c.read_fixed.ensures _ c.requires.look_pre.spot.place)

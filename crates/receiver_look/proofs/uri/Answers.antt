@@ -1,8 +1,8 @@
+use mathlib.Core.Path.{refl}
 use native.Mathlib.Omega.{arith}
 use Rattle.spec_exi.specs.Sizes.{max_uris}
 use Rattle.receiver_look.proofs.Names.{choice-asks, uri-nothing, uri-spot, uri-missed}
 use Rattle.receiver_look.proofs.Names.{uri-found}
-use borrow.Author.Rules.{rules}
 use Rattle.receiver_look.proofs.uri.Goals as goal
 
 -- `uri` meets its contract.
@@ -13,19 +13,15 @@ overflow_add-uris c = omega (arith, c.requires.few)
 pub choice-requires : goal.choice-requires
 choice-requires c = choice-asks c.requires
 
+pub returns-in_default : goal.returns-in_default
+returns-in_default c = rw c.unknown.ensures (uri-nothing c.requires _)
+
 pub string-requires : goal.string-requires
-string-requires c =
-    uri-spot c.requires _ c.choice.ensures c.in-Value.is
+string-requires c = uri-spot c.requires _ c.in-Ok.ensures refl
 
-pub returns-then-value-eq0 : goal.returns-then-value-eq0
-returns-then-value-eq0 c =
-    uri-missed c.requires _ c.choice.ensures c.in-Value.is c.if-value-eq0.true
-    c.string.ensures
+pub returns-then-number-eq0 : goal.returns-then-number-eq0
+returns-then-number-eq0 c =
+    uri-missed c.requires _ c.in-Ok.ensures refl c.if-number-eq0.true c.string.ensures
 
-pub returns-in-Refused : goal.returns-in-Refused
-returns-in-Refused c =
-    rw c.nothing.ensures (uri-nothing c.requires _)
-
-pub returns-else-value-eq0 : goal.returns-else-value-eq0
-returns-else-value-eq0 c =
-    uri-found c.requires _ c.choice.ensures c.in-Value.is c.if-value-eq0.false
+pub returns : goal.returns
+returns c = uri-found c.requires _ c.in-Ok.ensures refl c.if-number-eq0.false

@@ -3,6 +3,6 @@ use borrow.Author.Rules.{rules}
 use Rattle.receiver_phases.proofs.refuse.Goals as goal
 
 -- `refuse` meets its contract.
-pub returns : goal.returns
-returns c =
-    refuses _ _ _ _ c.clear_all.ensures c.count-n.ensures c.refused_after-reply.ensures
+pub returns-clause-value : goal.returns-clause-value
+returns-clause-value c =
+    refuses _ _ _ _ c.clear_all.ensures.value c.count-n.ensures c.refused_after-reply.ensures

@@ -3,9 +3,8 @@ use borrow.Author.Rules.{rules}
 use Rattle.receiver_phases.proofs.repeat.Goals as goal
 
 -- `repeat` meets its contract.
-pub returns-then-reply-eq0 : goal.returns-then-reply-eq0
-returns-then-reply-eq0 c = repeats-as-it-was _ _ c.if-reply-eq0.true
+pub returns-then-reply-ne0-clause-value : goal.returns-then-reply-ne0-clause-value
+returns-then-reply-ne0-clause-value c = repeats-cleared _ _ c.if-reply-ne0.true c.clear_all.ensures.value
 
-pub returns : goal.returns
-returns c =
-    repeats-cleared _ _ c.if-reply-eq0.false c.clear_all.ensures
+pub returns-else-reply-ne0-clause-value : goal.returns-else-reply-ne0-clause-value
+returns-else-reply-ne0-clause-value c = repeats-as-it-was _ _ c.if-reply-ne0.false

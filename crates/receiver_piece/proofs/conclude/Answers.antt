@@ -16,18 +16,6 @@ unfolding max_events
 overflow_cast-a c =
     omega (arith, c.requires.up_to)
 
-pub shape_of-held : goal.shape_of-held
-shape_of-held c = c.held-1.given
-
-pub shape_of-events : goal.shape_of-events
-shape_of-events c = c.events-1.given
-
-pub shape_of-text : goal.shape_of-text
-shape_of-text c = c.text-1.given
-
-pub shape_of-work : goal.shape_of-work
-shape_of-work c = c.work-1.given
-
 pub returns : goal.returns
-returns c =
-    concludes-refused _ _ _ _ _ c.if-a.false c.refusal_at-y.ensures c.refuse.ensures
+returns c = concludes-refused _ _ _ _ _ c.if-a.false c.refusal_at-y.ensures
+    (search (rules, c.refuse.ensures.value))

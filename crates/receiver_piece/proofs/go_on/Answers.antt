@@ -3,7 +3,7 @@ use native.Mathlib.Omega.{arith}
 use Rattle.spec_exi.specs.Sizes.{max_stream}
 use Rattle.receiver_piece.proofs.Piece.{keep-asks, still-asks, advanced-asks, cut-asks}
 use Rattle.receiver_piece.proofs.Piece.{reached-still, reached-on, conclude-asks, goes_on}
-use borrow.Author.Rules.{rules}
+use Rattle.read_field.proofs.View.{refusal-some}
 use Rattle.receiver_piece.proofs.go_on.Goals as goal
 use Rattle.receiver_piece.proofs.go_on.Goals.{After-held-1, After-slice_known-4-1}
 
@@ -16,32 +16,33 @@ unfolding max_stream
 overflow_add-n c =
     omega (arith, c.requires.few)
 
-pub still-s-requires : goal.still-s-requires
-still-s-requires c =
+pub still-requires : goal.still-requires
+still-requires c =
     still-asks c.requires _ c.held-1.given
 
 pub stay-requires : goal.stay-requires
 stay-requires c =
     conclude-asks c.requires c.keep.ensures (reached-still c.requires (advanced-asks
-    c.requires c.outermost-row.ensures.places _ c.held-1.given) c.still-s.ensures
-    c.if-s-ne0.true)
+    c.requires c.outermost-row.ensures.places _ c.held-1.given) c.in-Err.ensures
+    (λ z. absurd (omega (arith, z, refusal-some c.in-Err.s.refusal))))
 
-pub shape_of-held-then-s-ne0 : goal.shape_of-held-then-s-ne0
-shape_of-held-then-s-ne0 c =
-    c.held-then-s-ne0-1.given ∙ c.held-1.given
+pub shape_of-held-in-Err : goal.shape_of-held-in-Err
+shape_of-held-in-Err c =
+    c.held-in-Err-1.given ∙ c.held-1.given
 
-pub shape_of-events-then-s-ne0 : goal.shape_of-events-then-s-ne0
-shape_of-events-then-s-ne0 c = c.events-1.given
+pub shape_of-events-in-Err : goal.shape_of-events-in-Err
+shape_of-events-in-Err c = c.events-1.given
 
-pub shape_of-text-then-s-ne0 : goal.shape_of-text-then-s-ne0
-shape_of-text-then-s-ne0 c = c.text-1.given
+pub shape_of-text-in-Err : goal.shape_of-text-in-Err
+shape_of-text-in-Err c = c.text-1.given
 
-pub shape_of-work-then-s-ne0 : goal.shape_of-work-then-s-ne0
-shape_of-work-then-s-ne0 c = c.work-1.given
+pub shape_of-work-in-Err : goal.shape_of-work-in-Err
+shape_of-work-in-Err c = c.work-1.given
 
-pub returns-then-s-ne0 : goal.returns-then-s-ne0
-returns-then-s-ne0 c =
-    goes_on c.requires c.keep.ensures (reached-still c.requires (advanced-asks c.requires c.outermost-row.ensures.places _ c.held-1.given) c.still-s.ensures c.if-s-ne0.true) (record { held = c.held-1.given; events = refl; text = refl; work = refl }) c.stay.ensures
+pub returns-in-Err : goal.returns-in-Err
+returns-in-Err c =
+    goes_on c.requires c.keep.ensures (reached-still c.requires (advanced-asks c.requires c.outermost-row.ensures.places _ c.held-1.given) c.in-Err.ensures
+    (λ z. absurd (omega (arith, z, refusal-some c.in-Err.s.refusal)))) (record { held = c.held-1.given; events = refl; text = refl; work = refl }) c.stay.ensures
 
 pub overflow_add-n-2 : goal.overflow_add-n-2
 unfolding max_stream

@@ -1,6 +1,5 @@
 use mathlib.Core.Path.{refl}
 use native.Mathlib.Omega.{arith}
-use borrow.Author.Rules.{rules}
 use Rattle.receiver_read.proofs.pass_header.Goals as goal
 
 -- `pass_header` meets its contract.

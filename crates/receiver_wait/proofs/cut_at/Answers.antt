@@ -2,7 +2,6 @@ use native.Mathlib.Omega.{arith}
 use mathlib.Core.Path.{◌≡◌}
 use Prim.Native.Nat.{◌-◌}
 use Rattle.receiver_wait.proofs.Asks.{look-asks, cut-nothing, cut-looked}
-use borrow.Author.Rules.{rules}
 use Rattle.receiver_wait.proofs.cut_at.Goals as goal
 
 -- `cut_at` meets its contract.
@@ -13,11 +12,16 @@ pub returns-then-c-eq0 : goal.returns-then-c-eq0
 returns-then-c-eq0 c =
     cut-nothing c.requires _ _ c.nothing-then-c-eq0.ensures
 
-pub look-l-requires : goal.look-l-requires
-look-l-requires c =
+pub look-requires : goal.look-requires
+look-requires c =
     let e : c.args.n - 0 ≡ c.args.n = omega arith in rw e (look-asks c.requires)
 
-pub returns : goal.returns
-returns c =
+pub returns-in-Ok : goal.returns-in-Ok
+returns-in-Ok c =
     let e : c.args.n - 0 ≡ c.args.n = omega arith in
-    cut-looked c.requires c.if-number-ne-ENDED.false c.if-c-eq0.false (rw e at c.look-l.ensures)
+    cut-looked c.requires c.if-number-ne-ENDED.false c.if-c-eq0.false (rw e at c.in-Ok.ensures)
+
+pub returns-in-Err : goal.returns-in-Err
+returns-in-Err c =
+    let e : c.args.n - 0 ≡ c.args.n = omega arith in
+    cut-looked c.requires c.if-number-ne-ENDED.false c.if-c-eq0.false (rw e at c.in-Err.ensures)

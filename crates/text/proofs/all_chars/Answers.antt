@@ -1,26 +1,16 @@
-use mathlib.Core.Path.{◌≡◌, sym, ◌∙◌}
-use Prim.Native.Nat.{◌≤◌, ◌-◌}
-use lib.ListN.{length, drop}
 use borrow.Author.Rules.{rules}
-use borrow.Author.Tests.{not-true, not-false}
-use Rattle.text.specs.Text.{all_chars}
-use Rattle.text.proofs.Rest.{chars-end, chars-stop, chars-on}
+use mathlib.Core.Path.{◌≡◌}
+use mathlib.Core.Bool.{true, false}
+use borrow.Author.Tests.{tests}
+use Rattle.std.proofs.lemmas.Iterator.{cases_from_all, YieldsList-from_slice}
+use Rattle.text.specs.Text.{is_char}
+use Rattle.text.proofs.Rest.{chars-decide}
 use Rattle.text.proofs.all_chars.Goals as goal
 
--- `text::all_chars` meets its contract. The loop's invariant: what is left has only Chars exactly where the whole
--- text has.
-pub returns-then-not-is_char : goal.returns-then-not-is_char
-returns-then-not-is_char c =
-    let bad = sym c.is_char.ensures ∙ not-true _ c.if-not-is_char.true-raw in
-    chars-stop _ _ c.loop-i-test.true bad ∙ c.loop-i.invariant.1
-
-pub loop-i-preserved : goal.loop-i-preserved
-loop-i-preserved c =
-    let good = sym c.is_char.ensures ∙ not-false _ c.if-not-is_char.false-raw in (
-      search rules,
-      chars-on _ _ c.loop-i-test.true good
-          ∙ c.loop-i.invariant.1,
-    )
-
+-- `text::all_chars` meets its contract: each code point is asked for in turn.
 pub returns : goal.returns
-returns c = chars-end _ _ c.loop-i-test.false ∙ c.loop-i.invariant.1
+returns c =
+    chars-decide _ _
+    (cases_from_all _ _ _ (λ p. is_char p ≡ true) (λ p. is_char p ≡ false) c.all.ensures.ran
+    (YieldsList-from_slice c.args.x.now cc)
+    (λ x q k. search (rules, tests)) (λ x q k. search (rules, tests)))

@@ -1,39 +1,27 @@
-use Rattle.write_content.proofs.Named.{value-asks, attribute-refused, attribute-value-refused, attribute-judged}
-use native.Mathlib.Omega.{arith}
+use mathlib.Core.Path.{refl}
 use borrow.Author.Rules.{rules}
+use Rattle.std.proofs.lemmas.Result.{err_from_is_err_and}
+use Rattle.write_partition.proofs.Tests.{number-some}
+use Rattle.write_content.proofs.Named.{value-asks, attribute-refused, attribute-value-refused, attribute-judged}
 use Rattle.write_content.proofs.judge_attribute.Goals as goal
 
-pub returns-then-n-ne0 : goal.returns-then-n-ne0
-returns-then-n-ne0 c =
-    let pre = c.requires in
-    let judge-name = c.judge_name-n in
-    let if1 = c.if-n-ne0 in
-    rw c.stopped.ensures (attribute-refused pre judge-name.ensures _ (omega (arith, if1.true)))
+pub returns-in_err-n : goal.returns-in_err-n
+returns-in_err-n c =
+    let p = err_from_is_err_and c.from_residual.result c.from_residual.ensures.1 in
+    rw (p.1, p.2) (attribute-refused c.requires c.in_err-n.ensures _
+    (number-some c.in_err-n.field-0.0))
 
-pub judge_value-v-requires : goal.judge_value-v-requires
-judge_value-v-requires c =
-    let pre = c.requires in
-    let judge-name = c.judge_name-n in
-    let if1 = c.if-n-ne0 in
-    value-asks pre judge-name.ensures if1.false
+pub judge_value-requires : goal.judge_value-requires
+judge_value-requires c = value-asks c.requires c.in_ok-n.ensures refl
 
-pub returns-then-v-ne0 : goal.returns-then-v-ne0
-returns-then-v-ne0 c =
-    let pre = c.requires in
-    let judge-name = c.judge_name-n in
-    let if1 = c.if-n-ne0 in
-    let look_up = c.look_up-x in
-    let judge-value = c.judge_value-v in
-    let if2 = c.if-v-ne0 in
-    rw c.stopped-then-v-ne0.ensures (attribute-value-refused pre judge-name.ensures _ if1.false
-    look_up.ensures.result_value judge-value.ensures (omega (arith, if2.true)))
+pub returns-in_err-v : goal.returns-in_err-v
+returns-in_err-v c =
+    let p = err_from_is_err_and c.from_residual-in_err-v.result c.from_residual-in_err-v.ensures.1 in
+    rw (p.1, p.2) (attribute-value-refused c.requires c.in_ok-n.ensures _ refl
+    c.look_up-x.ensures.result_value c.in_err-v.ensures
+    (number-some c.in_err-v.field-0.0))
 
 pub returns : goal.returns
 returns c =
-    let pre = c.requires in
-    let judge-name = c.judge_name-n in
-    let if1 = c.if-n-ne0 in
-    let look_up = c.look_up-x in
-    let judge-value = c.judge_value-v in
-    let if2 = c.if-v-ne0 in
-    rw c.with_value.ensures (attribute-judged pre judge-name.ensures _ if1.false look_up.ensures.result_value judge-value.ensures if2.false)
+    rw c.with_value.ensures (attribute-judged c.requires c.in_ok-n.ensures _ refl
+    c.look_up-x.ensures.result_value c.in_ok-v.ensures refl)

@@ -1,23 +1,17 @@
-use Rattle.write_content.proofs.Unnamed.{characters-refused, characters-judged}
-use native.Mathlib.Omega.{arith}
+use mathlib.Core.Path.{refl}
 use borrow.Author.Rules.{rules}
+use Rattle.std.proofs.lemmas.Result.{err_from_is_err_and}
+use Rattle.write_partition.proofs.Tests.{number-some}
+use Rattle.write_content.proofs.Unnamed.{characters-refused, characters-judged}
 use Rattle.write_content.proofs.judge_characters.Goals as goal
 
-pub returns-then-v-ne0 : goal.returns-then-v-ne0
-returns-then-v-ne0 c =
-    let pre = c.requires in
-    let look_up = c.look_up-x in
-    let judge-value = c.judge_value-v in
-    let if1 = c.if-v-ne0 in
-    rw c.stopped.ensures (characters-refused pre _ look_up.ensures.result_value judge-value.ensures
-    (omega (arith, if1.true)))
+pub returns-in_err-v : goal.returns-in_err-v
+returns-in_err-v c =
+    let p = err_from_is_err_and c.from_residual.result c.from_residual.ensures.1 in
+    rw (p.1, p.2) (characters-refused c.requires _ c.look_up-x.ensures.result_value c.in_err-v.ensures
+    (number-some c.in_err-v.field-0.0))
 
 pub returns : goal.returns
 returns c =
-    let pre = c.requires in
-    let look_up = c.look_up-x in
-    let judge-value = c.judge_value-v in
-    let if1 = c.if-v-ne0 in
-    let no-strings = c.no_strings-strings in
-    rw (c.with_value.ensures, no-strings.ensures) (characters-judged pre _ look_up.ensures.result_value
-    judge-value.ensures if1.false)
+    rw (c.with_value.ensures, c.no_strings.ensures) (characters-judged c.requires _
+    c.look_up-x.ensures.result_value c.in_ok-v.ensures refl)

@@ -1,26 +1,20 @@
-use Rattle.write_content.proofs.Unnamed.{comment-refused, comment-judged}
-use native.Mathlib.Omega.{arith}
-use Rattle.name_rules.specs.Texts.{role_of}
+use mathlib.Core.Path.{refl}
 use borrow.Author.Rules.{rules}
+use Rattle.std.proofs.lemmas.Result.{err_from_is_err_and}
+use Rattle.write_partition.proofs.Tests.{number-some}
+use Rattle.name_rules.specs.Texts.{role_in}
+use Rattle.write_content.proofs.Unnamed.{comment-refused, comment-judged}
 use Rattle.write_content.proofs.judge_comment.Goals as goal
 
-pub returns-then-v-ne0 : goal.returns-then-v-ne0
-unfolding role_of
-returns-then-v-ne0 c =
-    let pre = c.requires in
-    let look_up = c.look_up-x in
-    let judge-text = c.judge_text-v in
-    let if1 = c.if-v-ne0 in
-    rw c.stopped.ensures (comment-refused pre _ look_up.ensures.result_value judge-text.ensures
-    (omega (arith, if1.true)))
+pub returns-in_err-v : goal.returns-in_err-v
+unfolding role_in
+returns-in_err-v c =
+    let p = err_from_is_err_and c.from_residual.result c.from_residual.ensures.1 in
+    rw (p.1, p.2) (comment-refused c.requires _ c.look_up-x.ensures.result_value c.in_err-v.ensures
+    (number-some c.in_err-v.field-0.0))
 
 pub returns : goal.returns
-unfolding role_of
+unfolding role_in
 returns c =
-    let pre = c.requires in
-    let look_up = c.look_up-x in
-    let judge-text = c.judge_text-v in
-    let if1 = c.if-v-ne0 in
-    let no-strings = c.no_strings-strings in
-    rw (c.plain.ensures, no-strings.ensures) (comment-judged pre _ look_up.ensures.result_value
-    judge-text.ensures if1.false)
+    rw (c.plain.ensures, c.no_strings.ensures) (comment-judged c.requires _
+    c.look_up-x.ensures.result_value c.in_ok-v.ensures refl)

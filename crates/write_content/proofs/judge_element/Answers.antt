@@ -1,18 +1,15 @@
-use Rattle.write_content.proofs.Named.{element-refused, element-judged}
-use native.Mathlib.Omega.{arith}
+use mathlib.Core.Path.{refl}
 use borrow.Author.Rules.{rules}
+use Rattle.std.proofs.lemmas.Result.{err_from_is_err_and}
+use Rattle.write_partition.proofs.Tests.{number-some}
+use Rattle.write_content.proofs.Named.{element-refused, element-judged}
 use Rattle.write_content.proofs.judge_element.Goals as goal
 
-pub returns-then-n-ne0 : goal.returns-then-n-ne0
-returns-then-n-ne0 c =
-    let pre = c.requires in
-    let judge-name = c.judge_name-n in
-    let if1 = c.if-n-ne0 in
-    rw c.stopped.ensures (element-refused pre judge-name.ensures (omega (arith, if1.true)))
+pub returns-in_err-n : goal.returns-in_err-n
+returns-in_err-n c =
+    let p = err_from_is_err_and c.from_residual.result c.from_residual.ensures.1 in
+    rw (p.1, p.2) (element-refused c.requires c.in_err-n.ensures
+    (number-some c.in_err-n.field-0.0))
 
 pub returns : goal.returns
-returns c =
-    let pre = c.requires in
-    let judge-name = c.judge_name-n in
-    let if1 = c.if-n-ne0 in
-    rw c.plain.ensures (element-judged pre judge-name.ensures if1.false)
+returns c = rw c.plain.ensures (element-judged c.requires c.in_ok-n.ensures refl)

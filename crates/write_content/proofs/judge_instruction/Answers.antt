@@ -1,41 +1,29 @@
-use Rattle.write_content.proofs.Unnamed.{target-refused, instruction-refused, instruction-judged}
-use native.Mathlib.Omega.{arith}
-use Rattle.name_rules.specs.Texts.{role_of}
+use mathlib.Core.Path.{refl}
 use borrow.Author.Rules.{rules}
+use Rattle.std.proofs.lemmas.Result.{err_from_is_err_and}
+use Rattle.write_partition.proofs.Tests.{number-some}
+use Rattle.name_rules.specs.Texts.{role_in}
+use Rattle.write_content.proofs.Unnamed.{target-refused, instruction-refused, instruction-judged}
 use Rattle.write_content.proofs.judge_instruction.Goals as goal
 
-pub returns-then-t-ne0 : goal.returns-then-t-ne0
-unfolding role_of
-returns-then-t-ne0 c =
-    let pre = c.requires in
-    let look_up = c.look_up-y in
-    let judge-text = c.judge_text-t in
-    let if1 = c.if-t-ne0 in
-    rw c.stopped.ensures (target-refused pre _ _ look_up.ensures.result_value judge-text.ensures
-    (omega (arith, if1.true)))
+pub returns-in_err-t : goal.returns-in_err-t
+unfolding role_in
+returns-in_err-t c =
+    let p = err_from_is_err_and c.from_residual.result c.from_residual.ensures.1 in
+    rw (p.1, p.2) (target-refused c.requires _ _ c.look_up-y.ensures.result_value c.in_err-t.ensures
+    (number-some c.in_err-t.field-0.0))
 
-pub returns-then-v-ne0 : goal.returns-then-v-ne0
-unfolding role_of
-returns-then-v-ne0 c =
-    let pre = c.requires in
-    let look_up = c.look_up-y in
-    let judge-text = c.judge_text-t in
-    let if1 = c.if-t-ne0 in
-    let look-up2 = c.look_up-x in
-    let judge-text2 = c.judge_text-v in
-    let if2 = c.if-v-ne0 in
-    rw c.stopped-then-v-ne0.ensures (instruction-refused pre _ _ look_up.ensures.result_value judge-text.ensures if1.false look-up2.ensures.result_value judge-text2.ensures (omega (arith, if2.true)))
+pub returns-in_err-v : goal.returns-in_err-v
+unfolding role_in
+returns-in_err-v c =
+    let p = err_from_is_err_and c.from_residual-in_err-v.result c.from_residual-in_err-v.ensures.1 in
+    rw (p.1, p.2) (instruction-refused c.requires _ _ c.look_up-y.ensures.result_value c.in_ok-t.ensures refl
+    c.look_up-x.ensures.result_value c.in_err-v.ensures
+    (number-some c.in_err-v.field-0.0))
 
 pub returns : goal.returns
-unfolding role_of
+unfolding role_in
 returns c =
-    let pre = c.requires in
-    let look_up = c.look_up-y in
-    let judge-text = c.judge_text-t in
-    let if1 = c.if-t-ne0 in
-    let look-up2 = c.look_up-x in
-    let judge-text2 = c.judge_text-v in
-    let if2 = c.if-v-ne0 in
-    let no-strings = c.no_strings-strings in
-    rw (c.plain.ensures, no-strings.ensures) (instruction-judged pre _ _ look_up.ensures.result_value
-    judge-text.ensures if1.false look-up2.ensures.result_value judge-text2.ensures if2.false)
+    rw (c.plain.ensures, c.no_strings.ensures) (instruction-judged c.requires _ _
+    c.look_up-y.ensures.result_value c.in_ok-t.ensures refl c.look_up-x.ensures.result_value
+    c.in_ok-v.ensures refl)

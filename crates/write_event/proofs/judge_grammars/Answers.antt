@@ -8,8 +8,7 @@ returns-then-not-allows c =
     let growth = c.growth-growth in
     let allows = c.allows in
     let if1 = c.if-not-allows in
-    rw c.refused.ensures (grammars-equal _ _ code_here.ensures growth.ensures
-    allows.ensures if1.true-raw)
+    grammars-equal _ _ code_here.ensures growth.ensures allows.ensures if1.true-raw
 
 pub returns-then-not-fits : goal.returns-then-not-fits
 returns-then-not-fits c =
@@ -19,8 +18,8 @@ returns-then-not-fits c =
     let if1 = c.if-not-allows in
     let fits2 = c.fits in
     let if2 = c.if-not-fits in
-    rw c.refused-then-not-fits.ensures (grammars-limit _ _ code_here.ensures growth.ensures
-    allows.ensures if1.false-raw fits2.ensures if2.true-raw)
+    grammars-limit _ _ code_here.ensures growth.ensures allows.ensures if1.false-raw fits2.ensures
+    if2.true-raw
 
 pub returns : goal.returns
 returns c =

@@ -10,7 +10,7 @@ returns-then-m-le1 c = put-sole c.requires c.if-m-le1.true c.slice_known-1.given
 
 pub put_few-requires : goal.put_few-requires
 put_few-requires c =
-    rw c.few.ensures (few-of c.requires c.if-m-le256.true _)
+    rw c.taken.ensures (few-of c.requires c.if-m-le256.true _)
 
 pub shape_of-buf-then-m-le256 : goal.shape_of-buf-then-m-le256
 shape_of-buf-then-m-le256 c = put-length c.put_few.ensures
@@ -19,7 +19,7 @@ pub returns-then-m-le256 : goal.returns-then-m-le256
 returns-then-m-le256 c =
     let some = c.if-m-le1.false in
     put-one-of c.requires c.if-m-le256.true (omega (arith, some)) _
-    (rw c.few.ensures at c.put_few.ensures)
+    (rw c.taken.ensures at c.put_few.ensures)
 
 pub put_number-requires : goal.put_number-requires
 put_number-requires c =

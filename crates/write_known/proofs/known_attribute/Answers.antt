@@ -1,3 +1,5 @@
+use mathlib.Core.Path.{refl}
+use Rattle.write_partition.proofs.Tests.{number-some}
 use Rattle.spec_fields.specs.Refusal.{number_of}
 use native.Mathlib.Omega.{arith}
 use Rattle.write_known.proofs.Attributes.{attribute-outside, attribute-stopped, attribute-stepped}
@@ -12,12 +14,12 @@ returns-then-not-is_inside c =
     (attribute-outside c.requires.step_pre c.requires.learned_pre c.requires.mode_value _ _
     c.is_inside.ensures c.if-not-is_inside.true-raw)
 
-pub returns-then-v-ne0 : goal.returns-then-v-ne0
-returns-then-v-ne0 c =
-    rw c.answer-then-v-ne0.ensures
+pub returns-in-Err : goal.returns-in-Err
+returns-in-Err c =
+    rw (c.answer-in-Err.ensures, c.number.ensures)
     (attribute-stopped c.requires.step_pre c.requires.learned_pre c.requires.mode_value _ _
     c.is_inside.ensures c.if-not-is_inside.false-raw c.look_up-x.ensures.result_value
-    c.judge_value-v.ensures (omega (arith, c.if-v-ne0.true)))
+    c.in-Err.ensures (number-some c.in-Err.k))
 
 pub put_learned-next-requires : goal.put_learned-next-requires
 put_learned-next-requires c =
@@ -26,7 +28,7 @@ put_learned-next-requires c =
 pub keep_value-at-requires : goal.keep_value-at-requires
 keep_value-at-requires c =
     keep-asks c.requires.step_pre c.put_learned-next.ensures
-    c.judge_value-v.ensures c.if-v-ne0.false c.requires.name_lt_name_rows
+    c.in-Ok.ensures refl c.requires.name_lt_name_rows
 
 pub mark-requires : goal.mark-requires
 mark-requires c =
@@ -41,5 +43,5 @@ returns c =
     rw c.moved_on.ensures
     (attribute-stepped c.requires.step_pre c.requires.learned_pre c.requires.mode_value _ _
     c.is_inside.ensures c.if-not-is_inside.false-raw c.look_up-x.ensures.result_value
-    c.judge_value-v.ensures c.if-v-ne0.false c.requires.name_value
+    c.in-Ok.ensures refl c.requires.name_value
     c.put_learned-next.ensures c.keep_value-at.ensures c.mark.ensures)

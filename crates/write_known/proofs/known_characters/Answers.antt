@@ -1,3 +1,5 @@
+use mathlib.Core.Path.{refl}
+use Rattle.write_partition.proofs.Tests.{number-some}
 use Rattle.spec_exi.specs.Grammar.{kind_number}
 use Rattle.spec_fields.specs.Refusal.{number_of}
 use native.Mathlib.Omega.{arith}
@@ -13,12 +15,12 @@ returns-then-not-is_inside c =
     (characters-outside c.requires.step_pre c.requires.learned_pre _ _ c.is_inside.ensures
     c.if-not-is_inside.true-raw)
 
-pub returns-then-v-ne0 : goal.returns-then-v-ne0
-returns-then-v-ne0 c =
-    rw c.answer-then-v-ne0.ensures
+pub returns-in-Err : goal.returns-in-Err
+returns-in-Err c =
+    rw (c.answer-in-Err.ensures, c.number.ensures)
     (characters-stopped c.requires.step_pre c.requires.learned_pre _ _ c.is_inside.ensures
-    c.if-not-is_inside.false-raw c.look_up-x.ensures.result_value c.judge_value-v.ensures
-    (omega (arith, c.if-v-ne0.true)))
+    c.if-not-is_inside.false-raw c.look_up-x.ensures.result_value c.in-Err.ensures
+    (number-some c.in-Err.k))
 
 pub put_learned-next-requires : goal.put_learned-next-requires
 put_learned-next-requires c =
@@ -27,7 +29,7 @@ put_learned-next-requires c =
 pub keep_value-at-requires : goal.keep_value-at-requires
 keep_value-at-requires c =
     keep-asks c.requires.step_pre c.put_learned-next.ensures
-    c.judge_value-v.ensures c.if-v-ne0.false c.requires.step_pre.bounded.top
+    c.in-Ok.ensures refl c.requires.step_pre.bounded.top
 
 pub next_tag-tag-requires : goal.next_tag-tag-requires
 next_tag-tag-requires c =
@@ -42,6 +44,6 @@ unfolding kind_number
 returns c =
     rw c.moved_on.ensures
     (characters-stepped c.requires.step_pre c.requires.learned_pre _ _ c.is_inside.ensures
-    c.if-not-is_inside.false-raw c.look_up-x.ensures.result_value c.judge_value-v.ensures
-    c.if-v-ne0.false c.put_learned-next.ensures c.keep_value-at.ensures
+    c.if-not-is_inside.false-raw c.look_up-x.ensures.result_value c.in-Ok.ensures
+    refl c.put_learned-next.ensures c.keep_value-at.ensures
     c.content_after-mode.ensures c.next_tag-tag.ensures)

@@ -1,3 +1,6 @@
+use Rattle.write_partition.proofs.Tests.{number-some}
+use Rattle.grammar_codes.specs.Table.{place_as}
+use Rattle.write_event.proofs.Places.{some-level}
 use Rattle.write_new.proofs.New.{attribute-lies}
 use Rattle.write_first.proofs.First.{first-shape, first-outside, first-stopped, first-accepted, content-pre}
 use Rattle.write_content.proofs.Named.{attribute-judged}
@@ -13,48 +16,47 @@ use Rattle.spec_exi.specs.Event.{kind_of}
 use borrow.Author.Rules.{rules}
 use Rattle.write_new.proofs.new_attribute.Goals as goal
 
-pub returns-then-place-eq-MAX_LEVELS : goal.returns-then-place-eq-MAX_LEVELS
-unfolding settings_from kind_of meaning kind_number number_of
-returns-then-place-eq-MAX_LEVELS c =
+pub returns-in_default : goal.returns-in_default
+unfolding place_as settings_from kind_of meaning kind_number number_of
+returns-in_default c =
     rw c.answer.ensures
-    (first-shape c.requires _ _ _ (Attribute _ _ _) refl c.place_of-place.ensures
-    c.if-place-eq-MAX_LEVELS.true)
+    (first-shape c.requires _ _ _ (Attribute _ _ _) refl c.in_default.ensures.is refl)
 
 pub returns-then-not-name-is_inside : goal.returns-then-not-name-is_inside
 unfolding settings_from kind_of meaning kind_number number_of
 returns-then-not-name-is_inside c =
     rw c.answer-then-not-name-is_inside.ensures
-    (first-outside c.requires _ _ _ (Attribute _ _ _) refl c.place_of-place.ensures
-    c.if-place-eq-MAX_LEVELS.false
+    (first-outside c.requires _ _ _ (Attribute _ _ _) refl c.in-Some.ensures.is
+    (some-level c.in-Some.ensures.low)
     (attribute-lies _ _ _ _ c.is_inside.ensures c.is_inside-2.ensures
     c.is_inside-3.ensures) c.if-not-name-is_inside.true-raw)
 
-pub returns-then-q-ne0 : goal.returns-then-q-ne0
+pub returns-in-Err : goal.returns-in-Err
 unfolding settings_from kind_of meaning kind_number
-returns-then-q-ne0 c =
-    rw c.answer-then-q-ne0.ensures
-    (first-stopped c.requires _ _ _ (Attribute _ _ _) refl c.place_of-place.ensures
-    c.if-place-eq-MAX_LEVELS.false
+returns-in-Err c =
+    rw (c.answer-in-Err.ensures, c.number.ensures)
+    (first-stopped c.requires _ _ _ (Attribute _ _ _) refl c.in-Some.ensures.is
+    (some-level c.in-Some.ensures.low)
     (attribute-lies _ _ _ _ c.is_inside.ensures c.is_inside-2.ensures
     c.is_inside-3.ensures) c.if-not-name-is_inside.false-raw
-    (attribute-refused (content-pre c.requires) c.judge_name-q.ensures _
-    (omega (arith, c.if-q-ne0.true))) (omega (arith, c.if-q-ne0.true)))
+    (attribute-refused (content-pre c.requires) c.in-Err.ensures _
+    (number-some c.in-Err.k)) (number-some c.in-Err.k))
 
-pub judge_value-v-requires : goal.judge_value-v-requires
-judge_value-v-requires c =
-    value-asks (content-pre c.requires) c.judge_name-q.ensures c.if-q-ne0.false
+pub judge_value-judged-requires : goal.judge_value-judged-requires
+judge_value-judged-requires c =
+    value-asks (content-pre c.requires) c.in-Ok.ensures refl
 
-pub returns-then-v-ne0 : goal.returns-then-v-ne0
+pub returns-in-Err-judged : goal.returns-in-Err-judged
 unfolding settings_from kind_of meaning kind_number
-returns-then-v-ne0 c =
-    rw c.answer-then-v-ne0.ensures
-    (first-stopped c.requires _ _ _ (Attribute _ _ _) refl c.place_of-place.ensures
-    c.if-place-eq-MAX_LEVELS.false
+returns-in-Err-judged c =
+    rw (c.answer-in-Err-judged.ensures, c.number-in-Err-judged.ensures)
+    (first-stopped c.requires _ _ _ (Attribute _ _ _) refl c.in-Some.ensures.is
+    (some-level c.in-Some.ensures.low)
     (attribute-lies _ _ _ _ c.is_inside.ensures c.is_inside-2.ensures
     c.is_inside-3.ensures) c.if-not-name-is_inside.false-raw
-    (attribute-value-refused (content-pre c.requires) c.judge_name-q.ensures _
-    c.if-q-ne0.false c.look_up-x.ensures.result_value c.judge_value-v.ensures
-    (omega (arith, c.if-v-ne0.true))) (omega (arith, c.if-v-ne0.true)))
+    (attribute-value-refused (content-pre c.requires) c.in-Ok.ensures _
+    refl c.look_up-x.ensures.result_value c.in-Err-judged.ensures
+    (number-some c.in-Err-judged.k)) (number-some c.in-Err-judged.k))
 
 pub add_attribute-requires : goal.add_attribute-requires
 unfolding settings_from kind_of meaning kind_number
@@ -63,10 +65,10 @@ add_attribute-requires c =
       step_pre = c.requires;
       value_accepted = record {
         accepted = first-accepted c.requires _ _ _ (Attribute _ _ _) refl
-            c.place_of-place.ensures c.if-place-eq-MAX_LEVELS.false
+            c.in-Some.ensures.is (some-level c.in-Some.ensures.low)
             (attribute-lies _ _ _ _ c.is_inside.ensures c.is_inside-2.ensures
             c.is_inside-3.ensures) c.if-not-name-is_inside.false-raw
-            (attribute-judged (content-pre c.requires) c.judge_name-q.ensures _ c.if-q-ne0.false
-            c.look_up-x.ensures.result_value c.judge_value-v.ensures c.if-v-ne0.false);
+            (attribute-judged (content-pre c.requires) c.in-Ok.ensures _ refl
+            c.look_up-x.ensures.result_value c.in-Ok-judged.ensures refl);
       };
     }

@@ -1,3 +1,6 @@
+use Rattle.write_partition.proofs.Tests.{number-some}
+use Rattle.grammar_codes.specs.Table.{place_as}
+use Rattle.write_event.proofs.Places.{some-level}
 use Rattle.write_new.proofs.New.{element-lies}
 use Rattle.write_first.proofs.First.{first-shape, first-outside, first-stopped, first-accepted, content-pre}
 use Rattle.write_content.proofs.Named.{element-refused, element-judged}
@@ -12,32 +15,31 @@ use Rattle.spec_exi.specs.Event.{kind_of}
 use borrow.Author.Rules.{rules}
 use Rattle.write_new.proofs.new_element.Goals as goal
 
-pub returns-then-place-eq-MAX_LEVELS : goal.returns-then-place-eq-MAX_LEVELS
-unfolding settings_from kind_of meaning kind_number number_of
-returns-then-place-eq-MAX_LEVELS c =
+pub returns-in_default : goal.returns-in_default
+unfolding place_as settings_from kind_of meaning kind_number number_of
+returns-in_default c =
     rw c.answer.ensures
-    (first-shape c.requires _ _ _ (StartElement _ _) refl c.place_of-place.ensures
-    c.if-place-eq-MAX_LEVELS.true)
+    (first-shape c.requires _ _ _ (StartElement _ _) refl c.in_default.ensures.is refl)
 
 pub returns-then-not-is_inside : goal.returns-then-not-is_inside
 unfolding settings_from kind_of meaning kind_number number_of
 returns-then-not-is_inside c =
     rw c.answer-then-not-is_inside.ensures
-    (first-outside c.requires _ _ _ (StartElement _ _) refl c.place_of-place.ensures
-    c.if-place-eq-MAX_LEVELS.false
+    (first-outside c.requires _ _ _ (StartElement _ _) refl c.in-Some.ensures.is
+    (some-level c.in-Some.ensures.low)
     (element-lies _ _ _ c.is_inside.ensures c.is_inside-2.ensures)
     c.if-not-is_inside.true-raw)
 
-pub returns-then-q-ne0 : goal.returns-then-q-ne0
+pub returns-in-Err : goal.returns-in-Err
 unfolding settings_from kind_of meaning kind_number
-returns-then-q-ne0 c =
-    rw c.answer-then-q-ne0.ensures
-    (first-stopped c.requires _ _ _ (StartElement _ _) refl c.place_of-place.ensures
-    c.if-place-eq-MAX_LEVELS.false
+returns-in-Err c =
+    rw (c.answer-in-Err.ensures, c.number.ensures)
+    (first-stopped c.requires _ _ _ (StartElement _ _) refl c.in-Some.ensures.is
+    (some-level c.in-Some.ensures.low)
     (element-lies _ _ _ c.is_inside.ensures c.is_inside-2.ensures)
     c.if-not-is_inside.false-raw
-    (element-refused (content-pre c.requires) c.judge_name-q.ensures
-    (omega (arith, c.if-q-ne0.true))) (omega (arith, c.if-q-ne0.true)))
+    (element-refused (content-pre c.requires) c.in-Err.ensures
+    (number-some c.in-Err.k)) (number-some c.in-Err.k))
 
 pub add_element-requires : goal.add_element-requires
 unfolding settings_from kind_of meaning kind_number
@@ -45,8 +47,8 @@ add_element-requires c =
     record {
       step_pre = c.requires;
       accepted = first-accepted c.requires _ _ _ (StartElement _ _) refl
-          c.place_of-place.ensures c.if-place-eq-MAX_LEVELS.false
+          c.in-Some.ensures.is (some-level c.in-Some.ensures.low)
           (element-lies _ _ _ c.is_inside.ensures c.is_inside-2.ensures)
           c.if-not-is_inside.false-raw
-          (element-judged (content-pre c.requires) c.judge_name-q.ensures c.if-q-ne0.false);
+          (element-judged (content-pre c.requires) c.in-Ok.ensures refl);
     }

@@ -1,5 +1,4 @@
 use native.Mathlib.Omega.{arith}
-use borrow.Author.Rules.{rules}
 use Rattle.spec_exi.specs.Sizes.{max_store}
 use Rattle.write_partition.proofs.Tests.{too_much, no_char, no-fault}
 use Rattle.write_partition.proofs.literal_fault.Goals as goal

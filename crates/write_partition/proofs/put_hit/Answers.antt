@@ -1,4 +1,3 @@
-use borrow.Author.Rules.{rules}
 use Rattle.write_partition.proofs.Hits.{partition-asks, id-asks, hit-put}
 use Rattle.write_partition.proofs.put_hit.Goals as goal
 

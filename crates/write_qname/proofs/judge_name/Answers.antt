@@ -1,42 +1,28 @@
-use Rattle.write_qname.proofs.Returns.{uri-refused, local-asks, local-refused, name-judged}
-use native.Mathlib.Omega.{arith}
+use mathlib.Core.Path.{refl}
 use borrow.Author.Rules.{rules}
+use Rattle.std.proofs.lemmas.Result.{err_from_is_err_and}
+use Rattle.write_partition.proofs.Tests.{number-some}
+use Rattle.write_qname.proofs.Returns.{uri-refused, local-asks, local-refused, name-judged}
 use Rattle.write_qname.proofs.judge_name.Goals as goal
 
-pub returns-then-u-ne0 : goal.returns-then-u-ne0
-returns-then-u-ne0 c =
-    let pre = c.requires in
-    let look_up = c.look_up-y in
-    let judge-uri = c.judge_uri-u in
-    let if1 = c.if-u-ne0 in
-    rw c.stopped.ensures (uri-refused pre _ _ _ look_up.ensures.result_value judge-uri.ensures (omega
-    (arith, if1.true)))
+-- `judge_name` meets its contract: each return is one law.
+pub returns-in_err-u : goal.returns-in_err-u
+returns-in_err-u c =
+    let p = err_from_is_err_and c.from_residual.result c.from_residual.ensures.1 in
+    rw (p.1, p.2) (uri-refused c.requires _ _ _ c.look_up-y.ensures.result_value c.in_err-u.ensures
+    (number-some c.in_err-u.field-0.0))
 
-pub judge_local-l-requires : goal.judge_local-l-requires
-judge_local-l-requires c =
-    let pre = c.requires in
-    let judge-uri = c.judge_uri-u in
-    let if1 = c.if-u-ne0 in
-    local-asks pre judge-uri.ensures if1.false
+pub judge_local-requires : goal.judge_local-requires
+judge_local-requires c = local-asks c.requires c.in_ok-u.ensures refl
 
-pub returns-then-l-ne0 : goal.returns-then-l-ne0
-returns-then-l-ne0 c =
-    let pre = c.requires in
-    let look_up = c.look_up-y in
-    let judge-uri = c.judge_uri-u in
-    let if1 = c.if-u-ne0 in
-    let look-up2 = c.look_up-x in
-    let judge-local = c.judge_local-l in
-    let if2 = c.if-l-ne0 in
-    rw c.stopped-then-l-ne0.ensures (local-refused pre _ _ _ look_up.ensures.result_value judge-uri.ensures if1.false look-up2.ensures.result_value judge-local.ensures (omega (arith, if2.true)))
+pub returns-in_err-l : goal.returns-in_err-l
+returns-in_err-l c =
+    let p = err_from_is_err_and c.from_residual-in_err-l.result c.from_residual-in_err-l.ensures.1 in
+    rw (p.1, p.2) (local-refused c.requires _ _ _ c.look_up-y.ensures.result_value c.in_ok-u.ensures refl
+    c.look_up-x.ensures.result_value c.in_err-l.ensures
+    (number-some c.in_err-l.field-0.0))
 
 pub returns : goal.returns
 returns c =
-    let pre = c.requires in
-    let look_up = c.look_up-y in
-    let judge-uri = c.judge_uri-u in
-    let if1 = c.if-u-ne0 in
-    let look-up2 = c.look_up-x in
-    let judge-local = c.judge_local-l in
-    let if2 = c.if-l-ne0 in
-    rw c.named.ensures (name-judged pre _ _ _ look_up.ensures.result_value judge-uri.ensures if1.false look-up2.ensures.result_value judge-local.ensures if2.false)
+    rw c.named.ensures (name-judged c.requires _ _ _ c.look_up-y.ensures.result_value
+    c.in_ok-u.ensures refl c.look_up-x.ensures.result_value c.in_ok-l.ensures refl)

@@ -1,19 +1,15 @@
-use Rattle.write_step.proofs.Steps.{characters-tests}
 use mathlib.Core.Path.{refl}
+use native.Mathlib.Omega.{arith}
 use Rattle.spec_exi.specs.Grammar.{kind_number}
 use Rattle.settings.specs.Meant.{settings_from}
-use borrow.Author.Rules.{rules}
 use Rattle.write_step.proofs.characters.Goals as goal
 
-pub known_characters-requires : goal.known_characters-requires
+pub known_characters-requires-clause-learned_pre :
+    goal.known_characters-requires-clause-learned_pre
 unfolding kind_number
-known_characters-requires c =
-    let t = characters-tests _ _ c.if-row-c.false in
-    record {
-      step_pre = c.requires;
-      learned_pre = record { found = c.find_learned-row.ensures; some = t.0; inner = t.1 };
-    }
+known_characters-requires-clause-learned_pre c =
+    record { found = c.in-Some.ensures; some = omega arith; inner = c.if-c-ge-IN_TAG.true }
 
-pub returns : goal.returns
+pub returns-in-Some : goal.returns-in-Some
 unfolding settings_from
-returns c = c.known_characters.ensures.steps _ refl _
+returns-in-Some c = c.known_characters.ensures.steps _ refl _

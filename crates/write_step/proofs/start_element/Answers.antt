@@ -1,26 +1,27 @@
-use Rattle.write_step.proofs.Steps.{element-step}
-use mathlib.Core.Path.{refl, sym, ◌∙◌}
+use mathlib.Core.Path.{refl}
+use native.Mathlib.Omega.{arith}
 use Rattle.spec_exi.specs.Sizes.{max_open}
 use Rattle.spec_exi.specs.Grammar.{kind_number}
 use Rattle.settings.specs.Meant.{settings_from}
-use Rattle.write_step.proofs.Steps.{element-tests}
-use borrow.Author.Rules.{rules}
+use Rattle.write_step.proofs.Steps.{name-found, element-tests, element-step}
 use Rattle.write_step.proofs.start_element.Goals as goal
 
-pub known_element-requires : goal.known_element-requires
-unfolding kind_number max_open
-known_element-requires c =
-    let t = element-tests _ _ _ _ c.if-f-has.false in
+pub known_element-requires-clause-learned_pre : goal.known_element-requires-clause-learned_pre
+unfolding kind_number
+known_element-requires-clause-learned_pre c =
     record {
-      step_pre = c.requires;
-      learned_pre = record { found = c.learned_name-f.ensures.found t.0; some = t.0; inner = t.3 };
-      name_value = sym c.has_grammar-has.ensures ∙ t.1;
-      depth_lt_max_open = t.2;
+      found = (name-found c.in-Some.is c.learned_name-f.ensures).found (omega arith);
+      some = omega arith;
+      inner = (element-tests c.args.c.depth c.args.c.mode c.has_grammar-has.result c.if-has-c.true).2;
     }
 
-pub returns : goal.returns
+pub known_element-requires-clause-depth_lt_max_open :
+    goal.known_element-requires-clause-depth_lt_max_open
+unfolding max_open
+known_element-requires-clause-depth_lt_max_open c = (element-tests c.args.c.depth c.args.c.mode c.has_grammar-has.result c.if-has-c.true).1
+
+pub returns-in-Some : goal.returns-in-Some
 unfolding settings_from
-returns c =
-    element-step c.learned_name-f.ensures
-    c.has_grammar-has.ensures c.if-f-has.false c.known_element.ensures _
-    refl
+returns-in-Some c =
+    element-step (name-found c.in-Some.is c.learned_name-f.ensures) (omega arith)
+    c.known_element.ensures _ refl

@@ -11,61 +11,35 @@ overflow_sub-stored c = omega (arith, c.requires.store)
 
 pub returns-then-stored-x : goal.returns-then-stored-x
 unfolding max_store
-returns-then-stored-x c =
-    let pre = c.requires in
-    rw c.refused.ensures (new-much _ _ _ _ _ _ pre.store c.if-stored-x.true)
+returns-then-stored-x c = new-much _ _ _ _ _ _ c.requires.store c.if-stored-x.true
 
 pub returns-then-not-chars : goal.returns-then-not-chars
 unfolding max_store
 returns-then-not-chars c =
-    let if1 = c.if-stored-x in
     let pre = c.requires in
-    rw c.refused-then-not-chars.ensures
-    (new-no-char _ _ _ _ _ _ pre.store if1.false pre.weighed c.if-not-chars.true-raw)
+    new-no-char _ _ _ _ _ _ pre.store c.if-stored-x.false pre.weighed c.if-not-chars.true-raw
 
-pub literal-requires : goal.literal-requires
+pub overflow_add-stored : goal.overflow_add-stored
 unfolding max_store
-literal-requires c =
-    let pre = c.requires in
-    omega (arith, pre.store, c.if-stored-x.false)
+overflow_add-stored c = omega (arith, c.requires.store, c.if-stored-x.false)
 
 pub returns-then-not-joins : goal.returns-then-not-joins
 unfolding max_store
 returns-then-not-joins c =
-    let joins = c.joins in
-    let if2 = c.if-not-chars in
-    let if1 = c.if-stored-x in
     let pre = c.requires in
-    rw c.literal.ensures
-    (new-kept-out _ _ _ _ _ _ pre.store if1.false pre.weighed if2.false-raw joins.ensures
-    c.if-not-joins.true-raw)
+    new-kept-out _ _ _ _ _ _ pre.store c.if-stored-x.false pre.weighed c.if-not-chars.false-raw
+    c.joins.ensures c.if-not-joins.true-raw
 
 pub returns-then-capacity-values : goal.returns-then-capacity-values
 unfolding max_store max_values
 returns-then-capacity-values c =
-    let if3 = c.if-not-joins in
-    let joins = c.joins in
-    let if2 = c.if-not-chars in
-    let if1 = c.if-stored-x in
     let pre = c.requires in
-    rw c.refused-then-capacity-values.ensures
-    (new-full _ _ _ _ _ _ pre.store if1.false pre.weighed if2.false-raw joins.ensures
-    if3.false-raw c.if-capacity-values.true)
-
-pub literal-requires-2 : goal.literal-requires-2
-unfolding max_store
-literal-requires-2 c =
-    let pre = c.requires in
-    omega (arith, pre.store, c.if-stored-x.false)
+    new-full _ _ _ _ _ _ pre.store c.if-stored-x.false pre.weighed c.if-not-chars.false-raw
+    c.joins.ensures c.if-not-joins.false-raw c.if-capacity-values.true
 
 pub returns : goal.returns
 unfolding max_store max_values
 returns c =
-    let if3 = c.if-not-joins in
-    let joins = c.joins in
-    let if2 = c.if-not-chars in
-    let if1 = c.if-stored-x in
     let pre = c.requires in
-    rw c.literal-2.ensures
-    (new-laid _ _ _ _ _ _ pre.store if1.false pre.weighed if2.false-raw joins.ensures
-    if3.false-raw c.if-capacity-values.false)
+    new-laid _ _ _ _ _ _ pre.store c.if-stored-x.false pre.weighed c.if-not-chars.false-raw
+    c.joins.ensures c.if-not-joins.false-raw c.if-capacity-values.false

@@ -1,51 +1,41 @@
+use native.Mathlib.Omega.{arith}
+use mathlib.Core.Path.{refl}
 use borrow.Author.Rules.{rules}
-use Rattle.spec_exi.specs.Sizes.{max_string}
+use Rattle.std.proofs.lemmas.Result.{err_from_is_err_and}
+use Rattle.spec_exi.specs.Sizes.{max_string, max_store}
+use Rattle.name_rules.specs.Texts.{fault_in}
+use Rattle.write_partition.proofs.Tests.{number-ne}
 use Rattle.write_values.proofs.Texts.{text-long, text-passed, text-fault, text-refused, text-laid}
 use Rattle.write_values.proofs.judge_text.Goals as goal
 
 -- `judge_text` meets its contract: each return is one law.
 pub returns-then-x-gt-MAX_STRING : goal.returns-then-x-gt-MAX_STRING
 unfolding max_string
-returns-then-x-gt-MAX_STRING c =
-    let pre = c.requires in
-    rw c.refused.ensures (text-long _ _ pre.store c.if-x-gt-MAX_STRING.true)
+returns-then-x-gt-MAX_STRING c = text-long _ _ c.requires.store c.if-x-gt-MAX_STRING.true
 
-pub returns-then-fault-ne0 : goal.returns-then-fault-ne0
+pub returns-in_err-literal_fault : goal.returns-in_err-literal_fault
 unfolding max_string
-returns-then-fault-ne0 c =
-    let pre = c.requires in
-    let if1 = c.if-x-gt-MAX_STRING in
-    let literal-fault = c.literal_fault-fault in
-    rw c.refused-then-fault-ne0.ensures
-    (text-fault _ _ pre.store if1.false literal-fault.ensures c.if-fault-ne0.true)
+returns-in_err-literal_fault c =
+    let p = err_from_is_err_and c.from_residual.result c.from_residual.ensures.1 in
+    rw (p.1, p.2) (text-fault _ _ c.requires.store c.if-x-gt-MAX_STRING.false
+    c.in_err-literal_fault.ensures (number-ne c.in_err-literal_fault.field-0.0))
 
-pub returns-then-number-ne0 : goal.returns-then-number-ne0
-unfolding max_string
-returns-then-number-ne0 c =
-    let pre = c.requires in
-    let if1 = c.if-x-gt-MAX_STRING in
-    let literal-fault = c.literal_fault-fault in
-    let if2 = c.if-fault-ne0 in
-    let text-fault = c.text_fault-number in
-    rw c.refused-then-number-ne0.ensures
-    (text-refused _ _ pre.store if1.false literal-fault.ensures if2.false
-    text-fault.ensures c.if-number-ne0.true)
+pub returns-in_err-judge_text : goal.returns-in_err-judge_text
+unfolding max_string fault_in
+returns-in_err-judge_text c =
+    let p =
+    err_from_is_err_and c.from_residual-in_err-judge_text.result
+    c.from_residual-in_err-judge_text.ensures.1 in
+    rw (p.1, p.2) (text-refused _ _ c.requires.store c.if-x-gt-MAX_STRING.false
+    c.in_ok-literal_fault.ensures refl c.in_err-judge_text.ensures
+    (number-ne c.in_err-judge_text.field-0.0))
 
-pub literal-requires : goal.literal-requires
-unfolding max_string
-literal-requires c =
-    let literal-fault = c.literal_fault-fault in
-    let if2 = c.if-fault-ne0 in
-    (text-passed _ _ literal-fault.ensures if2.false).store
+pub overflow_add-result : goal.overflow_add-result
+unfolding max_store
+overflow_add-result c = omega (arith, (text-passed _ _ c.in_ok-literal_fault.ensures refl).store)
 
 pub returns : goal.returns
-unfolding max_string
+unfolding max_string fault_in
 returns c =
-    let pre = c.requires in
-    let if1 = c.if-x-gt-MAX_STRING in
-    let literal-fault = c.literal_fault-fault in
-    let if2 = c.if-fault-ne0 in
-    let text-fault = c.text_fault-number in
-    rw c.literal.ensures
-    (text-laid _ _ pre.store if1.false literal-fault.ensures if2.false
-    text-fault.ensures c.if-number-ne0.false)
+    text-laid _ _ c.requires.store c.if-x-gt-MAX_STRING.false c.in_ok-literal_fault.ensures refl
+    c.in_ok-judge_text.ensures refl

@@ -1,6 +1,0 @@
--- `reads_input_twice` is safe and ends.
-use Rattle.std.proofs.Common.{◌-◌, length}
-use Rattle.exi.proofs.run.reads_input_twice.Given as goal
-
-abbrev pub decreases-loop-i : goal.decreases-loop-i
-decreases-loop-i g l = length l.marks - l.i

@@ -1,6 +1,0 @@
--- `lay` is safe and ends.
-use Rattle.std.proofs.Common.{◌-◌}
-use Rattle.exi_name.proofs.lay.Given as goal
-
-abbrev pub decreases-loop-i : goal.decreases-loop-i
-decreases-loop-i l = l.n - l.i

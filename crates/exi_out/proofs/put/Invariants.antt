@@ -1,6 +1,0 @@
--- `put` is safe and ends.
-use Rattle.std.proofs.Common.{length, ◌-◌}
-use Rattle.exi_out.proofs.put.Given as goal
-
-abbrev pub decreases-loop-i : goal.decreases-loop-i
-decreases-loop-i l = length l.x - l.i

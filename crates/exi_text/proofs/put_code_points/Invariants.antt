@@ -1,6 +1,0 @@
--- `put_code_points` is safe and ends.
-use Rattle.std.proofs.Common.{length, ◌-◌}
-use Rattle.exi_text.proofs.put_code_points.Given as goal
-
-abbrev pub decreases-loop-i : goal.decreases-loop-i
-decreases-loop-i l = length l.x - l.i

@@ -1,5 +1,0 @@
-use borrow.Author.Rules.{rules}
-use Rattle.read_qname.proofs.stopped.Goals as goal
-
-pub returns : goal.returns
-returns c = rw c.no_strings-strings.ensures
