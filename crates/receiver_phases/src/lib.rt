@@ -76,10 +76,13 @@ pub fn close_whole(r: Receiver, m: &mut Memory<'_>) -> Handed
     Handed { receiver, reply }
 }
 
-// Keeps a piece after the first n octets.
+// Keeps a piece after the first n octets. (A loop, since `copy_from_slice` moves, and the archive
+// asks for `memcpy` and `memset` alone.)
 pub fn keep(held: &mut [u8], n: usize, piece: &[u8])
     requires { n + length piece.now ≤ length held.old }
     ensures { held.new ≡ kept held.old n piece.now }
 {
-    held[n..n + piece.len()].copy_from_slice(piece);
+    for i in 0..piece.len() {
+        held[n + i] = piece[i];
+    }
 }

@@ -65,9 +65,8 @@ pub fn read_on(
         work.old st first events.new text.new work.new
         result }
 {
-    let mut t = st;
-    match pass_header(o, stream, st.core.at) {
-        Ok(at) => t.core.at = at,
+    let at = match pass_header(o, stream, st.core.at) {
+        Ok(at) => at,
         Err(refusal) => {
             return Advanced {
                 number: refusal.number(),
@@ -75,7 +74,9 @@ pub fn read_on(
                 state: st,
             };
         }
-    }
+    };
+    let mut t = st;
+    t.core.at = at;
     let r = reader::the_read_run::advance(o, stream, t, first, events, text, work);
     if r.number != 0 {
         return r;

@@ -1,17 +1,14 @@
-use mathlib.Core.Path.{refl, ◌∙◌}
+use mathlib.Core.Path.{refl}
 use native.Mathlib.Omega.{arith}
-use lib.ListN.{length}
-use lib.Seq.{take_all}
-use borrow.Author.Rules.{rules}
-use Rattle.std.proofs.lemmas.Slice.{put_mid-paste}
-use Rattle.receiver_phases.specs.Phases.{kept}
+use Rattle.receiver_phases.proofs.Phases.{none_kept, one_kept, all-kept}
 use Rattle.receiver_phases.proofs.keep.Goals as goal
 
 -- `keep` meets its contract.
+pub loop-i-init : goal.loop-i-init
+loop-i-init c = none_kept _ _ _ c.requires
+
+pub loop-i-preserved : goal.loop-i-preserved
+loop-i-preserved c = one_kept c.loop-i.invariant (omega arith) refl
+
 pub returns : goal.returns
-unfolding kept
-returns c =
-    let piece = c.args.piece.now in
-    put_mid-paste c.args.n _ c.args.held.now _ piece (length piece) c.copy_from_slice.ensures.after
-    (omega arith) refl
-    ∙ rw (take_all (length piece) piece (omega arith))
+returns c = all-kept c.loop-i.invariant (omega arith)
