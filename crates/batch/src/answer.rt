@@ -1,9 +1,9 @@
 // The answers, and whether memory is as it has to be after the call.
 use crate::kind::Kind;
+use exi_out::Out;
 use reader::ReadReply;
 use settings::SettingNumbers;
 use sizes::{CELLS_PER_EVENT, EVENT_CELLS, MAX_STORE, MAX_STREAM, READER_WORK, WRITER_WORK};
-use std::alloc::{AllocError, Global};
 use std::fmt;
 use writer::WriteReply;
 
@@ -98,34 +98,14 @@ impl fmt::Display for Events<'_> {
 
 // What the reader answered, and the memory that it left.
 #[derive(Drop)]
-pub(crate) struct ReadAnswer {
+struct ReadAnswer<'a> {
     reply: ReadReply,
-    events: Vec<u32>,
-    text: Vec<u32>,
-    work: Vec<u32>,
+    events: &'a [u32],
+    text: &'a [u32],
+    work: &'a [u32],
 }
 
-impl ReadAnswer {
-    // Calls the reader.
-    pub(crate) fn new(
-        alloc: Global,
-        settings: SettingNumbers,
-        octets: &[u8],
-    ) -> Result<ReadAnswer, AllocError> {
-        let mut events = vec![in alloc; CELL; EVENT_CELLS + MORE]?;
-        let mut text = vec![in alloc; CELL; MAX_STORE + MORE]?;
-        let mut work = vec![in alloc; CELL; READER_WORK + MORE]?;
-        let reply = reader::read(settings, octets, &mut events, &mut text, &mut work);
-        Ok(ReadAnswer {
-            reply,
-            events,
-            text,
-            work,
-        })
-    }
-}
-
-impl fmt::Display for ReadAnswer {
+impl fmt::Display for ReadAnswer<'_> {
     fn fmt<W: fmt::Write>(&self, f: &mut fmt::Formatter<W>) -> fmt::Result {
         write!(f, "{} {}", self.reply.number, self.reply.index)?;
         if self.reply.number != 0 {
@@ -138,41 +118,36 @@ impl fmt::Display for ReadAnswer {
         write!(f, "{}{}", Events(cells), CodePoints(code_points))?;
         let is_clean = Events(cells).are_clean()
             && code_points.iter().all(|code_point| *code_point != 0)
-            && [after_events, after_text, self.work.as_slice()]
+            && [after_events, after_text, self.work]
                 .iter()
                 .all(|rest| are_zero(rest));
         f.write_str(if is_clean { "" } else { " DIRTY" })
     }
 }
 
+// Calls the reader, and puts its answer.
+pub(crate) fn read(out: &mut Out, settings: SettingNumbers, octets: &[u8]) {
+    let mut events = [CELL; EVENT_CELLS + MORE];
+    let mut text = [CELL; MAX_STORE + MORE];
+    let mut work = [CELL; READER_WORK + MORE];
+    let reply = reader::read(settings, octets, &mut events, &mut text, &mut work);
+    out.put(ReadAnswer {
+        reply,
+        events: &events,
+        text: &text,
+        work: &work,
+    });
+}
+
 // What the writer answered, and the memory that it left.
 #[derive(Drop)]
-pub(crate) struct WriteAnswer {
+struct WriteAnswer<'a> {
     reply: WriteReply,
-    stream: Vec<u8>,
-    work: Vec<u32>,
+    stream: &'a [u8],
+    work: &'a [u32],
 }
 
-impl WriteAnswer {
-    // Calls the writer.
-    pub(crate) fn new(
-        alloc: Global,
-        settings: SettingNumbers,
-        events: &[u32],
-        text: &[u32],
-    ) -> Result<WriteAnswer, AllocError> {
-        let mut stream = vec![in alloc; OCTET; MAX_STREAM + MORE]?;
-        let mut work = vec![in alloc; CELL; WRITER_WORK + MORE]?;
-        let reply = writer::write(settings, &mut stream, events, text, &mut work);
-        Ok(WriteAnswer {
-            reply,
-            stream,
-            work,
-        })
-    }
-}
-
-impl fmt::Display for WriteAnswer {
+impl fmt::Display for WriteAnswer<'_> {
     fn fmt<W: fmt::Write>(&self, f: &mut fmt::Formatter<W>) -> fmt::Result {
         write!(f, "{} {}", self.reply.number, self.reply.index)?;
         if self.reply.number != 0 {
@@ -186,9 +161,21 @@ impl fmt::Display for WriteAnswer {
         for octet in octets {
             write!(f, "{octet:02x}")?;
         }
-        let is_clean = after.iter().all(|octet| *octet == 0) && are_zero(&self.work);
+        let is_clean = after.iter().all(|octet| *octet == 0) && are_zero(self.work);
         f.write_str(if is_clean { "" } else { " DIRTY" })
     }
+}
+
+// Calls the writer, and puts its answer.
+pub(crate) fn write(out: &mut Out, settings: SettingNumbers, events: &[u32], text: &[u32]) {
+    let mut stream = [OCTET; MAX_STREAM + MORE];
+    let mut work = [CELL; WRITER_WORK + MORE];
+    let reply = writer::write(settings, &mut stream, events, text, &mut work);
+    out.put(WriteAnswer {
+        reply,
+        stream: &stream,
+        work: &work,
+    });
 }
 
 // A string that was looked up.

@@ -22,74 +22,81 @@
 
 mod answer;
 mod kind;
+mod lines;
 mod request;
 
-use answer::{LookedUp, ReadAnswer, WriteAnswer};
-use request::{ParseError, Request};
-use std::alloc::{AllocError, Global};
-use std::io::{self, BufRead, BufReader, Read, Write};
+use answer::LookedUp;
+use exi_out::Out;
+use request::{MAX_CODE_POINTS, MAX_EVENTS, MAX_OCTETS, Request};
+use settings::SettingNumbers;
+use sizes::CELLS_PER_EVENT;
+use std::io::Print;
 use std::str;
 
 // Octets of a line, its end too.
-const MAX_LINE: u64 = 65536;
+const MAX_LINE: usize = 65536;
 
-// The line that answers a request.
-fn respond(alloc: Global, request: &Request) -> Result<String, AllocError> {
-    match request {
-        Request::Read { settings, octets } => {
-            let read = ReadAnswer::new(alloc, *settings, octets.as_slice())?;
-            format!(in alloc; "{read}\n")
-        }
+fn answer_read(out: &mut Out, settings: SettingNumbers, octets: &str) -> request::Result<()> {
+    let mut room = [0; MAX_OCTETS];
+    answer::read(out, settings, request::octets(octets, &mut room)?);
+    Ok(())
+}
+
+fn answer_write(
+    out: &mut Out,
+    settings: SettingNumbers,
+    events: &str,
+    store: &str,
+) -> request::Result<()> {
+    let mut cells = [0; CELLS_PER_EVENT * MAX_EVENTS];
+    let mut code_points = [0; MAX_CODE_POINTS];
+    let events = request::cells(events, &mut cells)?;
+    let store = request::code_points(store, &mut code_points)?;
+    answer::write(out, settings, events, store);
+    Ok(())
+}
+
+fn answer_look_up(out: &mut Out, place: u32, length: u32, store: &str) -> request::Result<()> {
+    let mut code_points = [0; MAX_CODE_POINTS];
+    let store = request::code_points(store, &mut code_points)?;
+    out.put(LookedUp(text::look_up(store, place, length)));
+    Ok(())
+}
+
+// Puts the answer to a request.
+fn respond(out: &mut Out, line: &[u8]) -> request::Result<()> {
+    let words = str::from_utf8(line).map_err(|_| request::NotUnderstood)?;
+    match Request::parse(words)? {
+        Request::Read { settings, octets } => answer_read(out, settings, octets),
         Request::Write {
             settings,
             events,
             store,
-        } => {
-            let written = WriteAnswer::new(alloc, *settings, events.as_slice(), store.as_slice())?;
-            format!(in alloc; "{written}\n")
-        }
+        } => answer_write(out, settings, events, store),
         Request::LookUp {
             place,
             length,
             store,
-        } => {
-            let found = LookedUp(text::look_up(store.as_slice(), *place, *length));
-            format!(in alloc; "{found}\n")
-        }
-    }
-}
-
-fn answer_line(alloc: Global, line: &[u8]) -> Result<String, AllocError> {
-    let request = str::from_utf8(line)
-        .map_err(|_| ParseError::NotUnderstood)
-        .and_then(|words| Request::parse(alloc, words));
-    match request {
-        Ok(request) => respond(alloc, &request),
-        Err(ParseError::NotUnderstood) => String::from_str(alloc, "?\n"),
-        Err(ParseError::OutOfMemory) => Err(AllocError),
+        } => answer_look_up(out, place, length, store),
     }
 }
 
 // Ends at the first line that is not whole. What cannot be written is left out.
-fn main(rt: HostRuntime) -> io::Result<()> {
-    let alloc = rt.alloc();
-    let mut input = BufReader::new(alloc, rt.stdin())?;
-    let mut out = rt.stdout();
-    let mut line = Vec::new(alloc);
+fn main(rt: HostRuntime) {
+    let stdout = rt.stdout();
+    let input = rt.stdin();
+    let mut out = Out::new(stdout);
+    let mut room = [0; MAX_LINE];
     for _ in 0..u64::MAX {
-        line.clear();
-        let read = (&mut input).take(MAX_LINE).read_until(b'\n', &mut line);
-        let Some(words) = line.strip_suffix(b"\n") else {
+        let Some(line) = lines::next_line(input, &mut room) else {
             break;
         };
-        if read.is_err() {
-            break;
+        if line.starts_with(b"#") {
+            let _ = stdout.write_all(line);
+        } else if respond(&mut out, line).is_err() {
+            out.put("?");
         }
-        let _ = if words.starts_with(b"#") {
-            out.write_all(line.as_slice())
-        } else {
-            out.write_all(answer_line(alloc, words)?.as_bytes())
-        };
+        out.put("\n");
+        out.flush();
     }
-    Ok(())
 }

@@ -2,84 +2,71 @@
 ghost use Rattle.std.specs.Prelude.{◌≤◌};
 
 use crate::kind::Kind;
-use hex::FromHexError;
+use arrayvec::ArrayVec;
 use settings::SettingNumbers;
 use sizes::CELLS_PER_EVENT;
-use std::alloc::{AllocError, Global};
 
 // Room for the octets of a stream, the events of a list and the code points of a store.
-const MAX_OCTETS: usize = 20000;
+pub(crate) const MAX_OCTETS: usize = 20000;
 
-const MAX_EVENTS: usize = 5000;
+pub(crate) const MAX_EVENTS: usize = 5000;
 
-const MAX_CODE_POINTS: usize = 20000;
+pub(crate) const MAX_CODE_POINTS: usize = 20000;
+
+// Words of a request at most: a letter, four numbers, six that are named, and two more.
+const MAX_WORDS: usize = 13;
 
 // A number that no kind of event has.
 const NO_KIND: u32 = 9;
 
 const END_ELEMENT: u32 = 5;
 
-#[derive(Debug, Drop)]
-pub(crate) enum ParseError {
-    NotUnderstood,
-    OutOfMemory,
-}
+#[derive(Clone, Copy, Debug)]
+pub(crate) struct NotUnderstood;
 
-impl From<AllocError> for ParseError {
-    fn from(_e: AllocError) -> ParseError {
-        ParseError::OutOfMemory
-    }
-}
+pub(crate) type Result<T> = std::result::Result<T, NotUnderstood>;
 
-impl From<FromHexError> for ParseError {
-    fn from(e: FromHexError) -> ParseError {
-        match e {
-            FromHexError::OutOfMemory => ParseError::OutOfMemory,
-            _ => ParseError::NotUnderstood,
-        }
-    }
-}
-
-type Result<T> = std::result::Result<T, ParseError>;
-
-#[derive(Drop)]
-pub(crate) enum Request {
+// A request: its numbers, and its operands as they are written.
+#[derive(Clone, Copy)]
+pub(crate) enum Request<'a> {
     Read {
         settings: SettingNumbers,
-        octets: Vec<u8>,
+        octets: &'a str,
     },
-    // the events as cells
     Write {
         settings: SettingNumbers,
-        events: Vec<u32>,
-        store: Vec<u32>,
+        events: &'a str,
+        store: &'a str,
     },
     LookUp {
         place: u32,
         length: u32,
-        store: Vec<u32>,
+        store: &'a str,
     },
 }
 
-impl Request {
-    pub(crate) fn parse(alloc: Global, line: &str) -> Result<Request> {
-        let words: Vec<&str> = line.split(' ').collect(alloc)?;
+impl<'a> Request<'a> {
+    pub(crate) fn parse(line: &'a str) -> Result<Request<'a>> {
+        let mut words = ArrayVec::<&'a str, MAX_WORDS>::new();
+        for word in line.split(' ') {
+            words.try_push(word).map_err(|_| NotUnderstood)?;
+        }
         match words.as_slice() {
-            ["r", a, k, c, p, named @ .., hex] => Ok(Request::Read {
+            ["r", a, k, c, p, named @ .., octets] => Ok(Request::Read {
                 settings: settings([*a, *k, *c, *p], named)?,
-                octets: octets(alloc, hex)?,
+                octets: *octets,
             }),
             ["w", a, k, c, p, named @ .., events, store] => Ok(Request::Write {
                 settings: settings([*a, *k, *c, *p], named)?,
-                events: cells(alloc, events)?,
-                store: code_points(alloc, store)?,
+                events: *events,
+                store: *store,
             }),
             ["l", place, length, store] => Ok(Request::LookUp {
                 place: number(place, 10)?,
                 length: number(length, 10)?,
-                store: code_points(alloc, store)?,
+                store: *store,
             }),
-            _ => Err(ParseError::NotUnderstood),
+            _ => Err(NotUnderstood),
         }
     }
 }
@@ -90,11 +77,11 @@ fn number(digits: &str, radix: u32) -> Result<u32>
     requires at_most { radix ≤ 36 }
 {
     if digits.is_empty() {
-        return Err(ParseError::NotUnderstood);
+        return Err(NotUnderstood);
     }
     let mut n: u32 = 0;
     for c in digits.chars() {
-        let digit = c.to_digit(radix).ok_or(ParseError::NotUnderstood)?;
+        let digit = c.to_digit(radix).ok_or(NotUnderstood)?;
         n = n.saturating_mul(radix).saturating_add(digit);
     }
     Ok(n)
@@ -117,9 +104,9 @@ fn settings(numbers: [&str; 4], named: &[&str]) -> Result<SettingNumbers> {
     };
     let mut names = ["fragment", "vmax", "vcap", "loose", "prefixes", "cap"].iter();
     for word in named {
-        let (name, digits) = word.split_once('=').ok_or(ParseError::NotUnderstood)?;
+        let (name, digits) = word.split_once('=').ok_or(NotUnderstood)?;
         if !names.any(|n| *n == name) {
-            return Err(ParseError::NotUnderstood);
+            return Err(NotUnderstood);
         }
         let n = number(digits, 10)?;
         match name {
@@ -134,41 +121,50 @@ fn settings(numbers: [&str; 4], named: &[&str]) -> Result<SettingNumbers> {
     Ok(s)
 }
 
-fn octets(alloc: Global, word: &str) -> Result<Vec<u8>> {
+// The octets that pairs of digits mean; none where a dash stands for them.
+pub(crate) fn octets<'a>(word: &str, room: &'a mut [u8]) -> Result<&'a [u8]> {
     if word == "-" {
-        return Ok(Vec::new(alloc));
+        return Ok(&[]);
     }
-    if word.is_empty() || 2 * MAX_OCTETS < word.len() {
-        return Err(ParseError::NotUnderstood);
+    let room = room.get_mut(..word.len() / 2).ok_or(NotUnderstood)?;
+    if room.is_empty() {
+        return Err(NotUnderstood);
     }
-    Ok(hex::decode(alloc, word)?)
+    hex::decode_to_slice(word, room).map_err(|_| NotUnderstood)?;
+    Ok(room)
 }
 
-// Items with commas between, not too many; none where a dash stands for them.
-fn items<'a>(alloc: Global, word: &'a str, max: usize) -> Result<Vec<&'a str>> {
+// Items with commas between, as many as there is room for; none where a dash stands for them.
+pub(crate) fn code_points<'a>(word: &str, room: &'a mut [u32]) -> Result<&'a [u32]> {
     if word == "-" {
-        return Ok(Vec::new(alloc));
+        return Ok(&[]);
     }
-    let items: Vec<&str> = word.split(',').collect(alloc)?;
-    if max < items.len() {
-        return Err(ParseError::NotUnderstood);
+    let room = room
+        .get_mut(..word.split(',').count())
+        .ok_or(NotUnderstood)?;
+    for (code_point, item) in room.iter_mut().zip(word.split(',')) {
+        *code_point = number(item, 16)?;
     }
-    Ok(items)
-}
-
-fn code_points(alloc: Global, word: &str) -> Result<Vec<u32>> {
-    let items = items(alloc, word, MAX_CODE_POINTS)?;
-    items.iter().map(|item| number(item, 16)).try_collect(alloc)
+    Ok(room)
 }
 
 // Events, as the cells that they are stored in.
-fn cells(alloc: Global, word: &str) -> Result<Vec<u32>> {
-    let items = items(alloc, word, MAX_EVENTS)?;
-    let mut cells = Vec::with_capacity(alloc, CELLS_PER_EVENT * items.len())?;
-    for item in items.iter() {
-        cells.extend_from_slice(&event(item)?)?;
+pub(crate) fn cells<'a>(word: &str, room: &'a mut [u32]) -> Result<&'a [u32]> {
+    if word == "-" {
+        return Ok(&[]);
     }
-    Ok(cells)
+    let count = word.split(',').count();
+    if MAX_EVENTS < count {
+        return Err(NotUnderstood);
+    }
+    let room = room
+        .get_mut(..CELLS_PER_EVENT * count)
+        .ok_or(NotUnderstood)?;
+    let (rows, _) = room.as_chunks_mut::<CELLS_PER_EVENT>();
+    for (row, item) in rows.iter_mut().zip(word.split(',')) {
+        *row = event(item)?;
+    }
+    Ok(room)
 }
 
 // An event: its word, and two numbers for each string.
@@ -182,19 +178,19 @@ fn event(item: &str) -> Result<[u32; CELLS_PER_EVENT]> {
         cells[0] = END_ELEMENT;
         cells[CELLS_PER_EVENT - 1] = 1;
     } else {
-        let kind = Kind::with_word(word).ok_or(ParseError::NotUnderstood)?;
+        let kind = Kind::with_word(word).ok_or(NotUnderstood)?;
         cells[0] = kind.number;
         let (strings, _) = cells[1..].as_chunks_mut::<2>();
         for (string, is_there) in strings.iter_mut().zip(kind.strings) {
             if is_there {
-                let place = parts.next().ok_or(ParseError::NotUnderstood)?;
-                let length = parts.next().ok_or(ParseError::NotUnderstood)?;
+                let place = parts.next().ok_or(NotUnderstood)?;
+                let length = parts.next().ok_or(NotUnderstood)?;
                 *string = [number(place, 10)?, number(length, 10)?];
             }
         }
     }
     match parts.next() {
         None => Ok(cells),
-        Some(_) => Err(ParseError::NotUnderstood),
+        Some(_) => Err(NotUnderstood),
     }
 }

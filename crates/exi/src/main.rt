@@ -13,13 +13,14 @@ mod stream;
 mod tries;
 mod write;
 
-use exi_asked::Fault;
+use exi_asked::{Fault, FileWords};
 use exi_words::Word;
 use std::io::{Stderr, Stdout};
 
 // The command on the words after it, unless they ask for help.
 fn answer(rt: &HostRuntime, out: Stdout, err: Stderr, command: Option<Word>, count: usize) {
-    let asked = exi_asked::read_words(rt, rt.alloc(), count);
+    let mut files = FileWords::new();
+    let asked = exi_asked::read_words(rt, count, &mut files);
     let asks_help = match &asked {
         Ok(asked) => asked.help,
         Err(_) => false,
@@ -29,7 +30,7 @@ fn answer(rt: &HostRuntime, out: Stdout, err: Stderr, command: Option<Word>, cou
         Some(Word::Help | Word::H | Word::HelpWord) => exi_usage::usage(out, err),
         Some(word @ (Word::Show | Word::Check | Word::Readings | Word::WriteReadings)) =>
             match asked {
-                Ok(asked) => run::ask(rt, out, err, word, &asked),
+                Ok(asked) => run::ask(rt, out, err, word, &asked, files.as_slice()),
                 Err(wrong) => exi_usage::wrong(err, rt, wrong),
             },
         _ => exi_usage::wrong_word(err, rt, 1, Fault::Unknown),

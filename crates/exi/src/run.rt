@@ -72,10 +72,10 @@ fn is_input<E: Env>(env: &E, at: usize) -> bool {
 }
 
 // Whether more than one of the files is standard input.
-fn reads_input_twice<E: Env>(env: &E, files: &[usize]) -> bool {
+fn reads_input_twice<E: Env>(env: &E, files: &[u16]) -> bool {
     let mut seen = false;
     for at in files {
-        if is_input(env, *at) {
+        if is_input(env, usize::from(*at)) {
             if seen {
                 return true;
             }
@@ -85,12 +85,18 @@ fn reads_input_twice<E: Env>(env: &E, files: &[usize]) -> bool {
     false
 }
 
-fn write_readings<R: Env + Files + Input>(rt: &R, out: Stdout, err: Stderr, a: &Asked) {
-    let [first, second] = *a.files.as_slice() else {
+fn write_readings<R: Env + Files + Input>(
+    rt: &R,
+    out: Stdout,
+    err: Stderr,
+    a: &Asked,
+    files: &[u16],
+) {
+    let [first, second] = *files else {
         return;
     };
     let mut csv = io::buffer();
-    let n = match rt.arg(first, &mut csv) {
+    let n = match rt.arg(usize::from(first), &mut csv) {
         Ok(n) => n,
         Err(e) => {
             exi_usage::unread(err, b"the name of CSV", reason(e));
@@ -98,7 +104,7 @@ fn write_readings<R: Env + Files + Input>(rt: &R, out: Stdout, err: Stderr, a: &
         }
     };
     let mut name = io::buffer();
-    let m = match rt.arg(second, &mut name) {
+    let m = match rt.arg(usize::from(second), &mut name) {
         Ok(m) => m,
         Err(e) => {
             exi_usage::unread(err, b"the name of OUT", reason(e));
@@ -115,16 +121,22 @@ fn write_readings<R: Env + Files + Input>(rt: &R, out: Stdout, err: Stderr, a: &
 }
 
 // The command, where its words fit.
-pub(crate) fn ask<R: Env + Files + Input>(rt: &R, out: Stdout, err: Stderr, word: Word, a: &Asked) {
-    if let Err(what) = exi_fit::check(word, a) {
+pub(crate) fn ask<R: Env + Files + Input>(
+    rt: &R,
+    out: Stdout,
+    err: Stderr,
+    word: Word,
+    a: &Asked,
+    files: &[u16],
+) {
+    if let Err(what) = exi_fit::check(word, a, files.len()) {
         exi_usage::complain(err, what);
         return;
     }
     if word == Word::WriteReadings {
-        write_readings(rt, out, err, a);
+        write_readings(rt, out, err, a, files);
         return;
     }
-    let files = a.files.as_slice();
     if reads_input_twice(rt, files) {
         exi_usage::complain(err, "FILE is - for standard input once alone");
         return;
@@ -148,6 +160,6 @@ pub(crate) fn ask<R: Env + Files + Input>(rt: &R, out: Stdout, err: Stderr, word
         several: files.len() != 1,
     };
     for at in files {
-        command.answer_word(rt, *at);
+        command.answer_word(rt, usize::from(*at));
     }
 }

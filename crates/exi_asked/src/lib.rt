@@ -4,13 +4,19 @@
 ghost use Rattle.std.specs.Prelude.{◌≡◌};
 ghost use Rattle.exi_asked.specs.Asked.{bound_of, numbers_of};
 
+use arrayvec::ArrayVec;
 use exi_words::Word;
 use settings::SettingNumbers;
-use std::alloc::{AllocFailed, Global};
 use std::env::Env;
 
-// The flags that are given, with their numbers, and the places of the words that name files.
-#[derive(Drop)]
+// A file is the word with a number below this one.
+const MOST_WORDS: usize = 65536;
+
+// The numbers of the words that name files, in memory that is fixed, so that it cannot run out.
+pub type FileWords = ArrayVec<u16, MOST_WORDS>;
+
+// The flags that are given, with their numbers.
+#[derive(Clone, Copy)]
 pub struct Asked {
     pub bit_packed: bool,
     pub byte_aligned: bool,
@@ -24,7 +30,6 @@ pub struct Asked {
     pub ms: bool,
     pub utf8: bool,
     pub help: bool,
-    pub files: Vec<usize>,
 }
 
 // What is wrong of a word.
@@ -42,17 +47,7 @@ pub enum Wrong {
     Word(usize, Fault),
     // A number has to follow the last flag.
     Unfinished,
-    OutOfMemory,
 }
-
-impl From<AllocFailed<usize>> for Wrong {
-    fn from(_error: AllocFailed<usize>) -> Wrong {
-        Wrong::OutOfMemory
-    }
-}
-
-// A file is the word with a number below this one.
-const MOST_WORDS: usize = 65536;
 
 // A flag that a number has to follow.
 #[derive(Clone, Copy)]
@@ -64,13 +59,14 @@ enum Numbered {
 
 // What is asked for so far, and what the next word has to be.
 #[derive(Drop)]
-struct Reading {
+struct Reading<'a> {
     asked: Asked,
+    files: &'a mut FileWords,
     waiting: Option<Numbered>,
     only_files: bool,
 }
 
-impl Reading {
+impl Reading<'_> {
     fn put_number(&mut self, flag: Numbered, n: u32) {
         self.waiting = None;
         match flag {
@@ -104,11 +100,9 @@ impl Reading {
     }
 
     fn put_file(&mut self, at: usize) -> Result<(), Wrong> {
-        if MOST_WORDS <= at {
-            return Err(Wrong::Word(at, Fault::TooMany));
-        }
-        self.asked.files.push(at)?;
-        Ok(())
+        let too_many = Wrong::Word(at, Fault::TooMany);
+        let file = u16::try_from(at).map_err(|_| too_many)?;
+        self.files.try_push(file).map_err(|_| too_many)
     }
 
     fn put_word(&mut self, word: &[u8], at: usize) -> Result<(), Wrong> {
@@ -132,7 +126,7 @@ impl Reading {
     }
 }
 
-fn nothing(alloc: Global) -> Asked {
+fn nothing() -> Asked {
     Asked {
         bit_packed: false,
         byte_aligned: false,
@@ -146,14 +140,15 @@ fn nothing(alloc: Global) -> Asked {
         ms: false,
         utf8: false,
         help: false,
-        files: Vec::new(alloc),
     }
 }
 
-// What the words from the second on ask for, up to the first that is wrong or asks for help.
-pub fn read_words<E: Env>(env: &E, alloc: Global, count: usize) -> Result<Asked, Wrong> {
+// What the words from the second on ask for, up to the first that is wrong or asks for help. The
+// files that they name are added.
+pub fn read_words<E: Env>(env: &E, count: usize, files: &mut FileWords) -> Result<Asked, Wrong> {
     let mut reading = Reading {
-        asked: nothing(alloc),
+        asked: nothing(),
+        files,
         waiting: None,
         only_files: false,
     };
@@ -238,10 +233,11 @@ mod tests {
             "--",
             "--utf8",
         ]);
-        let Ok(asked) = read_words(&line, rt.alloc(), 8) else {
+        let mut files = FileWords::new();
+        let Ok(asked) = read_words(&line, 8, &mut files) else {
             return Err(Fail::from("not understood"));
         };
-        assert_eq!(rt; asked.files.as_slice(), [2, 7].as_slice());
+        assert_eq!(rt; files.as_slice(), [2, 7].as_slice());
         let settings = settings_of(&asked);
         assert_eq!(rt; (settings.cookie, settings.value_capacity), (1, 8));
         assert_eq!(rt; (settings.alignment, settings.value_length), (0, 0));
@@ -262,7 +258,8 @@ mod tests {
             (Line(&["exi", "check", "a", "--packets"]), Wrong::Unfinished),
         ] {
             let count = exi_words::count(&line);
-            assert_eq!(rt; read_words(&line, rt.alloc(), count).err(), Some(wrong));
+            let mut files = FileWords::new();
+            assert_eq!(rt; read_words(&line, count, &mut files).err(), Some(wrong));
         }
     }
 }

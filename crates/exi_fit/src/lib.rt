@@ -35,7 +35,7 @@ fn miscount(command: Word, files: usize) -> Result<(), &'static str> {
 }
 
 // An error says what is wrong of the words after a command.
-pub fn check(command: Word, a: &Asked) -> Result<(), &'static str> {
+pub fn check(command: Word, a: &Asked, files: usize) -> Result<(), &'static str> {
     misfit(command, a)?;
-    miscount(command, a.files.len())
+    miscount(command, files)
 }

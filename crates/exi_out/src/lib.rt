@@ -9,7 +9,7 @@ use std::io::{Error, Print, Stdout};
 const ROOM: usize = 65536;
 
 // Where it goes, the octets that wait, and why a write failed, the last one that did.
-#[derive(Drop)]
+#[derive(Clone, Copy)]
 pub struct Out {
     pub to: Stdout,
     pub buffer: [u8; ROOM],
@@ -74,7 +74,13 @@ impl Out {
 
 impl fmt::Write for Out {
     fn write_str(&mut self, s: &str) -> fmt::Result {
-        for x in s.as_bytes() {
+        let octets = s.as_bytes();
+        if octets.len() <= ROOM - self.at {
+            self.buffer[self.at..self.at + octets.len()].copy_from_slice(octets);
+            self.at += octets.len();
+            return Ok(());
+        }
+        for x in octets {
             self.put_octet(*x);
         }
         Ok(())

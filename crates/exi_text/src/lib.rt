@@ -5,7 +5,7 @@ ghost use Rattle.std.specs.Prelude.{◌≡◌};
 ghost use Rattle.exi_text.specs.Shown.{shown_as};
 
 use event::Part;
-use std::fmt;
+use std::{fmt, str};
 
 // How a code point is shown: as it is, as a letter behind a backslash, or as its number.
 #[derive(Clone, Copy)]
@@ -29,6 +29,24 @@ fn shown_as(p: u32) -> Shown
     }
 }
 
+// Octets that wait to be written in one piece, and the code points that fill them at most: a piece
+// for each would take twice the time.
+const ROOM: usize = 256;
+
+const AT_ONCE: usize = 20;
+
+// Puts octets at a place, as far as there is room, and answers the place after them.
+fn put(octets: &mut [u8; ROOM], at: usize, x: &[u8]) -> usize {
+    let mut next = at;
+    for octet in x {
+        if let Some(place) = octets.get_mut(next) {
+            *place = *octet;
+            next += 1;
+        }
+    }
+    next
+}
+
 // A code point; in UTF-8 where that is asked for, but for control characters.
 #[derive(Clone, Copy)]
 struct CodePoint {
@@ -44,17 +62,24 @@ impl CodePoint {
             None
         }
     }
-}
 
-impl fmt::Display for CodePoint {
-    fn fmt<W: fmt::Write>(&self, f: &mut fmt::Formatter<W>) -> fmt::Result {
+    fn put_number(&self, octets: &mut [u8; ROOM], at: usize) -> usize {
+        if let Some(c) = self.in_utf8() {
+            return put(octets, at, c.encode_utf8(&mut [0; 4]).as_bytes());
+        }
+        let mut digits = [0; 16];
+        let n = io::hex(u64::from(self.p), 1, &mut digits);
+        let next = put(octets, at, b"\\u{");
+        let next = put(octets, next, &digits[..n]);
+        put(octets, next, b"}")
+    }
+
+    // Puts it at a place, and answers the place after it.
+    fn put(&self, octets: &mut [u8; ROOM], at: usize) -> usize {
         match shown_as(self.p) {
-            Shown::Plain(x) => f.write_char(char::from(x)),
-            Shown::Letter(x) => write!(f, "\\{}", char::from(x)),
-            Shown::Number => match self.in_utf8() {
-                Some(c) => f.write_char(c),
-                None => write!(f, "\\u{{{:x}}}", self.p),
-            },
+            Shown::Plain(x) => put(octets, at, &[x]),
+            Shown::Letter(x) => put(octets, at, &[b'\\', x]),
+            Shown::Number => self.put_number(octets, at),
         }
     }
 }
@@ -68,13 +93,19 @@ pub struct Quoted<'a> {
 
 impl fmt::Display for Quoted<'_> {
     fn fmt<W: fmt::Write>(&self, f: &mut fmt::Formatter<W>) -> fmt::Result {
+        let mut octets = [0; ROOM];
         f.write_char('"')?;
-        for p in self.text {
-            let p = CodePoint {
-                p: *p,
-                utf8: self.utf8,
-            };
-            write!(f, "{p}")?;
+        for part in self.text.chunks(AT_ONCE) {
+            let mut n = 0;
+            for p in part {
+                let p = CodePoint {
+                    p: *p,
+                    utf8: self.utf8,
+                };
+                n = p.put(&mut octets, n);
+            }
+            let shown = octets.get(..n).unwrap_or(&[]);
+            f.write_str(str::from_utf8(shown).unwrap_or(""))?;
         }
         f.write_char('"')
     }

@@ -71,7 +71,6 @@ pub fn wrong<E: Env>(err: Stderr, env: &E, wrong: Wrong) {
     match wrong {
         Wrong::Word(at, fault) => wrong_word(err, env, at, fault),
         Wrong::Unfinished => complain(err, "no number follows the last flag"),
-        Wrong::OutOfMemory => tell(err, "exi: there is no memory for the words\n"),
     }
 }
 

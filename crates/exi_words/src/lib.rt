@@ -2,7 +2,7 @@
 // contracts cite are in specs/Words.antt.
 #![tactic(auto)]
 
-ghost use Rattle.std.specs.Prelude.{◌≡◌};
+ghost use Rattle.std.specs.Prelude.{◌≡◌, ◌≤◌, length};
 ghost use Rattle.exi_words.specs.Words.{name_of, named, is_option, is_digit, number_in};
 
 use std::env::{Env, FillError};
@@ -112,7 +112,9 @@ pub fn count<E: Env>(env: &E) -> usize {
 }
 
 // A word of the command line, as much of it as there is room for; none of it where it is not there.
-pub fn word_at<'a, E: Env>(env: &E, i: usize, room: &'a mut [u8]) -> &'a [u8] {
+pub fn word_at<'a, E: Env>(env: &E, i: usize, room: &'a mut [u8]) -> &'a [u8]
+    ensures { length result.now ≤ length room.old }
+{
     match env.arg(i, room) {
         Ok(n) => &room[..n],
         Err(FillError::TooLong) => room,
